@@ -1,0 +1,15 @@
+pub mod Classed
+pub mod Strings
+pub mod Counted
+pub mod Tree
+pub mod Rule
+pub mod Reached
+pub mod Productions
+pub mod Order
+pub mod Gathered
+pub mod ListedT
+pub mod ListedS
+pub mod Listed
+pub mod Numbers
+pub mod Table
+pub mod Room
