@@ -1,0 +1,5 @@
+pub mod Agree
+pub mod Reading
+pub mod Forms
+pub mod Characters
+pub mod Sections

@@ -1,0 +1,4 @@
+pub mod Program
+pub mod Limits
+pub mod Section
+pub mod Parsed

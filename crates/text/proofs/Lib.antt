@@ -1,0 +1,4 @@
+pub mod Shapes
+pub mod Decoding
+pub mod Unique
+pub mod NameLaws

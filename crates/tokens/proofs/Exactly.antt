@@ -1,0 +1,43 @@
+-- Document 01's numbers are given exactly when it says so: the answer has the number, and any other answer to the same front has another.
+-- Assumes nothing.
+use mathlib.Core.Path.{_≡_, refl, sym, ap, _∙_, subst}
+use mathlib.Core.Bool.{Bool, true, false}
+use mathlib.Core.List.{List}
+use mathlib.Core.Option.{Option, none, some}
+use Prim.Native.Nat.{ℕ}
+use native.Mathlib.Omega.{arith}
+use Rattle.tokens.specs.declared.Answer.{Answer}
+use Rattle.tokens.specs.declared.Answer.the-variants.{Token, Begun, Bad, Long}
+use Rattle.tokens.specs.Tokens.{Means}
+use Rattle.tokens.specs.Numbers.{numberOf}
+use Rattle.tokens.proofs.Theory.{one-answer}
+
+-- the number, 0 for a token
+plainly : Option ℕ → ℕ
+plainly none = 0
+plainly (some n) = n
+
+bad-only : (more : Bool) (a : Answer) → numberOf more a ≡ some 20 → a ≡ Bad
+unfolding plainly
+bad-only more (Token e n) p = absurd (omega (arith, ap plainly p))
+bad-only true Begun p = absurd (omega (arith, ap plainly p))
+bad-only false Begun p = absurd (omega (arith, ap plainly p))
+bad-only more Bad p = refl
+bad-only more Long p = absurd (omega (arith, ap plainly p))
+
+long-only : (more : Bool) (a : Answer) → numberOf more a ≡ some 21 → a ≡ Long
+unfolding plainly
+long-only more (Token e n) p = absurd (omega (arith, ap plainly p))
+long-only true Begun p = absurd (omega (arith, ap plainly p))
+long-only false Begun p = absurd (omega (arith, ap plainly p))
+long-only more Bad p = absurd (omega (arith, ap plainly p))
+long-only more Long p = refl
+
+module _ (more : Bool) (f : List ℕ) (at : ℕ) (a : Answer) (m : Means f at a) where
+  -- 20 exactly when the front starts with no token and begins none of any length
+  pub twenty : (numberOf more a ≡ some 20 → Means f at Bad) × (Means f at Bad → numberOf more a ≡ some 20)
+  twenty = ((λ p. subst (λ (r : Answer). Means f at r) (bad-only more a p) m), (λ b. ap (numberOf more) (one-answer f at a Bad m b)))
+
+  -- 21 exactly when it begins only tokens over 32 bytes
+  pub twenty-one : (numberOf more a ≡ some 21 → Means f at Long) × (Means f at Long → numberOf more a ≡ some 21)
+  twenty-one = ((λ p. subst (λ (r : Answer). Means f at r) (long-only more a p) m), (λ b. ap (numberOf more) (one-answer f at a Long m b)))

@@ -1,0 +1,5 @@
+pub mod Unique
+pub mod Grammars
+pub mod Parses
+pub mod Tallies
+pub mod Answers

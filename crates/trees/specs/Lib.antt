@@ -1,0 +1,6 @@
+pub mod Trees
+pub mod GrammarAt
+pub mod Symbol
+pub mod Parsed
+pub mod Tally
+pub mod Answers

@@ -1,0 +1,25 @@
+-- The expressions that the nodes of a sheet are. Number 5 of document 01. Assumes nothing.
+use mathlib.Core.Path.{_≡_}
+use mathlib.Core.List.{List}
+use Prim.Native.Nat.{ℕ, suc, _+_, _≤_, _<_}
+use Rattle.expressions.specs.Expr.{nonterminal, anychar, Exp, atom, cat, alt, star, empty, nodes, depth, Content, nothing, tree}
+use Rattle.layout.specs.Layout.{productionCount}
+use Rattle.layout.specs.Records.{kindOf, argumentOf, firstNodeOf, nodeCountOf}
+
+-- the nodes from i on are the tree e, in preorder. Kinds are 1 to 5: no node is the empty word
+abbrev pub TreeAt : List ℕ → ℕ → Exp → Type 0
+TreeAt s i (atom (nonterminal n)) = (kindOf s i ≡ 1) × (argumentOf s i ≡ n) × (n ≤ 63)
+TreeAt s i (atom anychar) = (kindOf s i ≡ 2) × (argumentOf s i ≡ 0)
+TreeAt s i (cat l r) = (kindOf s i ≡ 3) × (argumentOf s i ≡ 0) × TreeAt s (suc i) l × TreeAt s (suc i + nodes l) r
+TreeAt s i (alt l r) = (kindOf s i ≡ 4) × (argumentOf s i ≡ 0) × TreeAt s (suc i) l × TreeAt s (suc i + nodes l) r
+TreeAt s i (star e) = (kindOf s i ≡ 5) × (argumentOf s i ≡ 0) × TreeAt s (suc i) e
+TreeAt s i empty = ⊥
+
+-- production q's expression: none where it has no nodes, else its nodes are one whole tree, at most 12 deep
+abbrev pub ContentAt : List ℕ → ℕ → Content → Type 0
+ContentAt s q nothing = nodeCountOf s q ≡ 0
+ContentAt s q (tree e) = TreeAt s (firstNodeOf s q) e × (nodes e ≡ nodeCountOf s q) × (depth e ≤ 12)
+
+-- number 5: each production has its expression
+pub record Trees (s : List ℕ) : Type 0 where
+  pub each : (q : ℕ) → q < productionCount s → (e : Content) × ContentAt s q e
