@@ -1,0 +1,5 @@
+pub mod TagLaws
+pub mod ProductionLaws
+pub mod FieldLaws
+pub mod DefectLaws
+pub mod SheetLaws
