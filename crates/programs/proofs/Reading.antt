@@ -17,25 +17,6 @@ use Rattle.programs.specs.declared.Parsed.{Parsed}
 use Rattle.programs.specs.declared.Parsed.the-variants.{Whole, Bad}
 use Rattle.programs.proofs.Agree.{Agree}
 
--- what a test tells
-pub told : {P : Type 0} {r : Bool} → Tells P r → r ≡ true → P
-told (holds p) e = p
-told (fails n) e = absurd (let z : _≡_ {A = Bool} false true = e in let y : _≡_ {A = ℕ} 0 1 = cc in omega arith)
-
-pub untold : {P : Type 0} {r : Bool} → Tells P r → r ≡ false → P → ⊥
-untold (holds p) e = let y : _≡_ {A = ℕ} 0 1 = cc in absurd (omega arith)
-untold (fails n) e = n
-
-pub beside : {A P : Type 0} {r : Bool} → A → Tells P r → Tells (A × P) r
-beside a (holds p) = holds (a, p)
-beside a (fails n) = fails (λ w. n (w .1))
-
-pub one-telling : {P : Type 0} (a b : Bool) → Tells P a → Tells P b → a ≡ b
-one-telling true true p q = refl
-one-telling false false p q = refl
-one-telling true false (holds p) (fails n) = absurd (n p)
-one-telling false true (fails n) (holds p) = absurd (n p)
-
 -- what lies behind a part that lies at i
 pub behind : (s : List ℕ) (i : ℕ) (w v : List ℕ) → drop i s ≡ w ++ v → drop (i + length w) s ≡ v
 behind s i w v e = sym (drop-drop (length w) i s) ∙ ap (λ (l : List ℕ). drop (length w) l) e ∙ drop-append-seam w v

@@ -18,7 +18,8 @@ use Rattle.programs.specs.Parsed as parsed
 use Rattle.programs.specs.declared.Parsed.{Parsed}
 use Rattle.programs.specs.declared.Parsed.the-variants.{Whole, Bad}
 use Rattle.programs.proofs.Agree.{program-agree, program-some}
-use Rattle.programs.proofs.Reading.{Kind, behind, starts-length, one-telling, one-reading}
+use Rattle.programs.proofs.Reading.{Kind, behind, starts-length, one-reading}
+use Rattle.tells.proofs.Laws.{one-telling}
 
 abbrev pub programs : ℕ → List ℕ → Kind
 programs tags strings = record { Thing = Program; bytes = programBytes; Good = IsProgram tags strings; may = allowed }
@@ -218,4 +219,4 @@ pub one-program : (tags : ℕ) (strings s : List ℕ) (i : ℕ) (p q : Parsed) �
 one-program tags strings s i = one-reading (programs tags strings) program-agree
 
 pub one-told : (tags : ℕ) (strings s : List ℕ) (field : ℕ) (isSecond : Bool) → Filled tags strings s → (a b : Bool) → FieldTold tags strings s field isSecond a → FieldTold tags strings s field isSecond b → a ≡ b
-one-told tags strings s field isSecond (ps, F) a b α β = one-telling a b (α ps F) (β ps F)
+one-told tags strings s field isSecond (ps, F) a b α β = one-telling (α ps F) (β ps F)

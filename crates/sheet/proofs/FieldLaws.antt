@@ -15,7 +15,7 @@ use Rattle.layout.specs.declared.Layout.{Layout}
 use Rattle.sheet.specs.Fields.{Visits, FieldsAre, Programs}
 use Rattle.sheet.specs.FieldTests.{Named, EachNamed}
 use Rattle.programs.proofs.Sections.{one-filling}
-use Rattle.layout.proofs.Laws.{as-told, both-told}
+use Rattle.tells.proofs.Laws.{as-told, both-told}
 use Rattle.programs.specs.Parsed.{Filled, FieldTold}
 
 pub named-told :

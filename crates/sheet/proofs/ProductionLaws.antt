@@ -13,7 +13,7 @@ use Rattle.layout.specs.Records.{productionAt, nonterminalOf, tagNumberOf, firs
 use Rattle.layout.specs.LaidOut.{LaidOut}
 use Rattle.layout.specs.declared.Layout.{Layout}
 use Rattle.sheet.specs.Productions.{ProductionFits, Productions}
-use Rattle.layout.proofs.Laws.{as-told, both-told, leb-tells, ltb-tells, eqb-tells}
+use Rattle.tells.proofs.Laws.{as-told, both-told, leb-tells, ltb-tells, eqb-tells}
 
 module _ (s : List ℕ) (q before tags n t f c five ten eleven : ℕ) where
   pub production-told :

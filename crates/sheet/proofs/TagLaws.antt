@@ -14,7 +14,7 @@ use Rattle.layout.specs.LaidOut.{LaidOut}
 use Rattle.layout.specs.declared.Layout.{Layout}
 use Rattle.sheet.specs.Tags.{tagBytes, TagAt, Tags}
 use Rattle.sheet.specs.TagTests.{Spells, New}
-use Rattle.layout.proofs.Laws.{as-told, both-told}
+use Rattle.tells.proofs.Laws.{as-told, both-told, bool-tells}
 
 -- every byte passes, by index
 pub all-at : (p : ℕ → Bool) (f : List ℕ) → ((k : ℕ) → k < length f → p (getD f k 0) ≡ true) → All p f
@@ -45,10 +45,6 @@ zero-of (suc n) (suc k) = zero-of n k
 
 pub at-zeros : (f : List ℕ) → f ≡ replicate (length f) 0 → (k : ℕ) → getD f k 0 ≡ 0
 at-zeros f e k = ap (λ (l : List ℕ). getD l k 0) e ∙ zero-of (length f) k
-
-bool-tells : (b : Bool) → Tells (b ≡ true) b
-bool-tells true = holds refl
-bool-tells false = fails (λ e. let z : _≡_ {A = ℕ} 0 1 = cc in omega arith)
 
 -- 16 bytes, of which the first says that m follow the name's first
 module _ (x y : ℕ) (r : List ℕ) (m : ℕ) (counted : x ≡ suc m) (inside : m ≤ 14) (sixteen : length r ≡ 14) where

@@ -12,6 +12,7 @@ use lib.Dec.{eqb, ltb}
 use borrow.Author.Tests.{eqb-true, eqb-false, ltb-true, ltb-false}
 use Rattle.expressions.specs.Expr.{nonterminal, anychar, Exp, atom, cat, alt, star, empty, nodes, depth, Content, nothing, tree}
 use Rattle.tells.specs.Tells.{Tells, holds, fails}
+use Rattle.tells.proofs.Laws.{by-answer}
 use Rattle.layout.specs.Layout.{productionCount}
 use Rattle.layout.specs.Records.{kindOf, argumentOf, firstNodeOf, nodeCountOf}
 use Rattle.trees.specs.declared.Parsed.{Parsed}
@@ -19,20 +20,6 @@ use Rattle.trees.specs.declared.Parsed.the-variants.{Tree, Bad}
 use Rattle.trees.specs.Trees.{TreeAt, ContentAt, Trees}
 use Rattle.trees.specs.Parsed.{NodeFits, ParsedAt, a-tree, no-tree, HasContent}
 use Rattle.trees.proofs.Unique.{nodes-pos, one-tree}
-
--- a test by a Bool tells what its two values say
-pub told : {P : Type 0} (b : Bool) → (b ≡ true → P) → (b ≡ false → P → ⊥) → Tells P b
-told true f g = holds (f refl)
-told false f g = fails (g refl)
-
--- what a test told, where its answer was looked at by its contrary
-pub held : {P : Type 0} {b : Bool} → Tells P b → not b ≡ false → P
-held (holds p) e = p
-held (fails f) e = absurd (true≢false e)
-
-pub failed : {P : Type 0} {b : Bool} → Tells P b → not b ≡ true → P → ⊥
-failed (holds p) e = absurd (true≢false (sym e))
-failed (fails f) e = f
 
 depth-pos : (e : Exp) → 1 ≤ depth e
 depth-pos (atom k) = omega arith
@@ -51,7 +38,7 @@ fits-other k a f (inr h) = h
 
 module _ (k a : ℕ) where
   pub names-told : k ≡ 1 → Tells (NodeFits k a) (ltb a 64)
-  names-told e = told (ltb a 64) (λ t. inl (e, omega (arith, ltb-true a 64 t))) (λ t h. omega (arith, ltb-false a 64 t, fits-1 k a e h))
+  names-told e = by-answer (ltb a 64) (λ t. inl (e, omega (arith, ltb-true a 64 t))) (λ t h. omega (arith, ltb-false a 64 t, fits-1 k a e h))
 
   module _ (other : k ≡ 1 → ⊥) where
     pub low-told : k < 2 → Tells (NodeFits k a) false
@@ -61,7 +48,7 @@ module _ (k a : ℕ) where
     high-told b = fails (λ h. omega (arith, fits-other k a other h .1))
 
     pub zero-told : 2 ≤ k → k ≤ 5 → Tells (NodeFits k a) (eqb a 0)
-    zero-told b d = told (eqb a 0) (λ t. inr (b, d, eqb-true a 0 t)) (λ t h. eqb-false a 0 t (fits-other k a other h .2))
+    zero-told b d = by-answer (eqb a 0) (λ t. inr (b, d, eqb-true a 0 t)) (λ t h. eqb-false a 0 t (fits-other k a other h .2))
 
 -- the first node of a tree fits
 pub tree-fits : (s : List ℕ) (i : ℕ) (e : Exp) → TreeAt s i e → NodeFits (kindOf s i) (argumentOf s i)
@@ -175,7 +162,7 @@ module _ (s : List ℕ) (q n : ℕ) (count : n ≡ nodeCountOf s q) where
         f (omega (arith, g .1))
 
     pub content-told : (j : ℕ) → ParsedAt s i n 12 (Tree j) → Tells (HasContent s q) (eqb j (i + n))
-    content-told j (a-tree e h f d p) = told (eqb j (i + n))
+    content-told j (a-tree e h f d p) = by-answer (eqb j (i + n))
         (λ t. let w = eqb-true j (i + n) t in (tree e, (subst (λ (z : ℕ). TreeAt s z e) first h, omega arith, d)))
         (λ t c. other-of j e h p (eqb-false j (i + n) t) (c .0) (c .1))
 

@@ -7,7 +7,7 @@ use mathlib.Core.Logic.{inl, inr}
 use Prim.Native.Nat.{_+_}
 use lib.ListN.{getD}
 use Rattle.programs.specs.Program.{become, copy, recall, reject}
-use Rattle.programs.proofs.Reading.{told, untold}
+use Rattle.tells.proofs.Laws.{told, not-told}
 use Rattle.programs.proofs.Forms.{one-of-two, past-four, ten-apart, byte-whole, two-whole, text-whole, tag-at, echo-at, no-become, no-copy, no-recall, no-tag, no-text, no-statement}
 use Rattle.programs.proofs.plain.Statement.{statement}
 use Rattle.programs.proofs.plain.Tie as tie
@@ -21,7 +21,7 @@ returns c =
 returns-2 : tie.Need-returns-2
 returns-2 c =
     let a = c .before .before .before .before .before .before in
-    no-become (a .args .s .now) (a .args .i) (a .pre .0) (a .args .tags) (a .args .strings .now) (c .before .before .match .keys1) (untold (c .before .two-numbers .ensures) (c .if1 .left))
+    no-become (a .args .s .now) (a .args .i) (a .pre .0) (a .args .tags) (a .args .strings .now) (c .before .before .match .keys1) (not-told (c .before .two-numbers .ensures) (c .if1 .left))
 
 returns-3 : tie.Need-returns-3
 returns-3 c =
@@ -32,7 +32,7 @@ returns-3 c =
 returns-4 : tie.Need-returns-4
 returns-4 c =
     let a = c .before .before .before .before .before .before in
-    no-copy (a .args .s .now) (a .args .i) (a .pre .0) (a .args .tags) (a .args .strings .now) (c .before .before .match .keys2) (untold (c .before .two-numbers2 .ensures) (c .if2 .left))
+    no-copy (a .args .s .now) (a .args .i) (a .pre .0) (a .args .tags) (a .args .strings .now) (c .before .before .match .keys2) (not-told (c .before .two-numbers2 .ensures) (c .if2 .left))
 
 returns-5 : tie.Need-returns-5
 returns-5 c =
@@ -43,7 +43,7 @@ returns-5 c =
 returns-6 : tie.Need-returns-6
 returns-6 c =
     let a = c .before .before .before .before .before .before in
-    no-recall (a .args .s .now) (a .args .i) (a .pre .0) (a .args .tags) (a .args .strings .now) (c .before .before .match .keys3) (untold (c .before .two-numbers3 .ensures) (c .if3 .left))
+    no-recall (a .args .s .now) (a .args .i) (a .pre .0) (a .args .tags) (a .args .strings .now) (c .before .before .match .keys3) (not-told (c .before .two-numbers3 .ensures) (c .if3 .left))
 
 returns-7 : tie.Need-returns-7
 returns-7 c = let a = c .before .before .before .before in byte-whole (a .args .s .now) (a .args .i) (a .pre .0) (a .args .tags) (a .args .strings .now) 4 reject (c .match .keys4) refl tt refl refl refl
@@ -57,7 +57,7 @@ returns-8 c =
 returns-9 : tie.Need-returns-9
 returns-9 c =
     let a = c .before .before .before .before .before .before in
-    no-text (a .args .s .now) (a .args .i) (a .pre .0) (a .args .tags) (a .args .strings .now) (c .before .before .match .keys5) (untold (c .before .text-range .ensures) (c .if4 .left))
+    no-text (a .args .s .now) (a .args .i) (a .pre .0) (a .args .tags) (a .args .strings .now) (c .before .before .match .keys5) (not-told (c .before .text-range .ensures) (c .if4 .left))
 
 returns-10 : tie.Need-returns-10
 returns-10 c =
@@ -70,7 +70,7 @@ returns-11 : tie.Need-returns-11
 returns-11 c =
     let a = c .before .before .before .before .before .before .before .before in
     let r = c .before .before .before .before .match .rest in
-    no-tag (a .args .s .now) (a .args .i) (a .pre .0) (a .args .tags) (a .args .strings .now) (one-of-two 5 _ (past-four _ (c .before .before .before .if5 .left) (r .0 .0 .0 .0 .1) (r .0 .0 .0 .1) (r .0 .0 .1) (r .0 .1)) (c .before .before .if6 .taken)) (untold (c .before .tag-number .ensures) (c .if7 .left))
+    no-tag (a .args .s .now) (a .args .i) (a .pre .0) (a .args .tags) (a .args .strings .now) (one-of-two 5 _ (past-four _ (c .before .before .before .if5 .left) (r .0 .0 .0 .0 .1) (r .0 .0 .0 .1) (r .0 .0 .1) (r .0 .1)) (c .before .before .if6 .taken)) (not-told (c .before .tag-number .ensures) (c .if7 .left))
 
 returns-12 : tie.Need-returns-12
 returns-12 c =

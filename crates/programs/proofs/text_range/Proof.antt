@@ -2,7 +2,7 @@
 use borrow.Author.Needs.{needs}
 use native.Mathlib.Omega.{arith}
 use Rattle.tells.specs.Tells.{fails}
-use Rattle.programs.proofs.Reading.{beside}
+use Rattle.tells.proofs.Laws.{beside}
 use Rattle.programs.proofs.text_range.Statement.{statement}
 use Rattle.programs.proofs.text_range.Tie as tie
 

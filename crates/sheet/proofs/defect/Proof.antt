@@ -3,7 +3,8 @@ use native.Mathlib.Omega.{arith}
 use borrow.Author.Tests.{not-true, not-false}
 use borrow.Author.Needs.{needs}
 use Rattle.sheet.specs.Defect.{its-size, its-sections}
-use Rattle.layout.proofs.Laws.{told, not-told, laid-out}
+use Rattle.tells.proofs.Laws.{told, not-told}
+use Rattle.layout.proofs.Laws.{laid-out}
 use Rattle.sheet.proofs.defect.Statement.{statement}
 use Rattle.sheet.proofs.defect.Tie as tie
 

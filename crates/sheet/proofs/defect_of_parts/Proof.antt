@@ -2,7 +2,7 @@
 use borrow.Author.Tests.{not-true, not-false}
 use borrow.Author.Needs.{needs}
 use Rattle.sheet.specs.Defect.{a-tag, a-production, a-tree, a-program, not-grounded, well-formed}
-use Rattle.layout.proofs.Laws.{told, not-told}
+use Rattle.tells.proofs.Laws.{told, not-told}
 use Rattle.sheet.proofs.DefectLaws.{runs-inside}
 use Rattle.sheet.proofs.defect_of_parts.Statement.{statement}
 use Rattle.sheet.proofs.defect_of_parts.Tie as tie

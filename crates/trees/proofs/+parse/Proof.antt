@@ -3,7 +3,8 @@
 use borrow.Author.Needs.{needs}
 use Prim.Native.Nat.{ℕ, _<_}
 use native.Mathlib.Omega.{arith}
-use Rattle.trees.proofs.Parses.{held, failed, ends, no-nodes, no-depth, no-fit, leaf-tree, inner-none, star-tree, two-tree}
+use Rattle.tells.proofs.Laws.{held, failed}
+use Rattle.trees.proofs.Parses.{ends, no-nodes, no-depth, no-fit, leaf-tree, inner-none, star-tree, two-tree}
 use borrow.Fn.Kinds.{In}
 use borrow.Fn.PlainCycle.{Measures, is, falls, and}
 use Rattle.trees.proofs.parse.Reads as parse

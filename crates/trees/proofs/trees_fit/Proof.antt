@@ -5,7 +5,8 @@ use native.Mathlib.Omega.{arith}
 use borrow.Author.Count.{below-none, below-more}
 use borrow.Author.Needs.{needs}
 use Rattle.trees.specs.Parsed.{HasContent}
-use Rattle.trees.proofs.Parses.{held, failed, trees-all, trees-not}
+use Rattle.tells.proofs.Laws.{held, failed}
+use Rattle.trees.proofs.Parses.{trees-all, trees-not}
 use Rattle.trees.proofs.trees_fit.Statement.{statement}
 use Rattle.trees.proofs.trees_fit.Tie as tie
 

@@ -7,7 +7,7 @@ use borrow.Author.Needs.{needs}
 use Rattle.layout.specs.Layout.{wordAt}
 use Rattle.sheet.specs.FieldTests.{Named}
 use Rattle.tells.specs.Tells.{holds, fails}
-use Rattle.layout.proofs.Laws.{told, not-told}
+use Rattle.tells.proofs.Laws.{told, not-told}
 use Rattle.sheet.proofs.fields.each_named.Statement.{statement}
 use Rattle.sheet.proofs.fields.each_named.Tie as tie
 

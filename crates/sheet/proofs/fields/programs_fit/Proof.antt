@@ -2,7 +2,7 @@
 use borrow.Author.Tests.{not-true, not-false}
 use borrow.Author.Needs.{needs}
 use Rattle.tells.specs.Tells.{fails}
-use Rattle.layout.proofs.Laws.{as-told, told, not-told}
+use Rattle.tells.proofs.Laws.{as-told, told, not-told}
 use Rattle.sheet.proofs.FieldLaws.{fill-told, filled-of, productions-told, productions-named, production-inside, nodes-told, nodes-named, node-inside, programs-from}
 use Rattle.sheet.proofs.fields.programs_fit.Statement.{statement}
 use Rattle.sheet.proofs.fields.programs_fit.Tie as tie

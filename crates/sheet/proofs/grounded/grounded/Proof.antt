@@ -9,7 +9,7 @@ use borrow.Author.Needs.{needs}
 use Rattle.layout.specs.Records.{kindOf, argumentOf}
 use Rattle.sheet.specs.Grounded.{Produced}
 use Rattle.tells.specs.Tells.{holds, fails}
-use Rattle.layout.proofs.Laws.{told, not-told}
+use Rattle.tells.proofs.Laws.{told, not-told}
 use Rattle.sheet.proofs.grounded.grounded.Statement.{statement}
 use Rattle.sheet.proofs.grounded.grounded.Tie as tie
 

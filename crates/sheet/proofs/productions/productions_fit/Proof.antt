@@ -8,7 +8,7 @@ use borrow.Author.Needs.{needs}
 use Rattle.tells.specs.Tells.{fails}
 use Rattle.layout.specs.Records.{nodesBefore}
 use Rattle.sheet.specs.Productions.{ProductionFits}
-use Rattle.layout.proofs.Laws.{told, not-told}
+use Rattle.tells.proofs.Laws.{told, not-told}
 use Rattle.sheet.proofs.ProductionLaws.{nodes-next, productions-told}
 use Rattle.sheet.proofs.productions.productions_fit.Statement.{statement}
 use Rattle.sheet.proofs.productions.productions_fit.Tie as tie

@@ -6,7 +6,7 @@ use borrow.Author.Count.{below-more}
 use borrow.Author.Needs.{needs}
 use Rattle.tells.specs.Tells.{holds, fails}
 use Rattle.sheet.specs.Tags.{tagBytes}
-use Rattle.layout.proofs.Laws.{told, not-told}
+use Rattle.tells.proofs.Laws.{told, not-told}
 use Rattle.sheet.proofs.TagLaws.{tag-part, tag-ends}
 use Rattle.sheet.proofs.tags.is_new.Statement.{statement}
 use Rattle.sheet.proofs.tags.is_new.Tie as tie

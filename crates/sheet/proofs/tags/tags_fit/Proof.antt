@@ -5,7 +5,7 @@ use borrow.Author.Count.{below-more, below-none}
 use borrow.Author.Tests.{not-true, not-false}
 use borrow.Author.Needs.{needs}
 use Rattle.tells.specs.Tells.{holds, fails}
-use Rattle.layout.proofs.Laws.{told, not-told}
+use Rattle.tells.proofs.Laws.{told, not-told}
 use Rattle.sheet.proofs.TagLaws.{TagFits, tag-part, tags-from, from-tags}
 use Rattle.sheet.proofs.tags.tags_fit.Statement.{statement}
 use Rattle.sheet.proofs.tags.tags_fit.Tie as tie
