@@ -94,5 +94,5 @@ pub range-told : (strings : List ℕ) (o n : ℕ) → o + n ≤ length strings �
 range-told strings o n h {r} t = let same : o + n - o ≡ n = omega arith in go (subst (λ (m : ℕ). Tells (WholeCharacters (take m (drop o strings))) r) same t)
   where
     go : {r : Bool} → Tells (WholeCharacters (take n (drop o strings))) r → Tells (Printable strings o n) r
-    go (holds w) = holds (record { inside = h; whole = w })
+    go (holds w) = holds (record { inside = omega arith; whole = w })
     go (fails k) = fails (λ p. k (p .whole))

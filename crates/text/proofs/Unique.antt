@@ -6,7 +6,7 @@ use mathlib.Core.List.{List, [], _∷_, _++_, append-assoc, append-nil, append-c
 use Prim.Native.Nat.{ℕ, _+_, _/_, _%_}
 use native.Mathlib.Omega.{arith}
 use lib.ListN.{length}
-use Rattle.text.specs.Chars.{Char, utf8, Starts, Begins, Apart, DecodedIs}
+use Rattle.text.specs.Chars.{utf8, Starts, Begins, Apart, DecodedIs}
 use Rattle.text.specs.declared.Decoded.{Decoded}
 use Rattle.text.specs.declared.Decoded.the-variants.{Whole, Begun, Bad}
 use Rattle.text.proofs.Shapes.{Range, range, shape1, shape2, shape3, shape4, lead, lead2, lead3, lead4, cons≢[]}

@@ -1,30 +1,28 @@
 -- What each way through the reader's functions shows of the front: the laws that their proofs cite.
 -- Assumes nothing.
 use mathlib.Core.Path.{_≡_, refl, sym, ap, ap₂, _∙_, subst}
-use mathlib.Core.Logic.{_⊎_, inl, inr, ⊎-elim}
+use mathlib.Core.Logic.{⊎-elim}
 use mathlib.Core.Bool.{Bool, true, false}
-use mathlib.Core.List.{List, [], _∷_, _++_, append-assoc, append-nil, append-cancel-left, head-eq-of-cons-eq, tail-eq-of-cons-eq}
-use Prim.Native.Nat.{ℕ, zero, suc, _+_, _-_, _≤_, _<_}
+use mathlib.Core.List.{List, [], _∷_, _++_, append-assoc, append-nil, head-eq-of-cons-eq, tail-eq-of-cons-eq}
+use Prim.Native.Nat.{ℕ, _+_, _-_, _≤_, _<_}
 use native.Mathlib.Omega.{arith}
 use native.Mathlib.Numerals.{add-one}
 use native.Mathlib.Decide.{decLt}
-use lib.ListN.{length, getD, take, drop, length-append, length-take, length-drop, drop-of-length-le, take-append-drop, List·getD-append}
-use lib.Seq.{drop-cons, take-suc, take-all, take-length, drop-drop}
+use lib.ListN.{length, getD, take, drop, length-append, length-drop, drop-of-length-le, take-append-drop, List·getD-append}
+use lib.Seq.{drop-cons, take-suc, take-all}
 use borrow.Author.Tests.{lt-ltb, le-ltb}
 use Rattle.text.specs.Chars.{Char, utf8, Starts, Begins, Apart, DecodedIs}
 use Rattle.text.specs.declared.Decoded.{Decoded}
 use Rattle.text.specs.Names.{nameFirst, nameByte, blank, All, Name}
-use Rattle.text.proofs.Shapes.{front1, front2, front3, none-left, lead, range, Range, shape1, shape2, shape3, shape4, cons≢[]}
-use Rattle.tokens.specs.Inner.{Front, Stops, Run, WordIs, cutAt}
-use Rattle.tokens.specs.Tokens.{Kind, start, end, empty, Ref, amp, lt, gt, apos, quot, Tok, tag, ref, char, Good, opens, closes, spelled, stands, bytes, tagEvent, eventOf, Means, front}
+use Rattle.text.proofs.Shapes.{front1, front2, front3, none-left, lead, range, shape1, shape2, shape3, shape4, cons≢[]}
+use Rattle.tokens.specs.Inner.{Stops, Run, WordIs, cutAt}
+use Rattle.tokens.specs.Tokens.{Kind, start, end, empty, Ref, amp, lt, gt, apos, quot, Tok, tag, ref, char, Good, opens, closes, spelled, stands, bytes, tagEvent, Means, front}
 use Rattle.tokens.specs.declared.Word.{Word}
 use Rattle.tokens.specs.declared.Word.the-variants.{Whole, No}
-use Rattle.tokens.specs.declared.Cursor.{Cursor}
-use Rattle.tokens.specs.declared.Event.{Event}
 use Rattle.tokens.specs.declared.Event.the-variants.{Start, End, Empty, Character}
 use Rattle.tokens.specs.declared.Answer.{Answer}
-use Rattle.tokens.specs.declared.Answer.the-variants.{Token, Begun, Bad, Long}
-use Rattle.tokens.proofs.Theory.{open-is, end-is, ref-is, char-is, char-head, none-of, no-open, no-end, utf8-cons}
+use Rattle.tokens.specs.declared.Answer.the-variants.{Token, Begun, Bad}
+use Rattle.tokens.proofs.Theory.{open-is, end-is, ref-is, char-is, char-head, none-of, no-open, no-end}
 
 -- `compare`: the first i bytes agree
 module _ (f w : List ℕ) (i : ℕ) (e : take i f ≡ take i w) where

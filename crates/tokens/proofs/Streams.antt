@@ -2,12 +2,12 @@
 -- Assumes nothing.
 use mathlib.Core.Path.{_≡_, refl, sym, ap, ap₂, _∙_, subst}
 use mathlib.Core.List.{List, [], _∷_, _++_, append-nil, append-assoc}
-use Prim.Native.Nat.{ℕ, suc, _+_, _-_, _≤_, _<_}
+use Prim.Native.Nat.{ℕ, _+_, _-_, _≤_, _<_}
 use native.Mathlib.Omega.{arith}
 use native.Mathlib.Nat.{add-sub-of-le, add-zero}
 use lib.ListN.{length, take, drop, length-append, length-take, length-drop, take-append-drop}
 use lib.Seq.{drop-append-seam, take-append-add, take-append-seam, drop-drop}
-use Rattle.text.specs.Chars.{Starts, Char}
+use Rattle.text.specs.Chars.{Char}
 use mathlib.Core.Logic.{inl, inr}
 use Rattle.tokens.specs.declared.Cursor.{Cursor}
 use Rattle.tokens.specs.declared.Event.{Event}
@@ -15,7 +15,6 @@ use Rattle.tokens.specs.declared.Event.the-variants.{Start, End, Empty, 
 use Rattle.tokens.specs.declared.Answer.{Answer}
 use Rattle.tokens.specs.declared.Answer.the-variants.{Token, Begun, Bad, Long}
 use Rattle.tokens.specs.Tokens.{Tok, tag, ref, char, Kind, start, end, empty, Ref, amp, lt, gt, apos, quot, Good, bytes, stands, tagEvent, eventOf, front, Means, opens, closes}
-use Rattle.text.specs.Names.{All, blank, Name}
 use Rattle.tokens.specs.Stream.{Reads, flat, AllGood, AllShort, eventsAt, NameAt}
 use Rattle.tokens.proofs.Theory.{agree, one-answer, token-cons}
 use Rattle.tokens.proofs.Reading.{tag-length}

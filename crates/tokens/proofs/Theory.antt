@@ -1,7 +1,7 @@
 -- Which token bytes can be: a list that agrees with a token as far as both go shows which token that is. So no two tokens start the same
 -- bytes (`agree`), and any two answers of one front are equal (`one-answer`).
 -- Assumes nothing.
-use mathlib.Core.Path.{_≡_, refl, sym, ap, ap₂, _∙_, subst}
+use mathlib.Core.Path.{_≡_, refl, sym, ap, ap₂, _∙_}
 use mathlib.Core.Logic.{_⊎_, inl, inr, ⊎-elim}
 use mathlib.Core.Bool.{Bool, true, false, true≢false}
 use mathlib.Core.List.{List, [], _∷_, _++_, append-assoc, append-nil, append-cancel-left, head-eq-of-cons-eq, tail-eq-of-cons-eq}

@@ -30,19 +30,19 @@ pub record CountsOf (tags : ℕ → List ℕ) (x : Next) (p j : ℕ) (e : Exp) (
   pub last-is : countOf (t .last) ≡ last e j p
   pub follow-is : countOf (t .follow) ≡ follow tags e j p x
 
--- how a node's counts come from those of the trees behind it: an atom, which can be the next symbol or not, and is the place or not,
+-- t is an atom's: `hit` says whether it can be the next symbol, `here` whether it is the place
 pub record LeafOf (hit here : Bool) (next atom-past : ℕ) (t : Tally) : Type 0 where
   pub counts : (tags : ℕ → List ℕ) (x : Next) (p j : ℕ) (a : Atom) → hit ≡ canBe tags a x → here ≡ eqb p j → CountsOf tags x p j (atom a) t
   pub next-of : t .next ≡ next
   pub atom-of : t .atom ≡ atom-past
 
--- a star,
+-- t is a star's, from its part's, l
 pub record StarOf (l t : Tally) : Type 0 where
   pub counts : (tags : ℕ → List ℕ) (x : Next) (p j : ℕ) (e : Exp) → CountsOf tags x p j e l → CountsOf tags x p j (star e) t
   pub next-of : t .next ≡ l .next
   pub atom-of : t .atom ≡ l .atom
 
--- and a concatenation or a union
+-- t is a concatenation's or a union's, from its parts', l and r
 pub record JoinOf (join : Exp → Exp → Exp) (l r t : Tally) : Type 0 where
   pub counts : (tags : ℕ → List ℕ) (x : Next) (p j : ℕ) (e f : Exp) → CountsOf tags x p j e l → CountsOf tags x p (j + atoms e) f r → CountsOf tags x p j (join e f) t
   pub next-of : t .next ≡ r .next

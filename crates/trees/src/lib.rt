@@ -19,6 +19,9 @@ use layout::node_count_of;
 use layout::nonterminal_of;
 use layout::tag_number_of;
 
+// The deepest that an expression may be.
+const DEEPEST: usize = 12;
+
 // What the nodes from one on are.
 pub enum Parsed {
     // a whole tree; the number of the node past it
@@ -95,9 +98,6 @@ fn parse(s: &[u8], l: Layout, i: usize, left: usize, deep: usize) -> Parsed
     parse(s, l, j, i + left - j, deep - 1)
 }
 
-// The deepest that an expression may be.
-const DEEPEST: usize = 12;
-
 // Whether production q's nodes are none, or one whole tree.
 fn content_fits(s: &[u8], l: Layout, q: usize) -> bool
     requires { ⌜ LaidOut (now s) l ⌝ }
@@ -132,6 +132,7 @@ pub fn trees_fit(s: &[u8], l: Layout) -> bool
     true
 }
 
+// What one production adds to a count of those that are alike in both.
 fn one_if_both(a: bool, b: bool) -> usize
     ensures { λ r. ⌜ r ≡ cond (a && b) 1 0 ⌝ }
     ensures { λ r. ⌜ r ≤ 1 ⌝ }
@@ -167,6 +168,7 @@ fn can_be(s: &[u8], l: Layout, n: usize, x: Symbol) -> bool
     }
 }
 
+// Whether an atom that is any one character can be next.
 fn is_character(x: Symbol) -> bool
     ensures { λ r. ⌜ CharacterIs x r ⌝ }
 {
@@ -177,6 +179,7 @@ fn is_character(x: Symbol) -> bool
     }
 }
 
+// Either of two sets of strings that share none.
 fn plus(a: Number, b: Number) -> Number
     ensures { λ r. ⌜ countOf r ≡ add (countOf a) (countOf b) ⌝ }
 {
@@ -191,6 +194,7 @@ fn plus(a: Number, b: Number) -> Number
     }
 }
 
+// Each string of the one set before each of the other.
 fn times(a: Number, b: Number) -> Number
     ensures { λ r. ⌜ countOf r ≡ mul (countOf a) (countOf b) ⌝ }
 {
@@ -205,7 +209,7 @@ fn times(a: Number, b: Number) -> Number
     }
 }
 
-// Any number of a, then b.
+// Any number of strings of the one set, then one of the other.
 fn again(a: Number, b: Number) -> Number
     ensures { λ r. ⌜ countOf r ≡ rep (countOf a) (countOf b) ⌝ }
 {
@@ -216,6 +220,7 @@ fn again(a: Number, b: Number) -> Number
     }
 }
 
+// The one string that there is, or none.
 fn bit(b: bool) -> Number
     ensures { λ r. ⌜ countOf r ≡ bitCount b ⌝ }
 {
@@ -357,6 +362,7 @@ fn picked(t: Tally, p: usize, x: Symbol) -> Number
     }
 }
 
+// Whether two different strings go the same way: then the next symbol does not tell which.
 fn is_many(n: Number) -> bool
     ensures { λ r. ⌜ r ≡ isMany (countOf n) ⌝ }
 {

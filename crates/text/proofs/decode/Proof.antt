@@ -4,7 +4,7 @@ use native.Mathlib.Omega.{arith}
 use mathlib.Core.Logic.{inl, inr, ⊎-elim}
 use mathlib.Core.Path.{refl}
 use lib.ListN.{getD, drop}
-use Rattle.text.specs.declared.Decoded.the-variants.{Whole, Begun, Bad}
+use Rattle.text.specs.declared.Decoded.the-variants.{Whole, Bad}
 use Rattle.text.proofs.Decoding
 use Rattle.text.proofs.decode.Statement.{statement}
 use Rattle.text.proofs.decode.Tie as tie

@@ -5,7 +5,7 @@ use mathlib.Core.Logic.{inl, inr, ⊎-elim}
 use Prim.Native.Nat.{_+_, _-_, _*_, _<_}
 use lib.ListN.{getD, drop}
 use borrow.Author.Tests.{leb-true, leb-false}
-use Rattle.text.specs.declared.Decoded.the-variants.{Whole, Begun, Bad}
+use Rattle.text.specs.declared.Decoded.the-variants.{Whole, Bad}
 use Rattle.text.proofs.Decoding
 use Rattle.text.proofs.four.Statement.{statement}
 use Rattle.text.proofs.four.Tie as tie

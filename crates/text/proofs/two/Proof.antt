@@ -2,10 +2,10 @@
 use borrow.Author.Needs.{needs}
 use native.Mathlib.Omega.{arith}
 use mathlib.Core.Logic.{inl, inr, ⊎-elim}
-use Prim.Native.Nat.{_<_, _≤_}
+use Prim.Native.Nat.{_<_}
 use lib.ListN.{getD, drop}
 use borrow.Author.Tests.{leb-true, leb-false}
-use Rattle.text.specs.declared.Decoded.the-variants.{Whole, Begun, Bad}
+use Rattle.text.specs.declared.Decoded.the-variants.{Whole, Bad}
 use Rattle.text.proofs.Decoding
 use Rattle.text.proofs.two.Statement.{statement}
 use Rattle.text.proofs.two.Tie as tie
