@@ -81,7 +81,7 @@ abbrev pub front : List ℕ → ℕ → List ℕ
 front s at = take 32 (drop at s)
 
 -- what the reader answers of the front f that stands at `at`
---     Token   f starts with that token
+--     Token   f starts with that token (which then has at most 32 bytes, as a front has no more)
 --     Begun   f begins a token of at most 32 bytes
 --     Bad     f starts with no token and begins none of any length
 --     Long    f begins a token, and only tokens over 32 bytes

@@ -1,0 +1,118 @@
+-- From the passes to the checker's answers: the dry pass leaves the list as lent and ends four bytes for each fault on, so its end tells
+-- the count and the room; the T faults' end tells 8 from 9; and a pass that fits puts the whole list. Assumes nothing.
+use mathlib.Core.Path.{_≡_, refl, sym, ap, subst, _∙_}
+use mathlib.Core.Bool.{true, false}
+use mathlib.Core.List.{List, [], _∷_, _++_, List·Memᴰ, List·Memᴰ·head, List·Memᴰ·cases-cons, List·Memᴰ·not-nil}
+use mathlib.Core.Logic.{⊎-elim, _↔_}
+use Prim.Native.Nat.{ℕ, zero, suc, _*_, _/_, _≤_, _<_}
+use native.Mathlib.Nat.{zero-add, le-trans}
+use native.Mathlib.Omega.{arith}
+use lib.ListN.{length, drop, length-append}
+use Rattle.expressions.specs.Grammar.{Production, Small}
+use Rattle.expressions.specs.FaultList.{TFault, KeepsT, IsFaultList, listBytes}
+use Rattle.expressions.specs.Listed.{tFaults, faultList}
+use Rattle.expressions.proofs.Order.{Bytes}
+use Rattle.expressions.proofs.ListedT.{t-iff}
+use Rattle.expressions.proofs.Listed.{listed}
+use Rattle.expressions.proofs.Room.{list-bytes}
+use Rattle.lent.specs.Put.{put}
+use Rattle.lent.proofs.Laws.{put-dry, put-all}
+use Rattle.layout.specs.Layout.{tagCount}
+use Rattle.trees.specs.GrammarAt.{GrammarIs}
+use Rattle.sheet.specs.Defect.{WellFormed, DefectIs, well-formed, its-size, its-sections, a-tag, a-production, a-tree, a-program, not-grounded}
+use Rattle.sheet.specs.Sheet.{Sheet, grammarOf, IsSheet}
+use Rattle.sheet.proofs.SheetLaws.{numbered-productions, sheet-grammar}
+use Rattle.faults.specs.Part.{AllPut}
+use Rattle.faults.specs.Checked.{ListedAs, passes, too-short, t-fault, s-faults-only, CheckedAs, well-formed as faults-of}
+use Rattle.faults.specs.declared.Checked.{Checked}
+use Rattle.faults.specs.declared.Ends.{Ends}
+
+-- an entry is no longer than the list that it stands in
+entry-within : (b : Bytes) (l : List Bytes) → List·Memᴰ b l → length b ≤ length (listBytes l)
+entry-within b [] m = absurd (List·Memᴰ·not-nil m)
+entry-within b (c ∷ l) m =
+    let e = length-append c (listBytes l) in
+    ⊎-elim (λ q. let k : length b ≡ length c = ap length q in omega (arith, e, k)) (λ n. let i = entry-within b l n in omega (arith, e, i)) (List·Memᴰ·cases-cons m)
+
+-- the T faults' bytes tell whether there is one
+module _ (n : ℕ) (g : List Production) (small : Small n g) where
+  no-t : length (listBytes (tFaults n g)) ≡ 0 → KeepsT g
+  no-t e b f =
+      let k = entry-within b (tFaults n g) (t-iff n g small b .0 f) in
+      let four : length b ≡ 4 = ap length (f .are-bytes) in
+      omega (arith, k, four, e)
+
+  some-t : (length (listBytes (tFaults n g)) ≡ 0 → ⊥) → (b : Bytes) × TFault g b
+  some-t h = first (tFaults n g) (λ b m. t-iff n g small b .1 m) h
+    where
+      first : (l : List Bytes) → ((b : Bytes) → List·Memᴰ b l → TFault g b) → (length (listBytes l) ≡ 0 → ⊥) → (b : Bytes) × TFault g b
+      first [] f h = absurd (h refl)
+      first (b ∷ l) f h = (b, f b (List·Memᴰ·head refl))
+
+no-fault : (l : List Bytes) → 4 * length l ≡ 0 → l ≡ []
+no-fault [] e = refl
+no-fault (b ∷ l) e = absurd (omega (arith, e))
+
+-- the answers on the sheet a, from its grammar with the list of faults
+module _ {s lent mid : List ℕ} {e : Ends} {a : Sheet} (i : IsSheet s a) (dry : AllPut s false lent mid e) where
+  abbrev g : List Production
+  g = grammarOf (a .rules)
+
+  abbrev l : List Bytes
+  l = faultList (tagCount s) g
+
+  g-is : GrammarIs s g
+  g-is = sheet-grammar i
+
+  small : Small (tagCount s) g
+  small = numbered-productions (i .well-formed) g g-is
+
+  is-list : IsFaultList g l
+  is-list = listed (tagCount s) g small
+
+  as-lent : mid ≡ lent
+  as-lent = dry .all-is g g-is .left ∙ put-dry false lent 0 (listBytes l) refl
+
+  end-is : e .all ≡ 4 * length l
+  end-is = omega (arith, dry .all-is g g-is .next, list-bytes g l is-list)
+
+  answer : {number : ℕ} {after : List ℕ} → ListedAs g l lent after number → CheckedAs s lent after (record { number = number; count = e .all / 4 })
+  answer z = faults-of a i l is-list (omega (arith, end-is)) z
+
+  pub answer-0 : e .all ≡ 0 → CheckedAs s lent mid (record { number = 0; count = e .all / 4 })
+  answer-0 z = answer (passes (no-fault l (omega (arith, z, end-is))) as-lent)
+
+  pub answer-10 : length mid < e .all → CheckedAs s lent mid (record { number = 10; count = e .all / 4 })
+  answer-10 z = answer (too-short (let m : length mid ≡ length lent = ap length as-lent in omega (arith, z, m, end-is)) as-lent)
+
+  -- the list where it fits
+  module _ {after : List ℕ} {f : Ends} (wet : AllPut s true mid after f) (room : e .all ≤ length mid) where
+    fits : 4 * length l ≤ length lent
+    fits = let m : length mid ≡ length lent = ap length as-lent in omega (arith, room, m, end-is)
+
+    written : after ≡ listBytes l ++ drop (4 * length l) lent
+    written =
+        let long : length (listBytes l) ≡ 4 * length l = list-bytes g l is-list in
+        let put-at : after ≡ put true lent 0 (listBytes l) = wet .all-is g g-is .left ∙ ap (λ (d : List ℕ). put true d 0 (listBytes l)) as-lent in
+        put-at ∙ put-all lent 0 (listBytes l) (omega (arith, long, fits)) ∙ ap (λ (k : ℕ). listBytes l ++ drop k lent) (zero-add _ ∙ long)
+
+    pub answer-8 : (e .t ≡ 0 → ⊥) → CheckedAs s lent after (record { number = 8; count = e .all / 4 })
+    answer-8 z =
+        let b = some-t (tagCount s) g small (λ q. z (dry .t-is g g-is ∙ q)) in
+        answer (t-fault {b = b .0} (b .1) fits written)
+
+    pub answer-9 : (e .all ≡ 0 → ⊥) → e .t ≡ 0 → CheckedAs s lent after (record { number = 9; count = e .all / 4 })
+    answer-9 y z =
+        answer
+        (s-faults-only (λ q. y (end-is ∙ ap (λ (x : List Bytes). 4 * length x) q)) (no-t (tagCount s) g small (sym (dry .t-is g g-is) ∙ z)) fits written)
+
+-- a sheet of number 0 is well-formed
+pub no-defect : {s : List ℕ} {d : ℕ} → DefectIs s d → d ≡ 0 → WellFormed s
+no-defect (well-formed w) e = w
+no-defect (its-size h) e = absurd (omega (arith, e))
+no-defect (its-sections z h) e = absurd (omega (arith, e))
+no-defect (a-tag z y h) e = absurd (omega (arith, e))
+no-defect (a-production z y x h) e = absurd (omega (arith, e))
+no-defect (a-tree z y x v h) e = absurd (omega (arith, e))
+no-defect (a-program z y x v u h) e = absurd (omega (arith, e))
+no-defect (not-grounded z y x v u t h) e = absurd (omega (arith, e))

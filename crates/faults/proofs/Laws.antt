@@ -1,0 +1,151 @@
+-- Laws of the passes. A part that is gathered over a range is put by what is left of it: putting the rest now leaves what putting the
+-- whole part would have left (Left: begun, a step, done). Parts that follow each other join. Assumes nothing.
+use mathlib.Core.Path.{_≡_, refl, sym, ap, subst, _∙_}
+use mathlib.Core.Bool.{Bool, true, false}
+use mathlib.Core.List.{List, [], _∷_, _++_}
+use Prim.Native.Nat.{ℕ, zero, suc, _+_, _-_, _*_, _≤_, _<_}
+use native.Mathlib.Nat.{add-zero, zero-add, mul-suc}
+use native.Mathlib.Omega.{arith}
+use native.Mathlib.Numerals.{add-one}
+use lib.Dec.{leb}
+use lib.ListN.{length, length-append}
+use borrow.Author.Tests.{le-leb, lt-leb}
+use Rattle.expressions.specs.Grammar.{Production, Nth, onlyIf, tagsOf}
+use Rattle.expressions.specs.Expr.{Content, places, atomsOf}
+use Rattle.expressions.specs.Decide.{count}
+use Rattle.expressions.specs.FaultList.{listBytes}
+use Rattle.expressions.specs.Listed.{gather, alike, isMany, sFaultsOf, sFaultsFrom}
+use Rattle.expressions.proofs.Room.{bytes-append}
+use Rattle.lent.specs.Put.{put, PutAs}
+use Rattle.lent.proofs.Laws.{put-append, put-none}
+use Rattle.layout.specs.Layout.{productionCount}
+use Rattle.layout.specs.LaidOut.{LaidOut}
+use Rattle.layout.specs.declared.Layout.{Layout}
+use Rattle.trees.specs.GrammarAt.{GrammarIs}
+use Rattle.trees.specs.Answers.{AlikeIs, ManyIs, AtomsIs}
+use Rattle.trees.specs.Symbol.{nextOf}
+use Rattle.trees.specs.declared.Symbol.{Symbol}
+use Rattle.trees.proofs.Grammars.{length-grammar, nth-there, alike-of-grammar}
+use Rattle.faults.specs.Part.{contentIn, PartPut}
+
+-- a part whose entries a test lets in or not
+module _ {s : List ℕ} {write : Bool} {lent : List ℕ} {at : ℕ} where
+  pub no-entry : (test : List Production → Bool) (e : List ℕ) → ((g : List Production) → GrammarIs s g → test g ≡ false) → PartPut s (λ g. onlyIf (test g) e) 4 write lent at lent at
+  no-entry test e h = record {
+    low = omega arith;
+    high = omega arith;
+    is = λ g i. subst (λ (b : Bool). PutAs write lent at (listBytes (onlyIf b e)) lent at) (sym (h g i)) (record { next = omega arith; left = sym (put-none write lent at) });
+  }
+
+  pub an-entry : {after : List ℕ} {r : ℕ} (test : List Production → Bool) (a b c d : ℕ) → ((g : List Production) → GrammarIs s g → test g ≡ true) →
+      PutAs write lent at (a ∷ b ∷ c ∷ d ∷ []) after r → PartPut s (λ g. onlyIf (test g) (a ∷ b ∷ c ∷ d ∷ [])) 4 write lent at after r
+  an-entry {after} {r} test a b c d h p = record {
+    low = omega (arith, p .next);
+    high = omega (arith, p .next);
+    is = λ g i. subst (λ (z : Bool). PutAs write lent at (listBytes (onlyIf z (a ∷ b ∷ c ∷ d ∷ []))) after r) (sym (h g i)) p;
+  }
+
+-- putting goes on where it stopped
+pub put-join : {write : Bool} {lent mid after xs ys : List ℕ} {at n r : ℕ} → PutAs write lent at xs mid n → PutAs write mid n ys after r → PutAs write lent at (xs ++ ys) after r
+put-join {write} {lent} {mid} {after} {xs} {ys} {at} {n} {r} a b = record {
+  next = omega (arith, a .next, b .next, length-append xs ys);
+  left = b .left ∙ (rw (a .next, a .left) (put-append write lent at xs ys));
+}
+
+module _ {s : List ℕ} {write : Bool} {lent mid after : List ℕ} {at n r i j : ℕ} where
+  pub join : (f h : List Production → List (List ℕ)) → PartPut s f i write lent at mid n → PartPut s h j write mid n after r → PartPut s (λ g. f g ++ h g) (i + j) write lent at after r
+  join f h a b = record {
+    low = omega (arith, a .low, b .low);
+    high = omega (arith, a .high, b .high);
+    is = λ g k. subst (λ (z : List ℕ). PutAs write lent at z after r) (sym (bytes-append (f g) (h g))) (put-join (a .is g k) (b .is g k));
+  }
+
+-- of a part, what f gathers from i on, k times, is left to put from n on
+pub record Left (s : List ℕ) (part : List Production → List (List ℕ)) (f : List Production → ℕ → List (List ℕ)) (i k : ℕ) (write : Bool) (lent : List ℕ) (at : ℕ) (mid : List ℕ) (n : ℕ) : Type 0 where
+  pub same : (g : List Production) → GrammarIs s g → put write mid n (listBytes (gather i k (f g))) ≡ put write lent at (listBytes (part g))
+  pub long : (g : List Production) → GrammarIs s g → n + length (listBytes (gather i k (f g))) ≡ at + length (listBytes (part g))
+
+module _ {s : List ℕ} {part : List Production → List (List ℕ)} {f : List Production → ℕ → List (List ℕ)} {write : Bool} {lent : List ℕ} {at : ℕ} where
+  pub begun : (k : ℕ) → ((g : List Production) → GrammarIs s g → part g ≡ gather 0 k (f g)) → Left s part f 0 k write lent at lent at
+  begun k e = record {
+    same = λ g h. ap (λ (z : List (List ℕ)). put write lent at (listBytes z)) (sym (e g h));
+    long = λ g h. ap (λ (z : List (List ℕ)). at + length (listBytes z)) (sym (e g h));
+  }
+
+  stepped : {i k n r room : ℕ} {mid after : List ℕ} → Left s part f i (suc k) write lent at mid n → PartPut s (λ g. f g i) room write mid n after r → Left s part f (suc i) k write lent at after r
+  stepped {i} {k} {n} {r} {room} {mid} {after} l p = record {
+    same = λ g h. rw (p .is g h .next, p .is g h .left) (put-append write mid n (listBytes (f g i)) (listBytes (gather (suc i) k (f g))) ∙ rw (sym (bytes-append (f g i) (gather (suc i) k (f g)))) (l .same g h));
+    long = λ g h. omega (arith, p .is g h .next, l .long g h, ap length (bytes-append (f g i) (gather (suc i) k (f g))), length-append (listBytes (f g i)) (listBytes (gather (suc i) k (f g))));
+  }
+
+  pub step : (k i : ℕ) {n r room : ℕ} {mid after : List ℕ} → i < k → Left s part f i (k - i) write lent at mid n → PartPut s (λ g. f g i) room write mid n after r → Left s part f (i + 1) (k - (i + 1)) write lent at after r
+  step k i h l p =
+      let e : k - i ≡ suc (k - suc i) = omega arith in
+      rw add-one (stepped (rw e at l) p)
+
+  pub done : (k i : ℕ) {n : ℕ} {mid : List ℕ} → k ≤ i → Left s part f i (k - i) write lent at mid n → (g : List Production) → GrammarIs s g → PutAs write lent at (listBytes (part g)) mid n
+  done k i {n} {mid} h l g j =
+      let e : k - i ≡ 0 = omega arith in
+      let same : put write mid n [] ≡ put write lent at (listBytes (part g)) = rw e at (l .same g j) in
+      let long : n + 0 ≡ at + length (listBytes (part g)) = rw e at (l .long g j) in
+      record { next = omega (arith, long); left = sym (put-none write mid n) ∙ same }
+
+-- a loop's invariant: i of k turns are done, each put at most `unit` bytes, the list is as long as lent, and the rest is left
+abbrev pub Loop : (s : List ℕ) (part : List Production → List (List ℕ)) (f : List Production → ℕ → List (List ℕ)) (k unit : ℕ) (write : Bool) (lent : List ℕ) (at : ℕ) (mid : List ℕ) (n i : ℕ) → Type 0
+Loop s part f k unit write lent at mid n i = (i ≤ k) × (at ≤ n) × (n ≤ at + unit * i) × (length mid ≡ length lent) × Left s part f i (k - i) write lent at mid n
+
+module _ {s : List ℕ} {part : List Production → List (List ℕ)} {f : List Production → ℕ → List (List ℕ)} {write : Bool} {lent : List ℕ} {at : ℕ} where
+  pub loop-begun : (k unit : ℕ) → ((g : List Production) → GrammarIs s g → part g ≡ gather 0 k (f g)) → Loop s part f k unit write lent at lent at 0
+  loop-begun k unit e = let z : k - 0 ≡ k = omega arith in (omega arith, omega arith, omega arith, refl, rw z (begun k e))
+
+  pub loop-on : (k unit i : ℕ) {n r : ℕ} {mid after : List ℕ} → i < k → Loop s part f k unit write lent at mid n i → PartPut s (λ g. f g i) unit write mid n after r → length after ≡ length mid →
+      Loop s part f k unit write lent at after r (i + 1)
+  loop-on k unit i h v p e =
+      let m : unit * (i + 1) ≡ unit * i + unit = rw (add-one, mul-suc) (omega arith) in
+      (omega arith, omega (arith, p .low, v .1), omega (arith, p .high, v .2, m), e ∙ v .3, step k i h (v .4) p)
+
+  pub loop-done : (k unit i room : ℕ) {n : ℕ} {mid : List ℕ} → k ≤ i → unit * i ≤ room → Loop s part f k unit write lent at mid n i → PartPut s part room write lent at mid n
+  loop-done k unit i room h u v = record { low = v .1; high = omega (arith, v .2, u); is = done k i h (v .4) }
+
+-- two productions or more are alike, or not
+module _ {s : List ℕ} {m t r : ℕ} (a : AlikeIs s m t r) where
+  pub alike-few : r < 2 → (g : List Production) → GrammarIs s g → leb 2 (alike g m t) ≡ false
+  alike-few h g i = lt-leb 2 (alike g m t) (omega (arith, alike-of-grammar s m t g i r a))
+
+  pub alike-two : 2 ≤ r → (g : List Production) → GrammarIs s g → leb 2 (alike g m t) ≡ true
+  alike-two h g i = le-leb 2 (alike g m t) (omega (arith, alike-of-grammar s m t g i r a))
+
+-- the productions by number
+pub there : {s : List ℕ} {l : Layout} {q : ℕ} → LaidOut s l → q < l .productions → q < productionCount s
+there d h = omega (arith, d .layout-is .productions-is .is)
+
+content-nth : (g : List Production) (q : ℕ) (d : Production) → Nth g q d → contentIn g q ≡ d .content
+content-nth [] q d n = absurd n
+content-nth (c ∷ g) zero d n = ap (λ (z : Production). z .content) (sym n)
+content-nth (c ∷ g) (suc q) d n = content-nth g q d n
+
+module _ {s : List ℕ} {q : ℕ} (there : q < productionCount s) where
+  pub many-in : {p : ℕ} {x : Symbol} {r : Bool} → ManyIs s q p x r → (g : List Production) → GrammarIs s g → r ≡ isMany (count (tagsOf g) (contentIn g q) p (nextOf x))
+  many-in {p} {x} {r} m g h =
+      let d = nth-there s g h q there in
+      m .is g h (d .0) (d .1) ∙ ap (λ (e : Content). isMany (count (tagsOf g) e p (nextOf x))) (sym (content-nth g q (d .0) (d .1)))
+
+  pub places-in : {r : ℕ} → AtomsIs s q r → (g : List Production) → GrammarIs s g → places (contentIn g q) ≡ r + 1
+  places-in a g h =
+      let d = nth-there s g h q there in
+      let e : atomsOf (contentIn g q) ≡ atomsOf (d .0 .content) = ap atomsOf (content-nth g q (d .0) (d .1)) in
+      omega (arith, e, a .is g h (d .0) (d .1))
+
+-- the S faults are gathered over the productions' numbers
+s-from : (n : ℕ) (tags : ℕ → List ℕ) (g ds : List Production) (q : ℕ) → ((j : ℕ) → contentIn g (q + j) ≡ contentIn ds j) →
+    sFaultsFrom n tags q ds ≡ gather q (length ds) (λ k. sFaultsOf n tags k (contentIn g k))
+s-from n tags g [] q h = refl
+s-from n tags g (d ∷ ds) q h =
+    let here : contentIn g q ≡ d .content = ap (contentIn g) (sym (add-zero q)) ∙ h 0 in
+    let later = s-from n tags g ds (suc q) (λ j. let e : suc q + j ≡ q + suc j = omega arith in ap (contentIn g) e ∙ h (suc j)) in
+    rw (here, later)
+
+pub s-gathered : (s : List ℕ) (n : ℕ) (g : List Production) → GrammarIs s g → sFaultsFrom n (tagsOf g) 0 g ≡ gather 0 (productionCount s) (λ q. sFaultsOf n (tagsOf g) q (contentIn g q))
+s-gathered s n g h =
+    s-from n (tagsOf g) g g 0 (λ j. ap (contentIn g) (zero-add j))
+    ∙ ap (λ (k : ℕ). gather 0 k (λ q. sFaultsOf n (tagsOf g) q (contentIn g q))) (length-grammar s g h)

@@ -1,0 +1,35 @@
+-- A part of the list of faults, put into the lent list from an offset on: what such a pass answers and leaves. Assumes nothing.
+use mathlib.Core.List.{List, [], _∷_}
+use mathlib.Core.Bool.{Bool}
+use mathlib.Core.Path.{_≡_}
+use Prim.Native.Nat.{ℕ, zero, suc, _+_, _≤_}
+use lib.ListN.{length}
+use Rattle.expressions.specs.Expr.{Content, nothing}
+use Rattle.expressions.specs.Grammar.{Production, tag}
+use Rattle.expressions.specs.FaultList.{listBytes}
+use Rattle.expressions.specs.Listed.{gather, sFaultAt, tFaults, faultList}
+use Rattle.layout.specs.Layout.{tagCount}
+use Rattle.lent.specs.Put.{PutAs}
+use Rattle.trees.specs.GrammarAt.{GrammarIs}
+use Rattle.faults.specs.declared.Ends.{Ends}
+
+-- production q's expression
+abbrev pub contentIn : List Production → ℕ → Content
+contentIn [] q = nothing
+contentIn (d ∷ ds) zero = d .content
+contentIn (d ∷ ds) (suc q) = contentIn ds q
+
+-- the S faults at a place where a tag is next
+abbrev pub sByTag : ℕ → (ℕ → List ℕ) → Content → ℕ → ℕ → List (List ℕ)
+sByTag n tags e q p = gather 0 n (λ t. sFaultAt tags e q p (tag t))
+
+-- the part that the sheet's grammar has is put from `at` on, in at most `room` bytes; r is where the next byte goes
+pub record PartPut (s : List ℕ) (part : List Production → List (List ℕ)) (room : ℕ) (write : Bool) (lent : List ℕ) (at : ℕ) (after : List ℕ) (r : ℕ) : Type 0 where
+  pub low : at ≤ r
+  pub high : r ≤ at + room
+  pub is : (g : List Production) → GrammarIs s g → PutAs write lent at (listBytes (part g)) after r
+
+-- all faults are put from the list's start on, those of rule T first
+pub record AllPut (s : List ℕ) (write : Bool) (lent after : List ℕ) (r : Ends) : Type 0 where
+  pub t-is : (g : List Production) → GrammarIs s g → r .t ≡ length (listBytes (tFaults (tagCount s) g))
+  pub all-is : (g : List Production) → GrammarIs s g → PutAs write lent 0 (listBytes (faultList (tagCount s) g)) after (r .all)

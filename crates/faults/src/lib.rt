@@ -1,0 +1,290 @@
+// The checker: a rule sheet's bytes and a lent list in; a number of the table, the count of the faults and the list of them out.
+ghost use mathlib.Core.Path.{_≡_};
+ghost use mathlib.Core.List.{[], _∷_};
+ghost use Prim.Native.Nat.{_+_, _<_, _≤_, _^_};
+ghost use Rattle.expressions.specs.Grammar.{tagsOf};
+ghost use Rattle.expressions.specs.Listed.{tFaultAt, tFaultsOf, tFaults, sFaultAt, sFaultsAt, sFaultsOf, sFaultsFrom};
+ghost use Rattle.lent.specs.Put.{PutAs};
+ghost use Rattle.layout.specs.Layout.{tagCount};
+ghost use Rattle.layout.specs.LaidOut.{LaidOut};
+ghost use Rattle.trees.specs.Symbol.{nextOf, symbolByte};
+ghost use Rattle.sheet.specs.Defect.{WellFormed};
+ghost use Rattle.faults.specs.Part.{contentIn, sByTag, PartPut, AllPut};
+ghost use Rattle.faults.specs.Checked.{CheckedAs};
+use layout::Layout;
+use layout::layout_of;
+use lent::put_bytes;
+use sheet::defect;
+use trees::Symbol;
+use trees::alike;
+use trees::atoms_of;
+use trees::many_at;
+
+// The number of the table, and how many faults there are.
+pub struct Checked {
+    pub number: u8,
+    pub count: usize,
+}
+
+// Nonterminals are 0 to 63.
+const NONTERMINALS: usize = 64;
+
+// An entry of the list is four bytes.
+const ENTRY: usize = 4;
+
+// Puts one entry. Each function below that puts entries writes none of them in a dry run, and answers where the next byte goes.
+fn put_entry(
+    list: &mut [u8],
+    at: usize,
+    rule: u8,
+    first: usize,
+    second: usize,
+    third: usize,
+    write: bool,
+) -> usize
+    requires { ⌜ at + 4 < 2 ^ 64 ⌝ }
+    requires { ⌜ first < 256 ⌝ }
+    requires { ⌜ second < 256 ⌝ }
+    requires { ⌜ third < 256 ⌝ }
+    ensures { λ r. ⌜ PutAs write (now (list .entry)) at (rule ∷ first ∷ second ∷ third ∷ []) (now (list .exit)) r ⌝ }
+{
+    let entry = [rule, first as u8, second as u8, third as u8];
+    put_bytes(list, at, &entry, write)
+}
+
+// Rule T's fault of nonterminal m and tag t, if two productions share both.
+fn t_fault_at(
+    s: &[u8],
+    l: Layout,
+    list: &mut [u8],
+    at: usize,
+    m: usize,
+    t: usize,
+    write: bool,
+) -> usize
+    requires { ⌜ LaidOut (now s) l ⌝ }
+    requires { ⌜ at + 4 < 2 ^ 64 ⌝ }
+    requires { ⌜ m < 256 ⌝ }
+    requires { ⌜ t < 256 ⌝ }
+    ensures { λ r. ⌜ PartPut (now (s .entry)) (λ g. tFaultAt g m t) 4 write (now (list .entry)) at (now (list .exit)) r ⌝ }
+{
+    if alike(s, l, m, t) < 2 {
+        return at;
+    }
+    put_entry(list, at, 8, m, t, 0, write)
+}
+
+// The T faults of nonterminal m.
+fn t_faults_of(s: &[u8], l: Layout, list: &mut [u8], at: usize, m: usize, write: bool) -> usize
+    requires { ⌜ LaidOut (now s) l ⌝ }
+    requires { ⌜ at + 256 < 2 ^ 64 ⌝ }
+    requires { ⌜ m < 256 ⌝ }
+    ensures { λ r. ⌜ PartPut (now (s .entry)) (λ g. tFaultsOf (tagCount (now (s .entry))) g m) 256 write (now (list .entry)) at (now (list .exit)) r ⌝ }
+{
+    let mut n = at;
+    let mut t = 0;
+    while t < l.tags {
+        n = t_fault_at(s, l, list, n, m, t, write);
+        t += 1;
+    }
+    n
+}
+
+// All T faults.
+fn t_faults(s: &[u8], l: Layout, list: &mut [u8], at: usize, write: bool) -> usize
+    requires { ⌜ LaidOut (now s) l ⌝ }
+    requires { ⌜ at + 16384 < 2 ^ 64 ⌝ }
+    ensures { λ r. ⌜ PartPut (now (s .entry)) (λ g. tFaults (tagCount (now (s .entry))) g) 16384 write (now (list .entry)) at (now (list .exit)) r ⌝ }
+{
+    let mut n = at;
+    let mut m = 0;
+    while m < NONTERMINALS {
+        n = t_faults_of(s, l, list, n, m, write);
+        m += 1;
+    }
+    n
+}
+
+// A next symbol's byte in an entry.
+fn symbol_byte(x: Symbol) -> usize
+    ensures { λ r. ⌜ r ≡ symbolByte x ⌝ }
+{
+    match x {
+        Symbol::Tag(t) => t,
+        Symbol::Character => 254,
+        Symbol::End => 255,
+    }
+}
+
+// Rule S's fault at place p of production q, with the next symbol x, if there is one.
+fn s_fault_at(
+    s: &[u8],
+    l: Layout,
+    list: &mut [u8],
+    at: usize,
+    q: usize,
+    p: usize,
+    x: Symbol,
+    write: bool,
+) -> usize
+    requires { ⌜ LaidOut (now s) l ⌝ }
+    requires { ⌜ WellFormed (now s) ⌝ }
+    requires { ⌜ at + 4 < 2 ^ 64 ⌝ }
+    requires { ⌜ q < l .productions ⌝ }
+    requires { ⌜ p < 256 ⌝ }
+    requires { ⌜ symbolByte x < 256 ⌝ }
+    ensures { λ r. ⌜ PartPut (now (s .entry)) (λ g. sFaultAt (tagsOf g) (contentIn g q) q p (nextOf x)) 4 write (now (list .entry)) at (now (list .exit)) r ⌝ }
+{
+    if many_at(s, l, q, p, x) {
+        let next = symbol_byte(x);
+        return put_entry(list, at, 9, q, p, next, write);
+    }
+    at
+}
+
+// The S faults at a place with a tag next.
+fn s_faults_by_tag(
+    s: &[u8],
+    l: Layout,
+    list: &mut [u8],
+    at: usize,
+    q: usize,
+    p: usize,
+    write: bool,
+) -> usize
+    requires { ⌜ LaidOut (now s) l ⌝ }
+    requires { ⌜ WellFormed (now s) ⌝ }
+    requires { ⌜ at + 256 < 2 ^ 64 ⌝ }
+    requires { ⌜ q < l .productions ⌝ }
+    requires { ⌜ p < 256 ⌝ }
+    ensures { λ r. ⌜ PartPut (now (s .entry)) (λ g. sByTag (tagCount (now (s .entry))) (tagsOf g) (contentIn g q) q p) 256 write (now (list .entry)) at (now (list .exit)) r ⌝ }
+{
+    let mut n = at;
+    let mut t = 0;
+    while t < l.tags {
+        n = s_fault_at(s, l, list, n, q, p, Symbol::Tag(t), write);
+        t += 1;
+    }
+    n
+}
+
+// The S faults at a place: a tag, a character or the end is next.
+fn s_faults_at(
+    s: &[u8],
+    l: Layout,
+    list: &mut [u8],
+    at: usize,
+    q: usize,
+    p: usize,
+    write: bool,
+) -> usize
+    requires { ⌜ LaidOut (now s) l ⌝ }
+    requires { ⌜ WellFormed (now s) ⌝ }
+    requires { ⌜ at + 264 < 2 ^ 64 ⌝ }
+    requires { ⌜ q < l .productions ⌝ }
+    requires { ⌜ p < 256 ⌝ }
+    ensures { λ r. ⌜ PartPut (now (s .entry)) (λ g. sFaultsAt (tagCount (now (s .entry))) (tagsOf g) (contentIn g q) q p) 264 write (now (list .entry)) at (now (list .exit)) r ⌝ }
+{
+    let tags = s_faults_by_tag(s, l, list, at, q, p, write);
+    let character = s_fault_at(s, l, list, tags, q, p, Symbol::Character, write);
+    s_fault_at(s, l, list, character, q, p, Symbol::End, write)
+}
+
+// The S faults of production q.
+fn s_faults_of(s: &[u8], l: Layout, list: &mut [u8], at: usize, q: usize, write: bool) -> usize
+    requires { ⌜ LaidOut (now s) l ⌝ }
+    requires { ⌜ WellFormed (now s) ⌝ }
+    requires { ⌜ at + 8712 < 2 ^ 64 ⌝ }
+    requires { ⌜ q < l .productions ⌝ }
+    ensures { λ r. ⌜ PartPut (now (s .entry)) (λ g. sFaultsOf (tagCount (now (s .entry))) (tagsOf g) q (contentIn g q)) 8712 write (now (list .entry)) at (now (list .exit)) r ⌝ }
+{
+    let atoms = atoms_of(s, l, q);
+    let mut n = at;
+    let mut p = 0;
+    while p <= atoms {
+        n = s_faults_at(s, l, list, n, q, p, write);
+        p += 1;
+    }
+    n
+}
+
+// All S faults.
+fn s_faults(s: &[u8], l: Layout, list: &mut [u8], at: usize, write: bool) -> usize
+    requires { ⌜ LaidOut (now s) l ⌝ }
+    requires { ⌜ WellFormed (now s) ⌝ }
+    requires { ⌜ at + 557568 < 2 ^ 64 ⌝ }
+    ensures { λ r. ⌜ PartPut (now (s .entry)) (λ g. sFaultsFrom (tagCount (now (s .entry))) (tagsOf g) 0 g) 557568 write (now (list .entry)) at (now (list .exit)) r ⌝ }
+{
+    let mut n = at;
+    let mut q = 0;
+    while q < l.productions {
+        n = s_faults_of(s, l, list, n, q, write);
+        q += 1;
+    }
+    n
+}
+
+// Where the T faults end in the list, and where all faults do.
+struct Ends {
+    t: usize,
+    all: usize,
+}
+
+// All faults, those of rule T first.
+fn list_faults(s: &[u8], l: Layout, list: &mut [u8], write: bool) -> Ends
+    requires { ⌜ LaidOut (now s) l ⌝ }
+    requires { ⌜ WellFormed (now s) ⌝ }
+    ensures { λ r. ⌜ AllPut (now (s .entry)) write (now (list .entry)) (now (list .exit)) r ⌝ }
+{
+    let t = t_faults(s, l, list, 0, write);
+    let all = s_faults(s, l, list, t, write);
+    Ends { t: t, all: all }
+}
+
+// The faults of a well-formed sheet: a dry pass counts them, and they are listed only where the lent list holds them all.
+fn check_faults(s: &[u8], l: Layout, list: &mut [u8]) -> Checked
+    requires { ⌜ LaidOut (now s) l ⌝ }
+    requires { ⌜ WellFormed (now s) ⌝ }
+    ensures { λ r. ⌜ CheckedAs (now (s .entry)) (now (list .entry)) (now (list .exit)) r ⌝ }
+{
+    let ends = list_faults(s, l, list, false);
+    let count = ends.all / ENTRY;
+    if ends.all == 0 {
+        return Checked {
+            number: 0,
+            count: count,
+        };
+    }
+    if list.len() < ends.all {
+        return Checked {
+            number: 10,
+            count: count,
+        };
+    }
+    list_faults(s, l, list, true);
+    if ends.t == 0 {
+        return Checked {
+            number: 9,
+            count: count,
+        };
+    }
+    Checked {
+        number: 8,
+        count: count,
+    }
+}
+
+// Tests a sheet: numbers 0 to 10. With 8 and 9 the list's faults stand at its start; with any other number it is as lent.
+pub fn check(sheet: &[u8], list: &mut [u8]) -> Checked
+    ensures { λ r. ⌜ CheckedAs (now (sheet .entry)) (now (list .entry)) (now (list .exit)) r ⌝ }
+{
+    let number = defect(sheet);
+    if number > 0 {
+        return Checked {
+            number: number,
+            count: 0,
+        };
+    }
+    let l = layout_of(sheet);
+    check_faults(sheet, l, list)
+}
