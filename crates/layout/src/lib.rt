@@ -28,6 +28,7 @@ fn wide(x: u8) -> usize
     x as usize
 }
 
+// The byte at i, as a number that indices can be reckoned with.
 pub fn byte_at(s: &[u8], i: usize) -> usize
     requires { ⌜ i < length (now s) ⌝ }
     ensures { λ r. ⌜ Reads 256 (byteAt (now (s .entry)) i) r ⌝ }
@@ -35,6 +36,7 @@ pub fn byte_at(s: &[u8], i: usize) -> usize
     wide(s[i])
 }
 
+// The number of two bytes, little-endian, at i.
 pub fn word_at(s: &[u8], i: usize) -> usize
     requires { ⌜ i + 1 < length (now s) ⌝ }
     ensures { λ r. ⌜ Reads 65536 (wordAt (now (s .entry)) i) r ⌝ }
@@ -44,6 +46,7 @@ pub fn word_at(s: &[u8], i: usize) -> usize
     low + 256 * high
 }
 
+// The trailer is the last 24 bytes: twelve numbers.
 fn trailer_word(s: &[u8], k: usize) -> usize
     requires { ⌜ 24 ≤ length (now s) ⌝ }
     requires { ⌜ k < 12 ⌝ }
@@ -52,6 +55,7 @@ fn trailer_word(s: &[u8], k: usize) -> usize
     word_at(s, s.len() - 24 + 2 * k)
 }
 
+// Where the trailer says that the parts lie.
 pub fn layout_of(s: &[u8]) -> Layout
     requires { ⌜ 24 ≤ length (now s) ⌝ }
     ensures { λ r. ⌜ LayoutIs (now (s .entry)) r ⌝ }
@@ -79,7 +83,7 @@ fn follows(at: usize, end: usize, count: usize, least: usize, most: usize) -> bo
     (at == end) & ((least <= count) & (count <= most))
 }
 
-// Number 2.
+// Whether the sections lie back to back before the trailer, with counts within their limits, and the mark is there.
 pub fn keeps_sections(s: &[u8], l: Layout) -> bool
     requires { ⌜ LayoutIs (now s) l ⌝ }
     ensures { λ r. ⌜ Tells (Sections (now (s .entry))) r ⌝ }
@@ -149,6 +153,7 @@ fn node_word(s: &[u8], l: Layout, i: usize, k: usize) -> usize
     word_at(s, l.nodes_at + 6 * i + k)
 }
 
+// What the record of production q holds; every reader of the grammar asks by these.
 pub fn nonterminal_of(s: &[u8], l: Layout, q: usize) -> usize
     requires { ⌜ LaidOut (now s) l ⌝ }
     requires { ⌜ q < l .productions ⌝ }
@@ -197,6 +202,7 @@ pub fn second_program_of(s: &[u8], l: Layout, q: usize) -> usize
     production_word(s, l, q, 8)
 }
 
+// What the record of node i holds.
 pub fn kind_of(s: &[u8], l: Layout, i: usize) -> usize
     requires { ⌜ LaidOut (now s) l ⌝ }
     requires { ⌜ i < l .nodes ⌝ }

@@ -13,7 +13,7 @@ use Rattle.sheet.specs.Tags.{Tags}
 use Rattle.sheet.specs.Productions.{Productions}
 use Rattle.sheet.specs.Fields.{Programs}
 use Rattle.sheet.specs.Grounded.{Grounded}
-use Rattle.sheet.specs.Defect.{DefectIs, well-formed, its-size, its-sections, a-tag, a-production, a-tree, a-program, not-grounded}
+use Rattle.sheet.specs.Defect.{WellFormed, DefectIs, well-formed, its-size, its-sections, a-tag, a-production, a-tree, a-program, not-grounded}
 
 -- later productions only add nodes
 nodes-rise : (s : List ℕ) (q n : ℕ) → nodesBefore s q ≤ nodesBefore s (q + n)
@@ -60,3 +60,14 @@ pub one-defect : {s : List ℕ} {m n : ℕ} → DefectIs s m → DefectIs s n �
 one-defect d e =
     one-step (steps d) (steps e)
     (λ d e. one-step d e (λ d e. one-step d e (λ d e. one-step d e (λ d e. one-step d e (λ d e. one-step d e (λ d e. one-step d e (λ x y. x ∙ sym y)))))))
+
+-- the number 0 says that the sheet is well-formed
+pub no-defect : {s : List ℕ} {n : ℕ} → DefectIs s n → n ≡ 0 → WellFormed s
+no-defect (well-formed w) e = w
+no-defect (its-size a) e = absurd (omega arith)
+no-defect (its-sections z a) e = absurd (omega arith)
+no-defect (a-tag z p a) e = absurd (omega arith)
+no-defect (a-production z p t a) e = absurd (omega arith)
+no-defect (a-tree z p t q a) e = absurd (omega arith)
+no-defect (a-program z p t q r a) e = absurd (omega arith)
+no-defect (not-grounded z p t q r g a) e = absurd (omega arith)

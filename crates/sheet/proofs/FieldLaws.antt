@@ -9,7 +9,7 @@ use lib.ListN.{length, take, drop}
 use Rattle.programs.specs.Program.{Program}
 use Rattle.tells.specs.Tells.{Tells, holds, fails}
 use Rattle.layout.specs.Layout.{wordAt, tagCount, productionCount, nodeCount, programsIn, stringsIn, programLength, stringLength}
-use Rattle.layout.specs.Records.{productionAt, nodeAt}
+use Rattle.layout.specs.Records.{productionAt, firstProgramOf, secondProgramOf, nodeAt, firstProgramOfNode, secondProgramOfNode}
 use Rattle.layout.specs.LaidOut.{LaidOut}
 use Rattle.layout.specs.declared.Layout.{Layout}
 use Rattle.sheet.specs.Fields.{Visits, FieldsAre, Programs}
@@ -30,10 +30,10 @@ named-told tags strings section one two f x y =
 
 -- the fields of a production and of a node, as their records have them
 abbrev pub EachProductionNamed : List ℕ → Type 0
-EachProductionNamed s = (q : ℕ) → q < productionCount s → Named (tagCount s) (stringsIn s) (programsIn s) (wordAt s (productionAt s q + 6)) (wordAt s (productionAt s q + 8))
+EachProductionNamed s = (q : ℕ) → q < productionCount s → Named (tagCount s) (stringsIn s) (programsIn s) (firstProgramOf s q) (secondProgramOf s q)
 
 abbrev pub EachNodeNamed : List ℕ → Type 0
-EachNodeNamed s = (i : ℕ) → i < nodeCount s → Named (tagCount s) (stringsIn s) (programsIn s) (wordAt s (nodeAt s i + 2)) (wordAt s (nodeAt s i + 4))
+EachNodeNamed s = (i : ℕ) → i < nodeCount s → Named (tagCount s) (stringsIn s) (programsIn s) (firstProgramOfNode s i) (secondProgramOfNode s i)
 
 pub programs-from : (s : List ℕ) → Filled (tagCount s) (stringsIn s) (programsIn s) → EachProductionNamed s → EachNodeNamed s → Programs s
 programs-from s f p n = record { programs = f .0; fill = f .1; of-productions = λ q h. p q h (f .0) (f .1); of-nodes = λ i h. n i h (f .0) (f .1) }
@@ -46,10 +46,10 @@ module _ (s : List ℕ) (h : Programs s) where
   other one two w ps g = subst (λ (qs : List Program). (v : Visits) × FieldsAre qs one two v) (one-filling (tagCount s) (stringsIn s) (programsIn s) (h .programs) ps (h .fill) g) w
 
   pub productions-named : EachProductionNamed s
-  productions-named q b = other (wordAt s (productionAt s q + 6)) (wordAt s (productionAt s q + 8)) (h .of-productions q b)
+  productions-named q b = other (firstProgramOf s q) (secondProgramOf s q) (h .of-productions q b)
 
   pub nodes-named : EachNodeNamed s
-  nodes-named i b = other (wordAt s (nodeAt s i + 2)) (wordAt s (nodeAt s i + 4)) (h .of-nodes i b)
+  nodes-named i b = other (firstProgramOfNode s i) (secondProgramOfNode s i) (h .of-nodes i b)
 
 named-at :
     {t t′ x x′ y y′ : ℕ} {a a′ b b′ : List ℕ} → t ≡ t′ → a ≡ a′ → b ≡ b′ → x ≡ x′ → y ≡ y′ → Named t a b x y → Named t′ a′ b′ x′ y′

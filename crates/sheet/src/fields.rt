@@ -8,6 +8,7 @@ ghost use Rattle.programs.specs.Parsed.{Filled};
 ghost use Rattle.sheet.specs.Fields.{Programs};
 ghost use Rattle.sheet.specs.FieldTests.{Named, EachNamed};
 
+// Whether two fields, of a first and of a second visit, name a program each that the visit may hold, or none.
 fn both_named(section: &[u8], tags: usize, strings: &[u8], one: usize, two: usize) -> bool
     requires { ⌜ Filled tags (now strings) (now section) ⌝ }
     ensures { λ r. ⌜ Tells (Named tags (now (strings .entry)) (now (section .entry)) one two) r ⌝ }
@@ -43,6 +44,7 @@ fn each_named(
     true
 }
 
+// Whether programs fill their section, and each field of a production and of a node names one, or none.
 pub fn programs_fit(s: &[u8], l: Layout) -> bool
     requires { ⌜ LaidOut (now s) l ⌝ }
     ensures { λ r. ⌜ Tells (Programs (now (s .entry))) r ⌝ }

@@ -4,6 +4,7 @@ ghost use Rattle.tells.specs.Tells.{Tells};
 ghost use Rattle.layout.specs.LaidOut.{LaidOut};
 ghost use Rattle.sheet.specs.Grounded.{Produced, Grounded};
 
+// Whether a production is of nonterminal n.
 fn produced(s: &[u8], l: Layout, n: usize) -> bool
     requires { ⌜ LaidOut (now s) l ⌝ }
     ensures { λ r. ⌜ Tells (Produced (now (s .entry)) n) r ⌝ }
@@ -19,6 +20,7 @@ fn produced(s: &[u8], l: Layout, n: usize) -> bool
     false
 }
 
+// Whether one is of the start, and one of each nonterminal that is an atom.
 pub fn grounded(s: &[u8], l: Layout) -> bool
     requires { ⌜ LaidOut (now s) l ⌝ }
     ensures { λ r. ⌜ Tells (Grounded (now (s .entry))) r ⌝ }

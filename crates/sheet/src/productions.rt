@@ -7,6 +7,7 @@ ghost use Rattle.layout.specs.Records.{nodesBefore};
 ghost use Rattle.layout.specs.LaidOut.{LaidOut};
 ghost use Rattle.sheet.specs.Productions.{ProductionFits, Productions};
 
+// Whether production q is as it should be, where `before` nodes belong to those before it.
 fn production_fits(s: &[u8], l: Layout, q: usize, before: usize) -> bool
     requires { ⌜ LaidOut (now s) l ⌝ }
     requires { ⌜ q < l .productions ⌝ }
@@ -21,6 +22,7 @@ fn production_fits(s: &[u8], l: Layout, q: usize, before: usize) -> bool
     (names & run) & (five & (ten & eleven))
 }
 
+// Whether each production is, their runs use every node, and the start is a nonterminal.
 pub fn productions_fit(s: &[u8], l: Layout) -> bool
     requires { ⌜ LaidOut (now s) l ⌝ }
     ensures { λ r. ⌜ Tells (Productions (now (s .entry))) r ⌝ }

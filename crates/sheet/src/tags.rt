@@ -10,6 +10,7 @@ ghost use Rattle.layout.specs.LaidOut.{LaidOut};
 ghost use Rattle.sheet.specs.Tags.{Tags};
 ghost use Rattle.sheet.specs.TagTests.{Spells, New};
 
+// The name after its first byte.
 fn all_name(f: &[u8]) -> bool
     ensures { λ r. ⌜ Tells (All nameByte (now (f .entry))) r ⌝ }
 {
@@ -23,6 +24,7 @@ fn all_name(f: &[u8]) -> bool
     true
 }
 
+// The fill after the name.
 fn all_zero(f: &[u8]) -> bool
     ensures { λ r. ⌜ Tells (now (f .entry) ≡ replicate (length (now (f .entry))) 0) r ⌝ }
 {
@@ -52,6 +54,7 @@ fn is_tag(b: &[u8]) -> bool
     text::name_first(b[1]) & (all_name(&b[2..end]) & all_zero(&b[end..]))
 }
 
+// Two tags are the same where their 16 bytes are.
 fn same(a: &[u8], b: &[u8]) -> bool
     requires { ⌜ length (now a) ≡ length (now b) ⌝ }
     ensures { λ r. ⌜ Tells (now (a .entry) ≡ now (b .entry)) r ⌝ }
@@ -86,6 +89,7 @@ fn is_new(s: &[u8], l: Layout, t: usize) -> bool
     true
 }
 
+// Whether each tag has a name, and all are different.
 pub fn tags_fit(s: &[u8], l: Layout) -> bool
     requires { ⌜ LaidOut (now s) l ⌝ }
     ensures { λ r. ⌜ Tells (Tags (now (s .entry))) r ⌝ }
