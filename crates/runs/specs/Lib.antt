@@ -1,0 +1,16 @@
+pub mod Options
+pub mod Characters
+pub mod Execute
+pub mod Lookup
+pub mod Visits
+pub mod Events
+pub mod Parse
+pub mod Acts
+pub mod Way
+pub mod Machine
+pub mod Line
+pub mod Taken
+pub mod Nodes
+pub mod Fits
+pub mod Spells
+pub mod Worked
