@@ -36,7 +36,7 @@ Paths tags A (tag t) = Go tags A (tag t)
 Paths tags A character = Go tags A character
 Paths tags A end = End A
 
-classed-count : (tags : ℕ → List ℕ) (e : Content) (p : ℕ) (x : Next) → Classed (count tags e p x) (Paths tags (Rest e p) x)
+pub classed-count : (tags : ℕ → List ℕ) (e : Content) (p : ℕ) (x : Next) → Classed (count tags e p x) (Paths tags (Rest e p) x)
 classed-count tags e p (tag t) = counted-rest tags e p .goes (tag t)
 classed-count tags e p character = counted-rest tags e p .goes character
 classed-count tags e p end = counted-rest tags e p .ends
@@ -55,7 +55,7 @@ rest-of (tree e) (suc p) u w h a =
     word-after e 1 1 (suc p) (h .1) (u ++ w) (h .0) w a eq
 
 -- and one beginning goes with all that can come after the place
-begin : (e : Content) (p : ℕ) (w : Text) → Rest e p w → (u : Text) × UpTo p u × ((w′ : Text) → Rest e p w′ → Words e (u ++ w′))
+pub begin : (e : Content) (p : ℕ) (w : Text) → Rest e p w → (u : Text) × UpTo p u × ((w′ : Text) → Rest e p w′ → Words e (u ++ w′))
 begin nothing zero w a = ([], refl, λ w′ b. b)
 begin nothing (suc p) w a = absurd a
 begin (tree e) zero w a = ([], refl, λ w′ b. b)
@@ -112,7 +112,7 @@ pub fault-iff : (tags : ℕ → List ℕ) (e : Content) (p : ℕ) (x : Next) →
 fault-iff tags e p x = (fault-many tags e p x, many-fault tags e p x)
 
 -- where there is no fault, the place and the next symbol alone decide the bracket string
-one-way : (P : Strings) (n : Count) → Classed n P → (n ≡ many → ⊥) → (α β : Str) → P α → P β → α ≡ β
+pub one-way : (P : Strings) (n : Count) → Classed n P → (n ≡ many → ⊥) → (α β : Str) → P α → P β → α ≡ β
 one-way P none c d α β a b = absurd (c α a)
 one-way P one c d α β a b = c .2 α a ∙ sym (c .2 β b)
 one-way P many c d α β a b = absurd (d refl)

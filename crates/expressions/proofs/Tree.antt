@@ -83,7 +83,7 @@ pub word-starts : (e : Exp) (i j : ℕ) (w : Text) → Word e i j w → (m : Tex
 word-starts e i j w a = shape-starts i w (word-shape e i j w a)
 
 -- every expression has a word
-some-word : (e : Exp) (i j : ℕ) → (w : Text) × Word e i j w
+pub some-word : (e : Exp) (i j : ℕ) → (w : Text) × Word e i j w
 some-word (atom k) i j = (_, within _ only)
 some-word (cat l r) i j = (_, within _ (both _ _ (some-word l _ _ .1) (some-word r _ _ .1)))
 some-word (alt l r) i j = (_, within _ (left (some-word l _ _ .1)))
@@ -218,7 +218,7 @@ append-split (a ∷ u₁) u₂ (b ∷ u) q s e =
     let h : a ≡ b = cc in
     ⊎-elim (λ i. inl (i .0, (cc (h, i .1)), i .2)) (λ i. inr i) (append-split u₁ u₂ u q s t)
 
-no-atom : (c : Bracket) (u : Text) (p : ℕ) (k : Atom) (s : Text) → br c ∷ [] ≡ u ++ at p k ∷ s → ⊥
+pub no-atom : (c : Bracket) (u : Text) (p : ℕ) (k : Atom) (s : Text) → br c ∷ [] ≡ u ++ at p k ∷ s → ⊥
 no-atom c [] p k s e = let z : _≡_ {A = ℕ} 0 1 = cc in omega arith
 no-atom c (a ∷ []) p k s e = let z : _≡_ {A = ℕ} 0 1 = cc in omega arith
 no-atom c (a ∷ b ∷ u) p k s e = let z : _≡_ {A = ℕ} 0 1 = cc in omega arith

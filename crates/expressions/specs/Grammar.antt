@@ -5,7 +5,7 @@ use mathlib.Core.Bool.{Bool, true, false, _||_}
 use mathlib.Core.List.{List, [], _∷_, _++_}
 use Prim.Native.Nat.{ℕ, zero, suc, _+_, _≤_, _<_}
 use lib.Dec.{eqb}
-use Rattle.expressions.specs.Expr.{Atom, nonterminal, anychar, Content, nodesOf}
+use Rattle.expressions.specs.Expr.{Atom, nonterminal, anychar, Content, nothing, nodesOf}
 
 pub record Production : Type 0 where
   pub nonterm : ℕ
@@ -22,6 +22,12 @@ abbrev pub Nth : List Production → ℕ → Production → Type 0
 Nth [] q d = ⊥
 Nth (d′ ∷ ds) zero d = d ≡ d′
 Nth (d′ ∷ ds) (suc q) d = Nth ds q d
+
+-- production q's expression
+abbrev pub contentOf : List Production → ℕ → Content
+contentOf [] q = nothing
+contentOf (d ∷ ds) zero = d .content
+contentOf (d ∷ ds) (suc q) = contentOf ds q
 
 -- the limits that a sheet of n tags sets: tags 0 to n - 1, 64 at most, and nonterminals 0 to 63
 abbrev pub nonterminals : ℕ

@@ -26,7 +26,8 @@ use Rattle.trees.specs.Answers.{AlikeIs, ManyIs, AtomsIs}
 use Rattle.trees.specs.Symbol.{nextOf}
 use Rattle.trees.specs.declared.Symbol.{Symbol}
 use Rattle.trees.proofs.Grammars.{length-grammar, nth-there, alike-of-grammar}
-use Rattle.faults.specs.Part.{contentIn, PartPut}
+use Rattle.expressions.specs.Grammar.{contentOf}
+use Rattle.faults.specs.Part.{PartPut}
 
 -- a part whose entries a test lets in or not
 module _ {s : List ℕ} {write : Bool} {lent : List ℕ} {at : ℕ} where
@@ -119,33 +120,33 @@ module _ {s : List ℕ} {m t r : ℕ} (a : AlikeIs s m t r) where
 pub there : {s : List ℕ} {l : Layout} {q : ℕ} → LaidOut s l → q < l .productions → q < productionCount s
 there d h = omega (arith, d .layout-is .productions-is .is)
 
-content-nth : (g : List Production) (q : ℕ) (d : Production) → Nth g q d → contentIn g q ≡ d .content
+content-nth : (g : List Production) (q : ℕ) (d : Production) → Nth g q d → contentOf g q ≡ d .content
 content-nth [] q d n = absurd n
 content-nth (c ∷ g) zero d n = ap (λ (z : Production). z .content) (sym n)
 content-nth (c ∷ g) (suc q) d n = content-nth g q d n
 
 module _ {s : List ℕ} {q : ℕ} (there : q < productionCount s) where
-  pub many-in : {p : ℕ} {x : Symbol} {r : Bool} → ManyIs s q p x r → (g : List Production) → GrammarIs s g → r ≡ isMany (count (tagsOf g) (contentIn g q) p (nextOf x))
+  pub many-in : {p : ℕ} {x : Symbol} {r : Bool} → ManyIs s q p x r → (g : List Production) → GrammarIs s g → r ≡ isMany (count (tagsOf g) (contentOf g q) p (nextOf x))
   many-in {p} {x} {r} m g h =
       let d = nth-there s g h q there in
       m .is g h (d .0) (d .1) ∙ ap (λ (e : Content). isMany (count (tagsOf g) e p (nextOf x))) (sym (content-nth g q (d .0) (d .1)))
 
-  pub places-in : {r : ℕ} → AtomsIs s q r → (g : List Production) → GrammarIs s g → places (contentIn g q) ≡ r + 1
+  pub places-in : {r : ℕ} → AtomsIs s q r → (g : List Production) → GrammarIs s g → places (contentOf g q) ≡ r + 1
   places-in a g h =
       let d = nth-there s g h q there in
-      let e : atomsOf (contentIn g q) ≡ atomsOf (d .0 .content) = ap atomsOf (content-nth g q (d .0) (d .1)) in
+      let e : atomsOf (contentOf g q) ≡ atomsOf (d .0 .content) = ap atomsOf (content-nth g q (d .0) (d .1)) in
       omega (arith, e, a .is g h (d .0) (d .1))
 
 -- the S faults are gathered over the productions' numbers
-s-from : (n : ℕ) (tags : ℕ → List ℕ) (g ds : List Production) (q : ℕ) → ((j : ℕ) → contentIn g (q + j) ≡ contentIn ds j) →
-    sFaultsFrom n tags q ds ≡ gather q (length ds) (λ k. sFaultsOf n tags k (contentIn g k))
+s-from : (n : ℕ) (tags : ℕ → List ℕ) (g ds : List Production) (q : ℕ) → ((j : ℕ) → contentOf g (q + j) ≡ contentOf ds j) →
+    sFaultsFrom n tags q ds ≡ gather q (length ds) (λ k. sFaultsOf n tags k (contentOf g k))
 s-from n tags g [] q h = refl
 s-from n tags g (d ∷ ds) q h =
-    let here : contentIn g q ≡ d .content = ap (contentIn g) (sym (add-zero q)) ∙ h 0 in
-    let later = s-from n tags g ds (suc q) (λ j. let e : suc q + j ≡ q + suc j = omega arith in ap (contentIn g) e ∙ h (suc j)) in
+    let here : contentOf g q ≡ d .content = ap (contentOf g) (sym (add-zero q)) ∙ h 0 in
+    let later = s-from n tags g ds (suc q) (λ j. let e : suc q + j ≡ q + suc j = omega arith in ap (contentOf g) e ∙ h (suc j)) in
     rw (here, later)
 
-pub s-gathered : (s : List ℕ) (n : ℕ) (g : List Production) → GrammarIs s g → sFaultsFrom n (tagsOf g) 0 g ≡ gather 0 (productionCount s) (λ q. sFaultsOf n (tagsOf g) q (contentIn g q))
+pub s-gathered : (s : List ℕ) (n : ℕ) (g : List Production) → GrammarIs s g → sFaultsFrom n (tagsOf g) 0 g ≡ gather 0 (productionCount s) (λ q. sFaultsOf n (tagsOf g) q (contentOf g q))
 s-gathered s n g h =
-    s-from n (tagsOf g) g g 0 (λ j. ap (contentIn g) (zero-add j))
-    ∙ ap (λ (k : ℕ). gather 0 k (λ q. sFaultsOf n (tagsOf g) q (contentIn g q))) (length-grammar s g h)
+    s-from n (tagsOf g) g g 0 (λ j. ap (contentOf g) (zero-add j))
+    ∙ ap (λ (k : ℕ). gather 0 k (λ q. sFaultsOf n (tagsOf g) q (contentOf g q))) (length-grammar s g h)

@@ -1,10 +1,10 @@
 -- A part of the list of faults, put into the lent list from an offset on: what such a pass answers and leaves. Assumes nothing.
-use mathlib.Core.List.{List, [], _∷_}
+use mathlib.Core.List.{List}
 use mathlib.Core.Bool.{Bool}
 use mathlib.Core.Path.{_≡_}
-use Prim.Native.Nat.{ℕ, zero, suc, _+_, _≤_}
+use Prim.Native.Nat.{ℕ, _+_, _≤_}
 use lib.ListN.{length}
-use Rattle.expressions.specs.Expr.{Content, nothing}
+use Rattle.expressions.specs.Expr.{Content}
 use Rattle.expressions.specs.Grammar.{Production, tag}
 use Rattle.expressions.specs.FaultList.{listBytes}
 use Rattle.expressions.specs.Listed.{gather, sFaultAt, tFaults, faultList}
@@ -12,12 +12,6 @@ use Rattle.layout.specs.Layout.{tagCount}
 use Rattle.lent.specs.Put.{PutAs}
 use Rattle.trees.specs.GrammarAt.{GrammarIs}
 use Rattle.faults.specs.declared.Ends.{Ends}
-
--- production q's expression
-abbrev pub contentIn : List Production → ℕ → Content
-contentIn [] q = nothing
-contentIn (d ∷ ds) zero = d .content
-contentIn (d ∷ ds) (suc q) = contentIn ds q
 
 -- the S faults at a place where a tag is next
 abbrev pub sByTag : ℕ → (ℕ → List ℕ) → Content → ℕ → ℕ → List (List ℕ)

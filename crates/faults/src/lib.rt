@@ -9,7 +9,8 @@ ghost use Rattle.layout.specs.Layout.{tagCount};
 ghost use Rattle.layout.specs.LaidOut.{LaidOut};
 ghost use Rattle.trees.specs.Symbol.{nextOf, symbolByte};
 ghost use Rattle.sheet.specs.Defect.{WellFormed};
-ghost use Rattle.faults.specs.Part.{contentIn, sByTag, PartPut, AllPut};
+ghost use Rattle.expressions.specs.Grammar.{contentOf};
+ghost use Rattle.faults.specs.Part.{sByTag, PartPut, AllPut};
 ghost use Rattle.faults.specs.Checked.{CheckedAs};
 use layout::Layout;
 use layout::layout_of;
@@ -133,7 +134,7 @@ fn s_fault_at(
     requires { ⌜ q < l .productions ⌝ }
     requires { ⌜ p < 256 ⌝ }
     requires { ⌜ symbolByte x < 256 ⌝ }
-    ensures { λ r. ⌜ PartPut (now (s .entry)) (λ g. sFaultAt (tagsOf g) (contentIn g q) q p (nextOf x)) 4 write (now (list .entry)) at (now (list .exit)) r ⌝ }
+    ensures { λ r. ⌜ PartPut (now (s .entry)) (λ g. sFaultAt (tagsOf g) (contentOf g q) q p (nextOf x)) 4 write (now (list .entry)) at (now (list .exit)) r ⌝ }
 {
     if many_at(s, l, q, p, x) {
         let next = symbol_byte(x);
@@ -157,7 +158,7 @@ fn s_faults_by_tag(
     requires { ⌜ at + 256 < 2 ^ 64 ⌝ }
     requires { ⌜ q < l .productions ⌝ }
     requires { ⌜ p < 256 ⌝ }
-    ensures { λ r. ⌜ PartPut (now (s .entry)) (λ g. sByTag (tagCount (now (s .entry))) (tagsOf g) (contentIn g q) q p) 256 write (now (list .entry)) at (now (list .exit)) r ⌝ }
+    ensures { λ r. ⌜ PartPut (now (s .entry)) (λ g. sByTag (tagCount (now (s .entry))) (tagsOf g) (contentOf g q) q p) 256 write (now (list .entry)) at (now (list .exit)) r ⌝ }
 {
     let mut n = at;
     let mut t = 0;
@@ -183,7 +184,7 @@ fn s_faults_at(
     requires { ⌜ at + 264 < 2 ^ 64 ⌝ }
     requires { ⌜ q < l .productions ⌝ }
     requires { ⌜ p < 256 ⌝ }
-    ensures { λ r. ⌜ PartPut (now (s .entry)) (λ g. sFaultsAt (tagCount (now (s .entry))) (tagsOf g) (contentIn g q) q p) 264 write (now (list .entry)) at (now (list .exit)) r ⌝ }
+    ensures { λ r. ⌜ PartPut (now (s .entry)) (λ g. sFaultsAt (tagCount (now (s .entry))) (tagsOf g) (contentOf g q) q p) 264 write (now (list .entry)) at (now (list .exit)) r ⌝ }
 {
     let tags = s_faults_by_tag(s, l, list, at, q, p, write);
     let character = s_fault_at(s, l, list, tags, q, p, Symbol::Character, write);
@@ -196,7 +197,7 @@ fn s_faults_of(s: &[u8], l: Layout, list: &mut [u8], at: usize, q: usize, write:
     requires { ⌜ WellFormed (now s) ⌝ }
     requires { ⌜ at + 8712 < 2 ^ 64 ⌝ }
     requires { ⌜ q < l .productions ⌝ }
-    ensures { λ r. ⌜ PartPut (now (s .entry)) (λ g. sFaultsOf (tagCount (now (s .entry))) (tagsOf g) q (contentIn g q)) 8712 write (now (list .entry)) at (now (list .exit)) r ⌝ }
+    ensures { λ r. ⌜ PartPut (now (s .entry)) (λ g. sFaultsOf (tagCount (now (s .entry))) (tagsOf g) q (contentOf g q)) 8712 write (now (list .entry)) at (now (list .exit)) r ⌝ }
 {
     let atoms = atoms_of(s, l, q);
     let mut n = at;

@@ -15,7 +15,8 @@ use Rattle.expressions.specs.Words.{Bracket}
 use Rattle.expressions.specs.Grammar.{tag, character, Production, tagsOf}
 use Rattle.sheet.specs.Sheet.{Sheet}
 use Rattle.runs.specs.Options.{bind}
-use Rattle.runs.specs.Lookup.{contentOf, tagOf, find}
+use Rattle.expressions.specs.Grammar.{contentOf}
+use Rattle.runs.specs.Lookup.{tagOf, find}
 use Rattle.runs.specs.Visits.{grammar}
 use Rattle.runs.specs.Events.{Event, starts, ends, letter, openTags}
 use Rattle.runs.specs.Parse.{yield, depth}

@@ -13,7 +13,8 @@ use lib.ListN.{length}
 use Rattle.expressions.specs.Expr.{Atom, nonterminal, anychar, Content, nothing, tree}
 use Rattle.expressions.specs.Words.{Bracket, Sym, at, _▷_, Words}
 use Rattle.expressions.specs.Grammar.{tag, character, canBe, Production, tagsOf}
-use Rattle.runs.specs.Lookup.{contentOf, tagOf, produces, find}
+use Rattle.expressions.specs.Grammar.{contentOf}
+use Rattle.runs.specs.Lookup.{tagOf, produces, find}
 use Rattle.runs.specs.Events.{Event, starts, ends, letter}
 use Rattle.runs.specs.Parse.{Element, element, Children, yield, yieldC, depth, depthC}
 use Rattle.runs.specs.Way.{Way}

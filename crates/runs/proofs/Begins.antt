@@ -10,7 +10,8 @@ use lib.ListN.{length}
 use Rattle.expressions.specs.Expr.{nonterminal, anychar}
 use Rattle.expressions.specs.Words.{Sym, br, at, Words}
 use Rattle.expressions.specs.Grammar.{tag, character, Production, tagsOf}
-use Rattle.runs.specs.Lookup.{contentOf, find}
+use Rattle.expressions.specs.Grammar.{contentOf}
+use Rattle.runs.specs.Lookup.{find}
 use Rattle.sheet.specs.Sheet.{Sheet}
 use Rattle.runs.specs.Visits.{grammar}
 use Rattle.runs.specs.Events.{Event, starts, ends, letter}
@@ -21,7 +22,7 @@ use Rattle.runs.specs.Machine.{Open, Control, before, inside, after, Tur
 use Rattle.runs.specs.Line.{Part, mark, filled, lettered, skeleton, depths}
 use Rattle.expressions.proofs.Rule.{Rest}
 use Rattle.runs.proofs.Rules.{NoTFault, NoSFault, no-T, no-S}
-use Rattle.runs.proofs.Expressions.{begin}
+use Rattle.expressions.proofs.Rule.{begin}
 use Rattle.runs.proofs.Ways.{GoesTo, found-atom}
 use Rattle.runs.proofs.Moves.{Moves, stay, then, moves-append, moves-one, refuse-go, go-inj, moves-run}
 use Rattle.runs.proofs.Complete.{AllBody, walk, body, complete}

@@ -15,7 +15,8 @@ use Rattle.expressions.specs.Words.{Bracket, closing, Sym, at, _▷_, Words}
 use Rattle.expressions.specs.Grammar.{Next, tag, character, end, canBe, Production, tagsOf}
 use Rattle.expressions.specs.Fault.{UpTo, Fault}
 use Rattle.expressions.specs.Decide.{count}
-use Rattle.runs.specs.Lookup.{contentOf, tagOf, find}
+use Rattle.expressions.specs.Grammar.{contentOf}
+use Rattle.runs.specs.Lookup.{tagOf, find}
 use Rattle.runs.specs.Events.{Event, starts, ends, letter}
 use Rattle.runs.specs.Parse.{Element, element, Children, childless, children, Parse, child, one-char, pair, first-of, second-of, repeat, void, Parses, done, next, yield, yieldC, depth, depthC}
 use Rattle.runs.specs.Way.{Way, endWay, atomWay}
@@ -26,7 +27,7 @@ use Rattle.expressions.proofs.Strings.{▷-append, ▷-left}
 use Rattle.expressions.proofs.Counted.{End, Go}
 use Rattle.expressions.proofs.Rule.{Rest, rest-of, many-fault}
 use Rattle.runs.proofs.Rules.{NoTFault, NoSFault}
-use Rattle.runs.proofs.Expressions.{classed-count, one-way}
+use Rattle.expressions.proofs.Rule.{classed-count, one-way}
 use Rattle.runs.proofs.Parts.{enclose, flat, flats, flatC, flatC-word, flatC-line, flatC-events, flatC-depth}
 use Rattle.runs.proofs.Ways.{GoesTo, end-found, atom-found}
 use Rattle.runs.proofs.Atoms.{one-atom-each, atom-pos}

@@ -13,7 +13,8 @@ use Rattle.expressions.specs.Expr.{Content}
 use Rattle.expressions.specs.Words.{Bracket, opening, closing}
 use Rattle.expressions.specs.Grammar.{tag, character, Production, tagsOf}
 use Rattle.sheet.specs.Sheet.{Sheet}
-use Rattle.runs.specs.Lookup.{contentOf, find}
+use Rattle.expressions.specs.Grammar.{contentOf}
+use Rattle.runs.specs.Lookup.{find}
 use Rattle.runs.specs.Visits.{Env, Saved, saved, opens, closes, enters, leaves, echoed, grammar}
 use Rattle.output.specs.Escape.{character as output-character}
 use Rattle.runs.specs.Options.{bind}

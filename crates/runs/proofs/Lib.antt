@@ -1,4 +1,3 @@
-pub mod Expressions
 pub mod Rules
 pub mod Find
 pub mod Line

@@ -12,7 +12,7 @@ use lib.ListN.{length}
 use borrow.Author.Tests.{le-leb}
 use Rattle.expressions.specs.Expr.{Atom}
 use Rattle.expressions.specs.Grammar.{tag, Production, tagsOf}
-use Rattle.runs.specs.Lookup.{contentOf}
+use Rattle.expressions.specs.Grammar.{contentOf}
 use Rattle.runs.specs.Events.{Event, starts, ends, letter}
 use Rattle.runs.specs.Way.{Way, atomWay}
 use Rattle.runs.specs.Acts.{Act, bracket-acts, start-tag}

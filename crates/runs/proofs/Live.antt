@@ -6,7 +6,8 @@ use Prim.Native.Nat.{ℕ}
 use Rattle.expressions.specs.Expr.{Atom, Content, nothing, tree}
 use Rattle.expressions.specs.Words.{Bracket, Sym, at, _▷_, only, Words}
 use Rattle.expressions.proofs.Rule.{Rest, rest-of}
-use Rattle.runs.proofs.Expressions.{some-word, begin}
+use Rattle.expressions.proofs.Tree.{some-word}
+use Rattle.expressions.proofs.Rule.{begin}
 use Rattle.runs.proofs.Atoms.{atom-pos}
 use Rattle.runs.proofs.Complete.{past, upTo-past}
 

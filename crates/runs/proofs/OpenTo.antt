@@ -13,7 +13,8 @@ use Rattle.expressions.specs.Expr.{Atom, nonterminal, anychar, Content}
 use Rattle.expressions.specs.Words.{Bracket, Sym, at, _▷_, Words}
 use Rattle.expressions.specs.Grammar.{tag, character, Production, tagsOf}
 use Rattle.expressions.specs.Fault.{UpTo}
-use Rattle.runs.specs.Lookup.{contentOf, tagOf, produces}
+use Rattle.expressions.specs.Grammar.{contentOf}
+use Rattle.runs.specs.Lookup.{tagOf, produces}
 use Rattle.runs.specs.Events.{Event, starts, ends, letter}
 use Rattle.runs.specs.Parse.{element, yieldC}
 use Rattle.runs.specs.Way.{atomWay}

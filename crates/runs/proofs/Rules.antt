@@ -16,7 +16,8 @@ use Rattle.expressions.specs.Grammar.{Production, tagsOf, Nth, Next, tag, chara
 use Rattle.expressions.specs.Fault.{Fault}
 use Rattle.expressions.specs.FaultList.{Has, KeepsT, KeepsS}
 use Rattle.expressions.specs.Decide.{count}
-use Rattle.runs.specs.Lookup.{contentOf, tagOf, produces}
+use Rattle.expressions.specs.Grammar.{contentOf}
+use Rattle.runs.specs.Lookup.{tagOf, produces}
 use Rattle.expressions.proofs.Rule.{fault-many}
 
 abbrev pub NoTFault : List Production → Type 0

@@ -13,7 +13,8 @@ use borrow.Author.Tests.{eqb-true, leb-true}
 use Rattle.expressions.specs.Expr.{Atom, nonterminal, anychar, Content, nothing, tree}
 use Rattle.expressions.specs.Words.{Bracket, Sym, br, at, _▷_, Words}
 use Rattle.expressions.specs.Grammar.{tag, character, Production, tagsOf}
-use Rattle.runs.specs.Lookup.{contentOf, tagOf, find}
+use Rattle.expressions.specs.Grammar.{contentOf}
+use Rattle.runs.specs.Lookup.{tagOf, find}
 use Rattle.runs.specs.Events.{starts, ends, letter}
 use Rattle.runs.specs.Way.{Way, endWay, atomWay}
 use Rattle.runs.specs.Acts.{Act, start-tag, end-tag, letter-read, bracket-act, bracket-acts}

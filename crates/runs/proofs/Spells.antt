@@ -12,7 +12,8 @@ use Rattle.expressions.specs.Expr.{Exp, nodes, Content}
 use Rattle.expressions.specs.Words.{Bracket, opening, closing}
 use Rattle.expressions.specs.Grammar.{Production}
 use Rattle.sheet.specs.Sheet.{Sheet}
-use Rattle.runs.specs.Lookup.{contentOf, tagOf, find}
+use Rattle.expressions.specs.Grammar.{contentOf}
+use Rattle.runs.specs.Lookup.{tagOf, find}
 use Rattle.runs.specs.Visits.{grammar, Env}
 use Rattle.runs.specs.Events.{Event, starts, ends, letter}
 use Rattle.runs.specs.Parse.{Element, element, Children, childless, children, Parse, child, one-char, pair, first-of, second-of, repeat, void, Parses, done, next, yield}

@@ -9,7 +9,7 @@ use Rattle.expressions.specs.Expr.{Atom, Exp, atom, cat, alt, star, empty, node
 use Rattle.expressions.specs.Words.{opening, closing, Sym, br, at, Lang, Only, only, Cat, both, Either, left, right, Star, stop, more, Within, within, Word}
 use Rattle.expressions.proofs.Counted.{Upto, upto}
 use Rattle.expressions.proofs.Tree.{After, word-after, no-both, append-nonempty}
-use Rattle.runs.proofs.Expressions.{no-atom}
+use Rattle.expressions.proofs.Tree.{no-atom}
 
 abbrev Text : Type 0
 Text = List Sym

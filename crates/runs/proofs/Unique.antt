@@ -8,7 +8,8 @@ use native.Mathlib.Omega.{arith}
 use lib.Dec.{T, T-prop}
 use Rattle.expressions.specs.Expr.{Exp, nodes, Content}
 use Rattle.expressions.specs.Grammar.{Production}
-use Rattle.runs.specs.Lookup.{contentOf, produces}
+use Rattle.expressions.specs.Grammar.{contentOf}
+use Rattle.runs.specs.Lookup.{produces}
 use Rattle.runs.specs.Events.{Event}
 use Rattle.runs.specs.Parse.{Element, element, Children, childless, children, Parse, child, one-char, pair, first-of, second-of, repeat, void, Parses, done, next, yield, depth}
 use Rattle.runs.specs.Acts.{Act, node-first, node-second, end-tag, letter-read}

@@ -20,7 +20,7 @@ use Rattle.expressions.proofs.Strings.{▷-append, ▷-left}
 use Rattle.expressions.proofs.Counted.{End, Go, Upto, upto}
 use Rattle.expressions.proofs.Tree.{After}
 use Rattle.expressions.proofs.Rule.{Rest, counted-rest}
-use Rattle.runs.proofs.Expressions.{some-word}
+use Rattle.expressions.proofs.Tree.{some-word}
 
 abbrev Str : Type 0
 Str = List Bracket

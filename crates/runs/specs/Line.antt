@@ -7,7 +7,8 @@ use lib.Dec.{T}
 use Rattle.expressions.specs.Expr.{nonterminal, anychar, Exp, nodes, Content}
 use Rattle.expressions.specs.Words.{Bracket, Sym, br, at, Words}
 use Rattle.expressions.specs.Grammar.{Production}
-use Rattle.runs.specs.Lookup.{contentOf, tagOf, produces}
+use Rattle.expressions.specs.Grammar.{contentOf}
+use Rattle.runs.specs.Lookup.{tagOf, produces}
 use Rattle.runs.specs.Events.{Event, starts, letter}
 use Rattle.runs.specs.Parse.{Element, element, Children, childless, children, Parse, child, one-char, pair, first-of, second-of, repeat, void, Parses, done, next, yield, depth}
 use Rattle.runs.specs.Acts.{Act, node-first, node-second, start-tag, end-tag, letter-read, bracket-act}

@@ -1,18 +1,12 @@
--- A production's expression, tag and nonterminal by its number, and a production by its nonterminal and tag.
+-- A production's tag and nonterminal by its number, and a production by its nonterminal and tag.
 -- Assumes nothing.
 use mathlib.Core.Bool.{Bool, true, false, _&&_}
 use mathlib.Core.List.{List, [], _∷_}
 use mathlib.Core.Option.{Option, none, some}
 use Prim.Native.Nat.{ℕ, zero, suc}
 use lib.Dec.{eqb}
-use Rattle.expressions.specs.Expr.{Content, nothing}
 use Rattle.expressions.specs.Grammar.{Production}
 use Rattle.runs.specs.Options.{bind}
-
-abbrev pub contentOf : List Production → ℕ → Content
-contentOf [] q = nothing
-contentOf (d ∷ ds) zero = d .content
-contentOf (d ∷ ds) (suc q) = contentOf ds q
 
 abbrev pub tagOf : List Production → ℕ → ℕ
 tagOf [] q = 0

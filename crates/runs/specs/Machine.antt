@@ -10,7 +10,8 @@ use Rattle.expressions.specs.Expr.{Atom, nonterminal, anychar}
 use Rattle.expressions.specs.Words.{Bracket}
 use Rattle.expressions.specs.Grammar.{Production, tagsOf, tag, character}
 use Rattle.sheet.specs.Sheet.{Sheet}
-use Rattle.runs.specs.Lookup.{contentOf, tagOf, find}
+use Rattle.expressions.specs.Grammar.{contentOf}
+use Rattle.runs.specs.Lookup.{tagOf, find}
 use Rattle.runs.specs.Visits.{grammar}
 use Rattle.runs.specs.Events.{Event, starts, ends, letter}
 use Rattle.runs.specs.Acts.{Act, start-tag, end-tag, letter-read, bracket-acts, Store, fresh-store, acts}

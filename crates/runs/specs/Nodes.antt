@@ -11,7 +11,7 @@ use Rattle.expressions.specs.Expr.{Exp, atom, cat, alt, star, empty, nodes, ato
 use Rattle.expressions.specs.Words.{Bracket, opening, closing}
 use Rattle.expressions.specs.Grammar.{Production}
 use Rattle.runs.specs.Options.{bind, whenTrue}
-use Rattle.runs.specs.Lookup.{contentOf}
+use Rattle.expressions.specs.Grammar.{contentOf}
 use Rattle.runs.specs.Visits.{Saved}
 use Rattle.runs.specs.Machine.{Open, Control, before, inside, after}
 

@@ -8,7 +8,8 @@ use Rattle.expressions.specs.Expr.{nonterminal, anychar, Exp, atom, cat, alt, s
 use Rattle.expressions.specs.Grammar.{Production}
 use Rattle.sheet.specs.Sheet.{Sheet}
 use Rattle.runs.specs.Options.{bind}
-use Rattle.runs.specs.Lookup.{contentOf, tagOf, produces}
+use Rattle.expressions.specs.Grammar.{contentOf}
+use Rattle.runs.specs.Lookup.{tagOf, produces}
 use Rattle.runs.specs.Visits.{Env, saved, opens, closes, enters, leaves, reads}
 use Rattle.runs.specs.Events.{Event, starts, ends, letter}
 

@@ -9,7 +9,8 @@ use Rattle.text.specs.Names.{blank}
 use Rattle.expressions.specs.Expr.{Exp, atom, cat, alt, star, empty, nonterminal, anychar, Content, nothing, tree}
 use Rattle.expressions.specs.Grammar.{Production}
 use Rattle.sheet.specs.Sheet.{Sheet}
-use Rattle.runs.specs.Lookup.{contentOf, tagOf}
+use Rattle.expressions.specs.Grammar.{contentOf}
+use Rattle.runs.specs.Lookup.{tagOf}
 use Rattle.runs.specs.Visits.{grammar, Env, fresh}
 use Rattle.runs.specs.Events.{Event, starts, ends, letter}
 use Rattle.runs.specs.Parse.{Element, element, Children, childless, children, Parse, child, one-char, pair, first-of, second-of, repeat, void, Parses, done, next, depth, eval}

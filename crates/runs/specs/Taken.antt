@@ -9,7 +9,7 @@ use Rattle.expressions.specs.Words.{Sym, at, Words}
 use Rattle.expressions.specs.Grammar.{Production}
 use Rattle.expressions.specs.FaultList.{KeepsT, KeepsS}
 use Rattle.sheet.specs.Sheet.{Sheet}
-use Rattle.runs.specs.Lookup.{contentOf}
+use Rattle.expressions.specs.Grammar.{contentOf}
 use Rattle.runs.specs.Visits.{grammar, Env, fresh}
 use Rattle.runs.specs.Events.{Event, ends, Tags, openTags}
 use Rattle.runs.specs.Parse.{Element, yield, depth, eval}

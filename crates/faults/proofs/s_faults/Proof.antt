@@ -8,7 +8,7 @@ use native.Mathlib.Omega.{arith}
 use Rattle.expressions.specs.Grammar.{Production, tagsOf}
 use Rattle.expressions.specs.Listed.{gather, sFaultsOf, sFaultsFrom}
 use Rattle.layout.specs.Layout.{tagCount, productionCount}
-use Rattle.faults.specs.Part.{contentIn}
+use Rattle.expressions.specs.Grammar.{contentOf}
 use Rattle.faults.proofs.Laws.{Loop, loop-begun, loop-on, loop-done, s-gathered}
 use Rattle.faults.proofs.s_faults.Statement.{statement}
 use Rattle.faults.proofs.s_faults.Tie as tie
@@ -19,7 +19,7 @@ use Rattle.faults.proofs.s_faults_of.Reads as s-faults-of-reads
 abbrev Inv-loop : tie.InvT-loop
 Inv-loop s l list₀ at write n₀ q₀ list n q =
     Loop s (λ (g : List Production). sFaultsFrom (tagCount s) (tagsOf g) 0 g)
-    (λ (g : List Production) (q : ℕ). sFaultsOf (tagCount s) (tagsOf g) q (contentIn g q)) (l .productions) 8712 write list₀ at list n q
+    (λ (g : List Production) (q : ℕ). sFaultsOf (tagCount s) (tagsOf g) q (contentOf g q)) (l .productions) 8712 write list₀ at list n q
 
 abbrev μ-loop : tie.MeasureT-loop
 μ-loop s l list₀ at write n₀ q₀ list n q = l .productions - q
@@ -29,7 +29,7 @@ loop-holds c =
     let a = c .before .before in
     let s = now (a .args .s) in
     let e : productionCount s ≡ a .args .l .productions = omega (arith, a .pre .0 .layout-is .productions-is .is) in
-    loop-begun _ 8712 (λ g i. s-gathered s (tagCount s) g i ∙ ap (λ (k : ℕ). gather 0 k (λ q. sFaultsOf (tagCount s) (tagsOf g) q (contentIn g q))) e)
+    loop-begun _ 8712 (λ g i. s-gathered s (tagCount s) g i ∙ ap (λ (k : ℕ). gather 0 k (λ q. sFaultsOf (tagCount s) (tagsOf g) q (contentOf g q))) e)
 
 s-faults-of-requires : tie.Need-s-faults-of-requires Inv-loop μ-loop
 s-faults-of-requires c κs =

@@ -8,7 +8,8 @@ use native.Mathlib.Omega.{arith}
 use Rattle.expressions.specs.Grammar.{Production, tagsOf, tag}
 use Rattle.expressions.specs.Listed.{gather, sFaultAt}
 use Rattle.layout.specs.Layout.{tagCount}
-use Rattle.faults.specs.Part.{contentIn, sByTag}
+use Rattle.expressions.specs.Grammar.{contentOf}
+use Rattle.faults.specs.Part.{sByTag}
 use Rattle.faults.proofs.Laws.{Loop, loop-begun, loop-on, loop-done}
 use Rattle.faults.proofs.s_faults_by_tag.Statement.{statement}
 use Rattle.faults.proofs.s_faults_by_tag.Tie as tie
@@ -18,8 +19,8 @@ use Rattle.faults.proofs.s_fault_at.Reads as s-fault-at-reads
 
 abbrev Inv-loop : tie.InvT-loop
 Inv-loop s l list₀ at q p write n₀ t₀ list n t =
-    Loop s (λ (g : List Production). sByTag (tagCount s) (tagsOf g) (contentIn g q) q p)
-    (λ (g : List Production) (t : ℕ). sFaultAt (tagsOf g) (contentIn g q) q p (tag t)) (l .tags) 4 write list₀ at list n t
+    Loop s (λ (g : List Production). sByTag (tagCount s) (tagsOf g) (contentOf g q) q p)
+    (λ (g : List Production) (t : ℕ). sFaultAt (tagsOf g) (contentOf g q) q p (tag t)) (l .tags) 4 write list₀ at list n t
 
 abbrev μ-loop : tie.MeasureT-loop
 μ-loop s l list₀ at q p write n₀ t₀ list n t = l .tags - t
@@ -28,7 +29,7 @@ loop-holds : tie.Need-loop-holds Inv-loop μ-loop
 loop-holds c =
     let a = c .before .before in
     let e : tagCount (now (a .args .s)) ≡ a .args .l .tags = omega (arith, a .pre .0 .layout-is .tags-is .is) in
-    loop-begun _ 4 (λ g i. ap (λ (k : ℕ). sByTag k (tagsOf g) (contentIn g (a .args .q)) (a .args .q) (a .args .p)) e)
+    loop-begun _ 4 (λ g i. ap (λ (k : ℕ). sByTag k (tagsOf g) (contentOf g (a .args .q)) (a .args .q) (a .args .p)) e)
 
 s-fault-at-requires : tie.Need-s-fault-at-requires Inv-loop μ-loop
 s-fault-at-requires c κs =

@@ -9,7 +9,7 @@ use Rattle.expressions.specs.Grammar.{Production, tagsOf}
 use Rattle.expressions.specs.Listed.{gather, sFaultsAt, sFaultsOf}
 use Rattle.layout.specs.Layout.{tagCount}
 use Rattle.sheet.proofs.DefectLaws.{runs-inside}
-use Rattle.faults.specs.Part.{contentIn}
+use Rattle.expressions.specs.Grammar.{contentOf}
 use Rattle.faults.proofs.Laws.{Loop, loop-begun, loop-on, loop-done, there, places-in}
 use Rattle.faults.proofs.s_faults_of.Statement.{statement}
 use Rattle.faults.proofs.s_faults_of.Tie as tie
@@ -20,8 +20,8 @@ use Rattle.trees.proofs.atoms_of.Reads as atoms-of-reads
 
 abbrev Inv-loop : tie.InvT-loop
 Inv-loop s l list₀ at q write atoms n₀ p₀ list n p =
-    (atoms ≤ 32) × Loop s (λ (g : List Production). sFaultsOf (tagCount s) (tagsOf g) q (contentIn g q))
-    (λ (g : List Production). sFaultsAt (tagCount s) (tagsOf g) (contentIn g q) q) (atoms + 1) 264 write list₀ at list n p
+    (atoms ≤ 32) × Loop s (λ (g : List Production). sFaultsOf (tagCount s) (tagsOf g) q (contentOf g q))
+    (λ (g : List Production). sFaultsAt (tagCount s) (tagsOf g) (contentOf g q) q) (atoms + 1) 264 write list₀ at list n p
 
 abbrev μ-loop : tie.MeasureT-loop
 μ-loop s l list₀ at q write atoms n₀ p₀ list n p = atoms + 1 - p
@@ -35,7 +35,7 @@ loop-holds c =
     let q = there (b .pre .0) (b .pre .1 .1 .1) in
     let few = b .pre .1 .0 .productions .each (b .args .q) q .few-nodes in (
       omega (arith, c .atoms-of .ensures .few, few),
-      loop-begun _ 264 (λ g i. ap (λ (k : ℕ). gather 0 k (sFaultsAt (tagCount (now (b .args .s))) (tagsOf g) (contentIn g (b .args .q)) (b .args .q))) (places-in q (c .atoms-of .ensures) g i)),
+      loop-begun _ 264 (λ g i. ap (λ (k : ℕ). gather 0 k (sFaultsAt (tagCount (now (b .args .s))) (tagsOf g) (contentOf g (b .args .q)) (b .args .q))) (places-in q (c .atoms-of .ensures) g i)),
     )
 
 s-faults-at-requires : tie.Need-s-faults-at-requires Inv-loop μ-loop
