@@ -1,0 +1,54 @@
+-- Laws of reading a state. A loop that fills an array is stated by what is left to read (fill-more); one that adds up a number goes from its
+-- highest byte down (number-more), below 256 to the number of bytes read, so that no product wraps.
+use mathlib.Core.Path.{_≡_, refl, ap, _∙_}
+use mathlib.Core.List.{List, [], _∷_, append-nil}
+use Prim.Native.Nat.{ℕ, zero, suc, _+_, _-_, _*_, _^_, _<_, _≤_}
+use native.Mathlib.Nat.{pow-suc, pow-le-pow-right}
+use native.Mathlib.Omega.{arith}
+use native.Mathlib.Numerals.{add-one}
+use lib.ListN.{length, set, drop-of-length-le}
+use lib.Seq.{sets, sets-eq}
+use Rattle.state.specs.Bytes.{number, gathered, byteAt, bytesAt}
+
+pub length-gathered : {X : Type 0} (f : ℕ → X) (w at n : ℕ) → length (gathered f w at n) ≡ n
+unfolding gathered
+length-gathered f w at zero = refl
+length-gathered f w at (suc n) = ap suc (length-gathered f w (at + w) n)
+
+pub fill-all : {X : Type 0} (f : ℕ → X) (w at n : ℕ) (l : List X) → length l ≡ n → sets l 0 (gathered f w at n) ≡ gathered f w at n
+fill-all f w at n l e =
+    let g : length l ≤ 0 + length (gathered f w at n) = omega (arith, length-gathered f w at n) in
+    sets-eq (gathered f w at n) l 0 (omega (arith, length-gathered f w at n)) ∙ rw (drop-of-length-le l g) (append-nil (gathered f w at n))
+
+pub fill-more : {X : Type 0} (f : ℕ → X) (w at n i : ℕ) (l : List X) → i < n →
+    sets (set l i (f at)) (i + 1) (gathered f w (at + w) (n - (i + 1))) ≡ sets l i (gathered f w at (n - i))
+unfolding gathered
+fill-more f w at n i l h = let e : n - i ≡ suc (n - (i + 1)) = omega arith in rw (e, add-one)
+
+pub fill-none : {X : Type 0} (f : ℕ → X) (w at n i : ℕ) (l : List X) → n ≤ i → sets l i (gathered f w at (n - i)) ≡ l
+unfolding gathered
+fill-none f w at n i l h = let e : n - i ≡ 0 = omega arith in rw e
+
+pub number-more : (b : List ℕ) (at i : ℕ) → 0 < i → i ≤ 8 →
+    number (bytesAt b (at + (i - 1)) (8 - (i - 1))) ≡ number (bytesAt b (at + i) (8 - i)) * 256 + byteAt b (at + (i - 1))
+unfolding number gathered
+number-more b at i p h =
+    let e : 8 - (i - 1) ≡ suc (8 - i) = omega arith in
+    let g : at + (i - 1) + 1 ≡ at + i = omega arith in
+    rw (e, g) (omega arith)
+
+pub number-room : (i n : ℕ) → 0 < i → n < 256 ^ (8 - i) → n < 256 ^ 7
+number-room i n h p =
+    let k : 8 - i ≤ 7 = omega arith in
+    let e : 256 ^ (8 - i) ≤ 256 ^ 7 = pow-le-pow-right (omega arith) k in
+    omega arith
+
+pub number-below : (i n b : ℕ) → 0 < i → i ≤ 8 → n < 256 ^ (8 - i) → b < 256 → n * 256 + b < 256 ^ (8 - (i - 1))
+number-below i n b h k p q = let e : 8 - (i - 1) ≡ suc (8 - i) = omega arith in rw (e, pow-suc) (omega arith)
+
+pub bytes-four : (b : List ℕ) (at : ℕ) → bytesAt b at 4 ≡ byteAt b at ∷ byteAt b (at + 1) ∷ byteAt b (at + 2) ∷ byteAt b (at + 3) ∷ []
+unfolding gathered
+bytes-four b at =
+    let e : at + 1 + 1 ≡ at + 2 = omega arith in
+    let g : at + 2 + 1 ≡ at + 3 = omega arith in
+    rw (e, g)

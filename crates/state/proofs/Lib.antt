@@ -1,0 +1,5 @@
+pub mod Laws
+pub mod Meant
+pub mod Written
+pub mod Gathered
+pub mod Back

@@ -1,0 +1,119 @@
+-- The form of a state as bytes: 2,199 of them, numbers little-endian, a flag 1 for on and 0 for off (read back: on unless 0).
+--
+-- | Bytes | Content |
+-- |---|---|
+-- | 0 to 3 | the four attributes |
+-- | 4 | echo |
+-- | 5 to 12 | the count of visits |
+-- | 13 | whether the root has been closed |
+-- | 14 | the closing number, or 255 |
+-- | 15 to 22 | how many elements are open |
+-- | 23 to 2,198 | 32 frames of 68 bytes, the root's first, those not in use too |
+--
+-- A frame: production, place, how many sets are in use, then 13 sets of 5 bytes: the four attributes just after the first visit, and echo before
+-- it. The production's set comes first, then those of the open nodes, outermost first.
+-- Assumes nothing.
+use mathlib.Core.Bool.{Bool, true, cond, not}
+use mathlib.Core.Path.{_≡_}
+use mathlib.Core.List.{List, [], _∷_, _++_}
+use Prim.Native.Nat.{ℕ, zero, suc, _+_, _*_, _/_, _%_, _^_, _<_}
+use lib.Dec.{eqb}
+use lib.ListN.{length, getD}
+use Rattle.state.specs.Meaning.{All}
+use Rattle.lent.specs.Put.{put}
+use Rattle.state.specs.declared.Saved.{Saved}
+use Rattle.state.specs.declared.Frame.{Frame}
+use Rattle.state.specs.declared.State.{State}
+
+abbrev pub flag : Bool → ℕ
+flag b = cond b 1 0
+
+-- n in so many bytes, little-endian, and back
+unfoldable pub numberBytes : ℕ → ℕ → List ℕ
+numberBytes zero n = []
+numberBytes (suc k) n = n % 256 ∷ numberBytes k (n / 256)
+
+unfoldable pub number : List ℕ → ℕ
+number [] = 0
+number (b ∷ bs) = b + 256 * number bs
+
+-- one after another
+unfoldable pub joined : {X : Type 0} → (X → List ℕ) → List X → List ℕ
+joined f [] = []
+joined f (x ∷ xs) = f x ++ joined f xs
+
+unfoldable pub savedBytes : Saved → List ℕ
+savedBytes k = k .values ++ flag (k .echo) ∷ []
+
+unfoldable pub frameBytes : Frame → List ℕ
+frameBytes f = f .production ∷ f .place ∷ f .«open» ∷ joined savedBytes (f .saved)
+
+unfoldable pub bytesOf : State → List ℕ
+bytesOf s =
+    s .values ++
+    flag (s .echo) ∷
+    (numberBytes 8 (s .count) ++
+    flag (s .rooted) ∷ s .closed ∷ (numberBytes 8 (s .depth) ++ joined frameBytes (s .frames)))
+
+-- what a function that writes `new`, of so many bytes, leaves of the memory, and answers: where the next byte goes
+pub record Wrote (width : ℕ) (memory : List ℕ) (at : ℕ) (new after : List ℕ) (r : ℕ) : Type 0 where
+  pub next : r ≡ at + width
+  pub wide : length new ≡ width
+  pub left : after ≡ put true memory at new
+
+-- what stands at a byte, 0 past the end
+abbrev pub byteAt : List ℕ → ℕ → ℕ
+byteAt b at = getD b at 0
+
+abbrev pub onAt : List ℕ → ℕ → Bool
+onAt b at = not (eqb (byteAt b at) 0)
+
+-- n things of so many bytes each, read one after another
+unfoldable pub gathered : {X : Type 0} → (ℕ → X) → ℕ → ℕ → ℕ → List X
+gathered f width at zero = []
+gathered f width at (suc n) = f at ∷ gathered f width (at + width) n
+
+abbrev pub bytesAt : List ℕ → ℕ → ℕ → List ℕ
+bytesAt b at n = gathered (byteAt b) 1 at n
+
+abbrev pub numberAt : List ℕ → ℕ → ℕ
+numberAt b at = number (bytesAt b at 8)
+
+unfoldable pub savedAt : List ℕ → ℕ → Saved
+savedAt b at = record { values = bytesAt b at 4; echo = onAt b (at + 4) }
+
+unfoldable pub frameAt : List ℕ → ℕ → Frame
+frameAt b at =
+    record {
+      production = byteAt b at;
+      place = byteAt b (at + 1);
+      «open» = byteAt b (at + 2);
+      saved = gathered (savedAt b) 5 (at + 3) 13;
+    }
+
+unfoldable pub stateFrom : List ℕ → State
+stateFrom b =
+    record {
+      values = bytesAt b 0 4;
+      echo = onAt b 4;
+      count = numberAt b 5;
+      rooted = onAt b 13;
+      closed = byteAt b 14;
+      depth = numberAt b 15;
+      frames = gathered (frameAt b) 68 23 32;
+    }
+
+-- every array is as long as its type says, and the two wide numbers fit theirs: so it is of every state that code holds
+pub record SizedSet (k : Saved) : Type 0 where
+  pub values : length (k .values) ≡ 4
+
+pub record SizedFrame (f : Frame) : Type 0 where
+  pub saved : length (f .saved) ≡ 13
+  pub sets : All SizedSet (f .saved)
+
+pub record Sized (s : State) : Type 0 where
+  pub values : length (s .values) ≡ 4
+  pub count : s .count < 2 ^ 64
+  pub depth : s .depth < 2 ^ 64
+  pub frames : length (s .frames) ≡ 32
+  pub each : All SizedFrame (s .frames)

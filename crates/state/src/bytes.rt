@@ -1,0 +1,239 @@
+// The form of a state as bytes: written into lent memory, read from any bytes. specs/Bytes.antt has the table.
+use super::Frame;
+use super::Saved;
+use super::State;
+ghost use mathlib.Core.Path.{_≡_};
+ghost use mathlib.Core.List.{[], _∷_};
+ghost use Prim.Native.Nat.{_+_, _<_, _^_};
+ghost use Rattle.state.specs.Bytes.{flag, numberBytes, savedBytes, joined, frameBytes, bytesOf, Wrote, SizedSet, SizedFrame};
+ghost use Rattle.state.specs.Meaning.{All};
+ghost use Rattle.state.specs.Bytes.{byteAt, onAt, bytesAt, numberAt, savedAt, frameAt, gathered, stateFrom};
+
+pub const STATE_BYTES: usize = 2199;
+
+const SET_BYTES: usize = 5;
+
+const FRAME_BYTES: usize = 68;
+
+fn put_one(memory: &mut [u8], at: usize, b: u8) -> usize
+    requires { ⌜ at + 1 < 2 ^ 64 ⌝ }
+    ensures { λ r. ⌜ Wrote 1 (now (memory .entry)) at (b ∷ []) (now (memory .exit)) r ⌝ }
+{
+    lent::put_byte(memory, at, b, true);
+    at + 1
+}
+
+fn put_flag(memory: &mut [u8], at: usize, on: bool) -> usize
+    requires { ⌜ at + 1 < 2 ^ 64 ⌝ }
+    ensures { λ r. ⌜ Wrote 1 (now (memory .entry)) at (flag on ∷ []) (now (memory .exit)) r ⌝ }
+{
+    if on {
+        put_one(memory, at, 1)
+    } else {
+        put_one(memory, at, 0)
+    }
+}
+
+fn put_values(memory: &mut [u8], at: usize, values: [u8; 4]) -> usize
+    requires { ⌜ at + 4 < 2 ^ 64 ⌝ }
+    ensures { λ r. ⌜ Wrote 4 (now (memory .entry)) at values (now (memory .exit)) r ⌝ }
+{
+    lent::put_bytes(memory, at, &values, true)
+}
+
+fn put_number(memory: &mut [u8], at: usize, n: u64) -> usize
+    requires { ⌜ at + 8 < 2 ^ 64 ⌝ }
+    ensures { λ r. ⌜ Wrote 8 (now (memory .entry)) at (numberBytes 8 n) (now (memory .exit)) r ⌝ }
+{
+    let mut left = n;
+    let mut i = 0;
+    while i < 8 {
+        lent::put_byte(memory, at + i, (left % 256) as u8, true);
+        left = left / 256;
+        i = i + 1;
+    }
+    at + 8
+}
+
+fn put_saved(memory: &mut [u8], at: usize, kept: Saved) -> usize
+    requires { ⌜ at + 5 < 2 ^ 64 ⌝ }
+    ensures { λ r. ⌜ Wrote 5 (now (memory .entry)) at (savedBytes kept) (now (memory .exit)) r ⌝ }
+{
+    let values = kept.values;
+    let next = put_values(memory, at, values);
+    put_flag(memory, next, kept.echo)
+}
+
+fn put_sets(memory: &mut [u8], at: usize, sets: [Saved; 13]) -> usize
+    requires { ⌜ at + 65 < 2 ^ 64 ⌝ }
+    ensures { λ r. ⌜ Wrote 65 (now (memory .entry)) at (joined savedBytes sets) (now (memory .exit)) r ⌝ }
+    ensures { λ _. ⌜ All SizedSet sets ⌝ }
+{
+    let mut next = at;
+    let mut i = 0;
+    while i < Frame::SETS {
+        let kept = sets[i];
+        next = put_saved(memory, next, kept);
+        i = i + 1;
+    }
+    next
+}
+
+fn put_frame(memory: &mut [u8], at: usize, f: Frame) -> usize
+    requires { ⌜ at + 68 < 2 ^ 64 ⌝ }
+    ensures { λ r. ⌜ Wrote 68 (now (memory .entry)) at (frameBytes f) (now (memory .exit)) r ⌝ }
+    ensures { λ _. ⌜ SizedFrame f ⌝ }
+{
+    let head = [f.production, f.place, f.open];
+    let next = lent::put_bytes(memory, at, &head, true);
+    let sets = f.saved;
+    put_sets(memory, next, sets)
+}
+
+fn put_frames(memory: &mut [u8], at: usize, frames: [Frame; 32]) -> usize
+    requires { ⌜ at + 2176 < 2 ^ 64 ⌝ }
+    ensures { λ r. ⌜ Wrote 2176 (now (memory .entry)) at (joined frameBytes frames) (now (memory .exit)) r ⌝ }
+    ensures { λ _. ⌜ All SizedFrame frames ⌝ }
+{
+    let mut next = at;
+    let mut i = 0;
+    while i < State::DEPTH {
+        let f = frames[i];
+        next = put_frame(memory, next, f);
+        i = i + 1;
+    }
+    next
+}
+
+// Writes a state from the memory's first byte on, and answers how many bytes that takes. A byte past the memory's end is not stored.
+// What is written reads back as the state.
+pub fn to_bytes(state: State, memory: &mut [u8]) -> usize
+    ensures { λ r. ⌜ Wrote 2199 (now (memory .entry)) 0 (bytesOf state) (now (memory .exit)) r ⌝ }
+    ensures { λ _. ⌜ stateFrom (bytesOf state) ≡ state ⌝ }
+{
+    let values = state.values;
+    let echo = put_values(memory, 0, values);
+    let count = put_flag(memory, echo, state.echo);
+    let rooted = put_number(memory, count, state.count);
+    let closed = put_flag(memory, rooted, state.rooted);
+    let depth = put_one(memory, closed, state.closed);
+    let frames = put_number(memory, depth, state.depth as u64);
+    let stack = state.frames;
+    put_frames(memory, frames, stack)
+}
+
+fn byte_at(bytes: &[u8], at: usize) -> u8
+    ensures { λ r. ⌜ r ≡ byteAt (now (bytes .entry)) at ⌝ }
+{
+    if at < bytes.len() { bytes[at] } else { 0 }
+}
+
+fn on_at(bytes: &[u8], at: usize) -> bool
+    ensures { λ r. ⌜ r ≡ onAt (now (bytes .entry)) at ⌝ }
+{
+    byte_at(bytes, at) != 0
+}
+
+fn wide(b: u8) -> u64
+    ensures { λ r. ⌜ r ≡ b ⌝ }
+{
+    b as u64
+}
+
+fn number_at(bytes: &[u8], at: usize) -> u64
+    requires { ⌜ at + 8 < 2 ^ 64 ⌝ }
+    ensures { λ r. ⌜ r ≡ numberAt (now (bytes .entry)) at ⌝ }
+{
+    let mut n: u64 = 0;
+    let mut i: usize = 8;
+    while 0 < i {
+        i = i - 1;
+        n = n * 256 + wide(byte_at(bytes, at + i));
+    }
+    n
+}
+
+fn values_at(bytes: &[u8], at: usize) -> [u8; 4]
+    requires { ⌜ at + 4 < 2 ^ 64 ⌝ }
+    ensures { λ r. ⌜ r ≡ bytesAt (now (bytes .entry)) at 4 ⌝ }
+{
+    [
+        byte_at(bytes, at),
+        byte_at(bytes, at + 1),
+        byte_at(bytes, at + 2),
+        byte_at(bytes, at + 3),
+    ]
+}
+
+fn saved_at(bytes: &[u8], at: usize) -> Saved
+    requires { ⌜ at + 5 < 2 ^ 64 ⌝ }
+    ensures { λ r. ⌜ r ≡ savedAt (now (bytes .entry)) at ⌝ }
+{
+    let values = values_at(bytes, at);
+    Saved {
+        values: values,
+        echo: on_at(bytes, at + 4),
+    }
+}
+
+fn sets_at(bytes: &[u8], at: usize) -> [Saved; 13]
+    requires { ⌜ at + 65 < 2 ^ 64 ⌝ }
+    ensures { λ r. ⌜ r ≡ gathered (savedAt (now (bytes .entry))) 5 at 13 ⌝ }
+{
+    let none = Saved::bare();
+    let mut sets = [none; Frame::SETS];
+    let mut next = at;
+    let mut i = 0;
+    while i < Frame::SETS {
+        sets[i] = saved_at(bytes, next);
+        next = next + SET_BYTES;
+        i = i + 1;
+    }
+    sets
+}
+
+fn frame_at(bytes: &[u8], at: usize) -> Frame
+    requires { ⌜ at + 68 < 2 ^ 64 ⌝ }
+    ensures { λ r. ⌜ r ≡ frameAt (now (bytes .entry)) at ⌝ }
+{
+    let sets = sets_at(bytes, at + 3);
+    Frame {
+        production: byte_at(bytes, at),
+        place: byte_at(bytes, at + 1),
+        open: byte_at(bytes, at + 2),
+        saved: sets,
+    }
+}
+
+fn frames_at(bytes: &[u8], at: usize) -> [Frame; 32]
+    requires { ⌜ at + 2176 < 2 ^ 64 ⌝ }
+    ensures { λ r. ⌜ r ≡ gathered (frameAt (now (bytes .entry))) 68 at 32 ⌝ }
+{
+    let none = Frame::bare();
+    let mut frames = [none; State::DEPTH];
+    let mut next = at;
+    let mut i = 0;
+    while i < State::DEPTH {
+        frames[i] = frame_at(bytes, next);
+        next = next + FRAME_BYTES;
+        i = i + 1;
+    }
+    frames
+}
+
+// The state that any bytes give: a byte past their end counts as 0.
+pub fn from_bytes(bytes: &[u8]) -> State
+    ensures { λ r. ⌜ r ≡ stateFrom (now (bytes .entry)) ⌝ }
+{
+    let values = values_at(bytes, 0);
+    let frames = frames_at(bytes, 23);
+    State {
+        values: values,
+        echo: on_at(bytes, 4),
+        count: number_at(bytes, 5),
+        rooted: on_at(bytes, 13),
+        closed: byte_at(bytes, 14),
+        depth: number_at(bytes, 15) as usize,
+        frames: frames,
+    }
+}

@@ -1,0 +1,296 @@
+// The state of a run by value: its stack of open elements, kept and changed in one place, and its form as bytes.
+pub mod bytes;
+
+ghost use mathlib.Core.Path.{_≡_};
+ghost use Prim.Native.Nat.{_+_};
+ghost use Rattle.state.specs.Changes.{bareSaved, bareFrame, freshState, started, keeping, lastSet, withoutLast, atPlace};
+ghost use Rattle.state.specs.Changes.{pushed, popped, topOf, withTop, saving, restored, placed, withEnv, closedWith};
+
+// What is kept of a node from its first visit to its second: the attributes just after the first, echo just before it.
+pub struct Saved {
+    pub values: [u8; 4],
+    pub echo: bool,
+}
+
+// An open element: its production, its place, how many of its sets are in use, and the sets: the production's, then those of the
+// open nodes, outermost first. An expression is at most 12 deep.
+pub struct Frame {
+    pub production: u8,
+    pub place: u8,
+    pub open: u8,
+    pub saved: [Saved; 13],
+}
+
+// A run between two tokens: attributes, echo, the count of visits, whether the root has been closed, the closing number, and
+// how many elements are open, the root first.
+pub struct State {
+    pub values: [u8; 4],
+    pub echo: bool,
+    pub count: u64,
+    pub rooted: bool,
+    pub closed: u8,
+    pub depth: usize,
+    pub frames: [Frame; 32],
+}
+
+pub struct Pushed {
+    pub ok: bool,
+    pub state: State,
+}
+
+pub struct Restored {
+    pub saved: Saved,
+    pub state: State,
+}
+
+impl Saved {
+    // What stands in a set before it is first used.
+    pub fn bare() -> Saved
+        ensures { λ r. ⌜ r ≡ bareSaved ⌝ }
+    {
+        let values = [0u8; 4];
+        Saved {
+            values: values,
+            echo: false,
+        }
+    }
+}
+
+impl Frame {
+    // The production's set, and one for each open node.
+    pub const SETS: usize = 13;
+
+    // What stands in a frame before it is first used.
+    pub fn bare() -> Frame
+        ensures { λ r. ⌜ r ≡ bareFrame ⌝ }
+    {
+        let none = Saved::bare();
+        let saved = [none; Self::SETS];
+        Frame {
+            production: 0,
+            place: 0,
+            open: 0,
+            saved: saved,
+        }
+    }
+
+    // An element as its start tag opens it, with its production's set.
+    pub fn start(production: u8, kept: Saved) -> Frame
+        ensures { λ r. ⌜ r ≡ started production kept ⌝ }
+    {
+        let none = Saved::bare();
+        let mut saved = [none; Self::SETS];
+        saved[0] = kept;
+        Frame {
+            production: production,
+            place: 0,
+            open: 1,
+            saved: saved,
+        }
+    }
+
+    // One more set, where there is room for it.
+    pub fn keep(self, kept: Saved) -> Frame
+        ensures { λ r. ⌜ r ≡ keeping self kept ⌝ }
+    {
+        let n = self.open;
+        let k = n as usize;
+        if k < Self::SETS {
+            let mut next = self;
+            next.saved[k] = kept;
+            next.open = n + 1;
+            next
+        } else {
+            self
+        }
+    }
+
+    // The last set in use.
+    pub fn last(self) -> Saved
+        ensures { λ r. ⌜ r ≡ lastSet self ⌝ }
+    {
+        let n = self.open;
+        let k = n as usize;
+        if k == 0 {
+            return Saved::bare();
+        }
+        if Self::SETS < k {
+            return Saved::bare();
+        }
+        self.saved[k - 1]
+    }
+
+    // The last set is no longer in use.
+    pub fn without_last(self) -> Frame
+        ensures { λ r. ⌜ r ≡ withoutLast self ⌝ }
+    {
+        let n = self.open;
+        if n == 0 {
+            return self;
+        }
+        let mut next = self;
+        next.open = n - 1;
+        next
+    }
+
+    pub fn at(self, place: u8) -> Frame
+        ensures { λ r. ⌜ r ≡ atPlace self place ⌝ }
+    {
+        let mut next = self;
+        next.place = place;
+        next
+    }
+}
+
+impl State {
+    // The most elements that may be open, the number of attributes, and the highest value of one.
+    pub const DEPTH: usize = 32;
+
+    pub const ATTRIBUTES: usize = 4;
+
+    pub const HIGHEST: u8 = 15;
+
+    // The closing number of a state that is not closed: none of 0, 20 to 27 and 30.
+    pub const OPEN: u8 = 255;
+
+    // No open element, all attributes 0, echo off, count 0.
+    pub fn fresh() -> State
+        ensures { λ r. ⌜ r ≡ freshState ⌝ }
+    {
+        let values = [0u8; Self::ATTRIBUTES];
+        let echo = false;
+        let none = Frame::bare();
+        let frames = [none; Self::DEPTH];
+        State {
+            values: values,
+            echo: echo,
+            count: 0,
+            rooted: false,
+            closed: Self::OPEN,
+            depth: 0,
+            frames: frames,
+        }
+    }
+
+    // A new innermost element; a 33rd is refused.
+    pub fn push(self, f: Frame) -> Pushed
+        ensures { λ r. ⌜ r ≡ pushed self f ⌝ }
+    {
+        let d = self.depth;
+        if d < Self::DEPTH {
+            let mut next = self;
+            next.frames[d] = f;
+            next.depth = d + 1;
+            Pushed {
+                ok: true,
+                state: next,
+            }
+        } else {
+            Pushed {
+                ok: false,
+                state: self,
+            }
+        }
+    }
+
+    // The innermost element is closed.
+    pub fn pop(self) -> State
+        ensures { λ r. ⌜ r ≡ popped self ⌝ }
+    {
+        let d = self.depth;
+        if d == 0 {
+            return self;
+        }
+        let mut next = self;
+        next.depth = d - 1;
+        if d == 1 {
+            next.rooted = true;
+            return next;
+        }
+        next
+    }
+
+    // The innermost element.
+    pub fn top(self) -> Frame
+        ensures { λ r. ⌜ r ≡ topOf self ⌝ }
+    {
+        let d = self.depth;
+        if d == 0 {
+            return Frame::bare();
+        }
+        if Self::DEPTH < d {
+            return Frame::bare();
+        }
+        self.frames[d - 1]
+    }
+
+    // The innermost element is changed to f.
+    pub fn with_top(self, f: Frame) -> State
+        ensures { λ r. ⌜ r ≡ withTop self f ⌝ }
+    {
+        let d = self.depth;
+        if d == 0 {
+            return self;
+        }
+        if Self::DEPTH < d {
+            return self;
+        }
+        let mut next = self;
+        next.frames[d - 1] = f;
+        next
+    }
+
+    // Keeps one more set for the innermost element: one of its nodes has been opened.
+    pub fn save(self, kept: Saved) -> State
+        ensures { λ r. ⌜ r ≡ saving self kept ⌝ }
+    {
+        let f = self.top();
+        self.with_top(f.keep(kept))
+    }
+
+    // Takes the last set of the innermost element off: its node is to be closed.
+    pub fn restore(self) -> Restored
+        ensures { λ r. ⌜ r ≡ restored self ⌝ }
+    {
+        let f = self.top();
+        let saved = f.last();
+        let state = self.with_top(f.without_last());
+        Restored {
+            saved: saved,
+            state: state,
+        }
+    }
+
+    // The innermost element stands at another place.
+    pub fn at_place(self, place: u8) -> State
+        ensures { λ r. ⌜ r ≡ placed self place ⌝ }
+    {
+        let f = self.top();
+        self.with_top(f.at(place))
+    }
+
+    // What visits change: attributes, echo and count.
+    pub fn with_env(self, values: [u8; 4], echo: bool, count: u64) -> State
+        ensures { λ r. ⌜ r ≡ withEnv self values echo count ⌝ }
+    {
+        let frames = self.frames;
+        State {
+            values: values,
+            echo: echo,
+            count: count,
+            rooted: self.rooted,
+            closed: self.closed,
+            depth: self.depth,
+            frames: frames,
+        }
+    }
+
+    // Later calls repeat the number.
+    pub fn close(self, number: u8) -> State
+        ensures { λ r. ⌜ r ≡ closedWith self number ⌝ }
+    {
+        let mut next = self;
+        next.closed = number;
+        next
+    }
+}
