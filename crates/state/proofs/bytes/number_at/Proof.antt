@@ -1,3 +1,4 @@
+-- The loop has read the higher bytes: what is read so far, and the bytes below it, make the number.
 use native.Mathlib.Nat.{add-zero}
 use Rattle.state.specs.Bytes.{number, gathered, bytesAt}
 -- From the highest byte down: n is the number that the bytes from i on are, below 256 to the number of them.

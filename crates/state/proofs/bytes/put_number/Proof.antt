@@ -1,3 +1,4 @@
+-- The loop puts the bytes that are left of the number, lowest first: what has been put and what is left is the number throughout.
 use native.Mathlib.Nat.{add-zero}
 use Rattle.state.proofs.Written.{put-number, number-wide, number-done}
 -- The loop is stated by what is left: writing the rest of the number now leaves what writing all of it would have left (put-number).

@@ -1,3 +1,4 @@
+-- The loop puts what is left of the sets, each by put_set: what is put so far and what is left are all sets, in order.
 use mathlib.Core.Path.{_≡_, refl, _∙_}
 use Rattle.state.proofs.Written.{wrote-start, wrote-more, wrote-all, all-more, all-whole, sized-saved}
 use Rattle.state.specs.Meaning.{All, none}
