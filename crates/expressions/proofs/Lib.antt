@@ -11,5 +11,4 @@ pub mod ListedT
 pub mod ListedS
 pub mod Listed
 pub mod Numbers
-pub mod Table
 pub mod Room

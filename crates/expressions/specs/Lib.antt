@@ -6,4 +6,3 @@ pub mod FaultList
 pub mod Count
 pub mod Decide
 pub mod Listed
-pub mod Worked

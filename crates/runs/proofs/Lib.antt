@@ -25,4 +25,4 @@ pub mod Characters
 pub mod Execute
 pub mod Fits
 pub mod Spells
-pub mod Worked
+pub mod Examples

@@ -13,4 +13,4 @@ pub mod Taken
 pub mod Nodes
 pub mod Fits
 pub mod Spells
-pub mod Worked
+pub mod Examples

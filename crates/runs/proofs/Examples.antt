@@ -1,5 +1,5 @@
--- The worked runs hold: the sheets pass, for their computed fault lists are empty; the machine comes to what each row says, and so, by the theorems on
--- the machine, do the trees. All rows are computed at once, as one list.
+-- The examples hold: the sheets pass, for their computed fault lists are empty; the machine comes to what each run says, and so, by the theorems on
+-- the machine, do the trees. All runs are computed at once, as one list.
 -- Assumes nothing.
 use mathlib.Core.Path.{_≡_, refl, _∙_, ap}
 use mathlib.Core.List.{List, [], _∷_}
@@ -18,7 +18,7 @@ use Rattle.runs.specs.Acts.{Store}
 use Rattle.runs.specs.Machine.{Control, before, inside, after, fresh-state, Outcome, finished, stopped, run}
 use Rattle.runs.specs.Taken.{Passed, closed-with, Stopped}
 use Rattle.runs.specs.Spells.{TokenOutcome, through, stops, runTokens}
-use Rattle.runs.specs.Worked.{Row, accepts, refuses, RowHolds, Each, worked}
+use Rattle.runs.specs.Examples.{Run, accepts, refuses, RunHolds, Each, examples}
 use Rattle.runs.proofs.Answers.{stopped-iff}
 use Rattle.runs.proofs.Spells.{spelled-iff}
 
@@ -26,13 +26,13 @@ no-env : {X : Type 0} (v : Env) → none ≡ some v → X
 no-env v e = absurd (let z : _≡_ {A = ℕ} 0 1 = cc in omega arith)
 
 -- a run over tokens to the root's end
-abbrev of-closed : Control → List (List Saved) → Env → Option Env
+abbrev pub of-closed : Control → List (List Saved) → Env → Option Env
 of-closed before kss v = none
 of-closed (inside o os) kss v = none
 of-closed after [] v = some v
 of-closed after (ks ∷ kss) v = none
 
-abbrev of-tokens : TokenOutcome → Option Env
+abbrev pub of-tokens : TokenOutcome → Option Env
 of-tokens (through z) = of-closed (z .control) (z .store .kept) (z .store .env)
 of-tokens (stops k z ts) = none
 
@@ -47,12 +47,12 @@ tokens-are (through z) v e = ap through (closed-is (z .control) (z .store .kept)
 tokens-are (stops k z ts) v e = no-env v e
 
 -- a run over events that stops
-record Stop : Type 0 where
+pub record Stop : Type 0 where
   pub number : ℕ
   pub out : List Piece
   pub left : List Event
 
-abbrev of-events : Outcome → Option Stop
+abbrev pub of-events : Outcome → Option Stop
 of-events (finished z) = none
 of-events (stopped k z left) = some (record { number = k; out = z .store .env .out; left = left })
 
@@ -66,47 +66,52 @@ module _ (s : Sheet) (ok : Passed s) (xs : List Event) (k : ℕ) (o : List Piece
       let hl : l ≡ left = ap (λ (p : Stop). p .left) h in
       (z .store, stopped-iff s ok xs k (z .store) left .0 (z .control, r ∙ (λ i. stopped (hk i) z (hl i))), ap (λ (p : Stop). p .out) h)
 
--- a row's numbers are those of a sheet
-abbrev SheetSmall : Sheet → Type 0
-SheetSmall s = (length (s .names) ≤ 64) × Numbered (length (s .names)) (grammar s)
-
-abbrev Fits : Row → Type 0
-Fits (accepts s ts v) = SheetSmall s
-Fits (refuses s xs k o left) = SheetSmall s
-
--- what is computed of a row, and what it must be
-record Summary : Type 0 where
+-- what is computed of a run, and what it must be
+pub record Summary : Type 0 where
   pub faults : List (List ℕ)
   pub ended-with : Option Env
   pub stopped-with : Option Stop
 
-abbrev the-faults : Sheet → List (List ℕ)
+-- of a list of faults alone
+abbrev pub no-run : List (List ℕ) → Summary
+no-run l = record { faults = l; ended-with = none; stopped-with = none }
+
+abbrev pub the-faults : Sheet → List (List ℕ)
 the-faults s = faultList (length (s .names)) (grammar s)
 
-abbrev computed : Row → Summary
+abbrev pub computed : Run → Summary
 computed (accepts s ts v) = record { faults = the-faults s; ended-with = of-tokens (runTokens s fresh-state ts); stopped-with = none }
 computed (refuses s xs k o left) = record { faults = the-faults s; ended-with = none; stopped-with = of-events (run s fresh-state xs) }
 
-abbrev given : Row → Summary
+abbrev pub given : Run → Summary
 given (accepts s ts v) = record { faults = []; ended-with = some v; stopped-with = none }
 given (refuses s xs k o left) = record { faults = []; ended-with = none; stopped-with = some (record { number = k; out = o; left = left }) }
 
-passes : (s : Sheet) → SheetSmall s → the-faults s ≡ [] → Passed s
+-- the numbers are those of a sheet
+abbrev pub SheetSmall : Sheet → Type 0
+SheetSmall s = (length (s .names) ≤ 64) × Numbered (length (s .names)) (grammar s)
+
+abbrev pub Fits : Run → Type 0
+Fits (accepts s ts v) = SheetSmall s
+Fits (refuses s xs k o left) = SheetSmall s
+
+pub passes : (s : Sheet) → SheetSmall s → the-faults s ≡ [] → Passed s
 passes s f e =
     let k = passes-iff (length (s .names)) (grammar s) (record { few-tags = f .0; numbered = f .1 }) .0 e in
     record { keeps-T = k .0; keeps-S = k .1 }
 
-row-holds : (r : Row) → Fits r → computed r ≡ given r → RowHolds r
-row-holds (accepts s ts v) f e =
+pub run-holds : (r : Run) → Fits r → computed r ≡ given r → RunHolds r
+run-holds (accepts s ts v) f e =
     let ok = passes s f (ap (λ (c : Summary). c .faults) e) in
     (ok, spelled-iff s ok ts v .0 (tokens-are (runTokens s fresh-state ts) v (ap (λ (c : Summary). c .ended-with) e)))
-row-holds (refuses s xs k o left) f e =
+run-holds (refuses s xs k o left) f e =
     let ok = passes s f (ap (λ (c : Summary). c .faults) e) in
     (ok, stop-is s ok xs k o left (run s fresh-state xs) refl (ap (λ (c : Summary). c .stopped-with) e))
 
-abbrev all : (Row → Summary) → List Row → List Summary
+-- a list of examples holds where each fits and their summaries are one list
+abbrev pub all : {A : Type 0} → (A → Summary) → List A → List Summary
 all f [] = []
-all f (r ∷ rs) = f r ∷ all f rs
+all f (x ∷ xs) = f x ∷ all f xs
 
 head-same : (l l′ : Summary) (ls ls′ : List Summary) → l ∷ ls ≡ l′ ∷ ls′ → l ≡ l′
 head-same l l′ ls ls′ e = cc
@@ -114,15 +119,13 @@ head-same l l′ ls ls′ e = cc
 tail-same : (l l′ : Summary) (ls ls′ : List Summary) → l ∷ ls ≡ l′ ∷ ls′ → ls ≡ ls′
 tail-same l l′ ls ls′ e = cc
 
-each : (rs : List Row) → Each Fits rs → all computed rs ≡ all given rs → Each RowHolds rs
-each [] f e = tt
-each (r ∷ rs) f e = (row-holds r (f .0) (head-same _ _ _ _ e), each rs (f .1) (tail-same _ _ _ _ e))
+module _ {A : Type 0} (P Q : A → Type 0) (f g : A → Summary) (holds : (x : A) → P x → f x ≡ g x → Q x) where
+  pub each : (xs : List A) → Each P xs → all f xs ≡ all g xs → Each Q xs
+  each [] h e = tt
+  each (x ∷ xs) h e = (holds x (h .0) (head-same _ _ _ _ e), each xs (h .1) (tail-same _ _ _ _ e))
 
-all-fit : Each Fits worked
+all-fit : Each Fits examples
 all-fit = search arith depth 40 fits 5000
 
-all-computed : all computed worked ≡ all given worked
-all-computed = refl
-
-pub worked-hold : Each RowHolds worked
-worked-hold = each worked all-fit all-computed
+pub examples-hold : Each RunHolds examples
+examples-hold = each Fits RunHolds computed given run-holds examples all-fit refl
