@@ -3,7 +3,7 @@
 use mathlib.Core.Bool.{Bool, true, false}
 use mathlib.Core.List.{List, [], _∷_, _++_}
 use mathlib.Core.Option.{Option, none, some}
-use Prim.Native.Nat.{ℕ, zero, suc}
+use Prim.Native.Nat.{ℕ, zero, suc, _^_}
 use lib.ListN.{replicate}
 use Rattle.expressions.specs.Grammar.{Production}
 use Rattle.programs.specs.Program.{Program}
@@ -49,6 +49,10 @@ pub record Env : Type 0 where
 -- how many attributes there are
 abbrev pub attributes : ℕ
 attributes = 4
+
+-- the count of visits goes no further
+abbrev pub mostVisits : ℕ
+mostVisits = 2 ^ 62
 
 abbrev pub fresh : Env
 fresh = record { values = replicate attributes 0; echo = false; out = []; count = 0 }

@@ -3,11 +3,9 @@
 -- Assumes nothing.
 use mathlib.Core.Path.{_≡_, refl}
 use mathlib.Core.List.{List, [], _∷_}
-use mathlib.Core.Option.{none}
 use Prim.Native.Nat.{ℕ, zero, suc, _<_}
 use native.Mathlib.Omega.{arith}
 use Rattle.expressions.specs.Expr.{nothing}
-use Rattle.programs.specs.Limits.{first, second}
 use Rattle.programs.specs.Section.{no-program}
 use Rattle.layout.specs.Layout.{Size, Sections}
 use Rattle.trees.specs.Trees.{Trees}
@@ -16,7 +14,7 @@ use Rattle.sheet.specs.Productions.{ProductionFits, Productions}
 use Rattle.sheet.specs.Fields.{FieldsAre, Programs}
 use Rattle.sheet.specs.Grounded.{Grounded}
 use Rattle.sheet.specs.Defect.{WellFormed}
-use Rattle.sheet.specs.Sheet.{RuleAt, IsSheet}
+use Rattle.sheet.specs.Sheet.{IsSheet}
 use Rattle.runs.specs.Visits.{no-programs}
 use Rattle.worked.specs.Worked.{smallest-bytes, smallest}
 

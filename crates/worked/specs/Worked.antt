@@ -103,7 +103,7 @@ sheet27-with ts =
 abbrev pub sheet27 : Sheet
 sheet27 = sheet27-with (branch (current-is 1) (program (print-start 1 ∷ print-end 1 ∷ [])) done ∷ become 0 2 ∷ [])
 
--- its rejecting form, which prints before it may reject
+-- its rejecting form: a book after a book rejects
 abbrev pub rejecting27 : Sheet
 rejecting27 =
     sheet27-with (branch (current-is 1) (program (print-start 1 ∷ print-end 1 ∷ become 0 2 ∷ []))
