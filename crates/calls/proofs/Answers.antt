@@ -1,0 +1,129 @@
+-- A call has one answer, and, where the reader answers, it has one. At each place the reader's answer is one (`one-answer` of the tokens), and what a token
+-- comes to is a function, so each way that a run can go on is decided there (`split`); every token taken leaves fewer bytes.
+-- Assumes nothing.
+use mathlib.Core.Path.{_≡_, refl, sym, ap, _∙_, subst}
+use mathlib.Core.Bool.{Bool, true, false}
+use mathlib.Core.List.{List}
+use mathlib.Core.Option.{Option, none, some}
+use Prim.Native.Nat.{ℕ, zero, suc, _+_, _-_, _≤_, _<_}
+use native.Mathlib.Omega.{arith}
+use lib.ListN.{length, drop}
+use Rattle.tokens.specs.declared.Answer.{Answer}
+use Rattle.tokens.specs.declared.Answer.the-variants.{Token, Begun, Bad, Long}
+use Rattle.tokens.specs.Tokens.{front, Means}
+use Rattle.tokens.proofs.Theory.{one-answer}
+use Rattle.tokens.proofs.Streams.{token-moves}
+use Rattle.sheet.specs.Sheet.{Sheet}
+use Rattle.runs.specs.Machine.{Control, State}
+use Rattle.calls.specs.Names.{tokenOf}
+use Rattle.calls.specs.Limits.{Taking, taken, refuses, no-room, oneToken}
+use Rattle.calls.specs.Call.{Held, Result, stopped, after-writing, numberAt, Runs, takes, stops, full, no-token, CalledBy, Called}
+
+module _ (a : Sheet) (part : List ℕ) (more : Bool) where
+  -- how a run goes on from the token that stands at `at`, by what that comes to
+  abbrev pub AfterToken : ℕ → ℕ → State → ℕ → Result → Taking → Type 0
+  AfterToken at room z next r (taken z′ w) = (r′ : Result) × Runs a part more next (room - length w) z′ r′ × (r ≡ after-writing w r′)
+  AfterToken at room z next r (refuses n) = r ≡ stopped n at z
+  AfterToken at room z next r no-room = r ≡ stopped 17 at z
+
+  abbrev pub AfterNone : ℕ → State → Result → Option ℕ → Type 0
+  AfterNone at z r none = ⊥
+  AfterNone at z r (some n) = r ≡ stopped n at z
+
+  -- and by what the reader answers there
+  abbrev pub GoesOn : ℕ → ℕ → State → Result → Answer → Type 0
+  GoesOn at room z r (Token e next) = AfterToken at room z (next .at) r (oneToken a z room (tokenOf a part e))
+  GoesOn at room z r Begun = AfterNone at z r (numberAt more (length (drop at part)) (z .control) Begun)
+  GoesOn at room z r Bad = AfterNone at z r (numberAt more (length (drop at part)) (z .control) Bad)
+  GoesOn at room z r Long = AfterNone at z r (numberAt more (length (drop at part)) (z .control) Long)
+
+  none≢some : (n : ℕ) → _≡_ {A = Option ℕ} none (some n) → ⊥
+  none≢some n e = let y : _≡_ {A = ℕ} 0 1 = cc in omega arith
+
+  by-number : (at room : ℕ) (z : State) (r : Result) (x : Answer) (n : ℕ) → numberAt more (length (drop at part)) (z .control) x ≡ some n →
+      r ≡ stopped n at z → GoesOn at room z r x
+  by-number at room z r (Token e next) n q p = absurd (none≢some n q)
+  by-number at room z r Begun n q p = subst (AfterNone at z r) (sym q) p
+  by-number at room z r Bad n q p = subst (AfterNone at z r) (sym q) p
+  by-number at room z r Long n q p = subst (AfterNone at z r) (sym q) p
+
+  pub to-number : (at room : ℕ) (z : State) (r : Result) (x : Answer) (n : ℕ) → numberAt more (length (drop at part)) (z .control) x ≡ some n →
+      GoesOn at room z r x → r ≡ stopped n at z
+  to-number at room z r (Token e next) n q p = absurd (none≢some n q)
+  to-number at room z r Begun n q p = subst (AfterNone at z r) q p
+  to-number at room z r Bad n q p = subst (AfterNone at z r) q p
+  to-number at room z r Long n q p = subst (AfterNone at z r) q p
+
+  own : {at room : ℕ} {z : State} {r : Result} → Runs a part more at room z r → (x : Answer) × Means (front part at) at x × GoesOn at room z r x
+  own (takes {at} {room} {z} {r} e next z′ w m t d) =
+      (Token e (record { at = next }), m, subst (AfterToken at room z next (after-writing w r)) (sym t) (r, d, refl))
+  own (stops {at} {room} {z} e next n m t) = (Token e (record { at = next }), m, subst (AfterToken at room z next (stopped n at z)) (sym t) refl)
+  own (full {at} {room} {z} e next m t) = (Token e (record { at = next }), m, subst (AfterToken at room z next (stopped 17 at z)) (sym t) refl)
+  own (no-token {at} {room} {z} x n m q) = (x, m, by-number at room z (stopped n at z) x n q refl)
+
+  -- a run goes on as the reader's answer says
+  pub split : {at room : ℕ} {z : State} {r : Result} → Runs a part more at room z r → (x : Answer) → Means (front part at) at x → GoesOn at room z r x
+  split {at} {room} {z} {r} d x m = let o = own d in subst (GoesOn at room z r) (one-answer (front part at) at (o .0) x (o .1) m) (o .2)
+
+  pub one-run : {at room : ℕ} {z : State} {r r′ : Result} → Runs a part more at room z r → Runs a part more at room z r′ → r ≡ r′
+  one-run {r′ = r′} (takes {at} {room} {z} e next z′ w m t d) d′ =
+      let i = subst (AfterToken at room z next r′) t (split d′ (Token e (record { at = next })) m) in
+      ap (after-writing w) (one-run d (i .1)) ∙ sym (i .2)
+  one-run {r′ = r′} (stops {at} {room} {z} e next n m t) d′ = sym (subst (AfterToken at room z next r′) t (split d′ (Token e (record { at = next })) m))
+  one-run {r′ = r′} (full {at} {room} {z} e next m t) d′ = sym (subst (AfterToken at room z next r′) t (split d′ (Token e (record { at = next })) m))
+  one-run {r′ = r′} (no-token {at} {room} {z} x n m q) d′ = sym (to-number at room z r′ x n q (split d′ x m))
+
+  -- the number where a token is only begun
+  begun-number : (left : ℕ) (c : Control) → (n : ℕ) × (numberAt more left c Begun ≡ some n)
+  begun-number left c = by more left
+    where
+      by : (b : Bool) (l : ℕ) → (n : ℕ) × (numberAt b l c Begun ≡ some n)
+      by true l = (16, refl)
+      by false zero = (_, refl)
+      by false (suc l) = (27, refl)
+
+  module _ (at : ℕ) (rest : (next : ℕ) → at < next → next ≤ length part → (room : ℕ) (z : State) → (r : Result) × Runs a part more next room z r) where
+    from-token : (room : ℕ) (z : State) (e : _) (next : ℕ) → Means (front part at) at (Token e (record { at = next })) → at ≤ length part →
+        (t : Taking) → oneToken a z room (tokenOf a part e) ≡ t → (r : Result) × Runs a part more at room z r
+    from-token room z e next m h (taken z′ w) t =
+        let k = token-moves part at e (record { at = next }) h m in
+        let i = rest next (k .0) (k .1) (room - length w) z′ in
+        (after-writing w (i .0), takes e next z′ w m t (i .1))
+    from-token room z e next m h (refuses n) t = (stopped n at z, stops e next n m t)
+    from-token room z e next m h no-room t = (stopped 17 at z, full e next m t)
+
+    from-answer : (room : ℕ) (z : State) → at ≤ length part → (x : Answer) → Means (front part at) at x → (r : Result) × Runs a part more at room z r
+    from-answer room z h (Token e next) m = from-token room z e (next .at) m h (oneToken a z room (tokenOf a part e)) refl
+    from-answer room z h Begun m =
+        let b = begun-number (length (drop at part)) (z .control) in
+        (stopped (b .0) at z, no-token Begun (b .0) m (b .1))
+    from-answer room z h Bad m = (stopped 20 at z, no-token Bad 20 m refl)
+    from-answer room z h Long m = (stopped 21 at z, no-token Long 21 m refl)
+
+  -- a reader's answer at each place
+  abbrev pub Readable : Type 0
+  Readable = (at : ℕ) → (x : Answer) × Means (front part at) at x
+
+  runs-on : Readable → (left at : ℕ) → at ≤ length part → length part ≤ at + left → (room : ℕ) (z : State) → (r : Result) × Runs a part more at room z r
+  runs-on read zero at h l room z = from-answer at (λ next i j room′ z′. absurd (omega arith)) room z h (read at .0) (read at .1)
+  runs-on read (suc left) at h l room z =
+      from-answer at (λ next i j room′ z′. runs-on read left next j (omega arith) room′ z′) room z h (read at .0) (read at .1)
+
+  pub some-run : Readable → (room : ℕ) (z : State) → (r : Result) × Runs a part more 0 room z r
+  some-run read room z = runs-on read (length part) 0 (omega arith) (omega arith) room z
+
+  -- any two answers of a call are equal
+  by-closing : (room : ℕ) (z : State) (c : Option ℕ) (r r′ : Result) → CalledBy a part more room z c r → CalledBy a part more room z c r′ → r ≡ r′
+  by-closing room z none r r′ d d′ = one-run d d′
+  by-closing room z (some n) r r′ d d′ = d ∙ sym d′
+
+  pub call-one : (room : ℕ) (h : Held) (r r′ : Result) → Called a part more room h r → Called a part more room h r′ → r ≡ r′
+  call-one room h r r′ d d′ = by-closing room (h .run) (h .closing) r r′ d d′
+
+  -- and it has one
+  some-by : Readable → (room : ℕ) (z : State) (c : Option ℕ) → (r : Result) × CalledBy a part more room z c r
+  some-by read room z none = some-run read room z
+  some-by read room z (some n) = (_, refl)
+
+  pub call-some : Readable → (room : ℕ) (h : Held) → (r : Result) × Called a part more room h r
+  call-some read room h = some-by read room (h .run) (h .closing)

@@ -1,0 +1,174 @@
+-- Demand 2 over bytes: a call on a whole stream, from a fresh state, answers 0 exactly when the bytes are accepted and their output has room; then the
+-- number, what is taken and written, and the state are the tree's. The call reads the tokens of the stream and steps over them (`Steps`); those steps are a
+-- run of the machine over tokens, which the runs tie to trees (`spelled-iff`).
+-- Assumes nothing.
+use mathlib.Core.Path.{_≡_, refl, sym, ap, ap₂, _∙_, subst}
+use mathlib.Core.Bool.{true, false}
+use mathlib.Core.List.{List, [], _∷_, _++_, append-nil, append-assoc}
+use mathlib.Core.Logic.{_↔_}
+use mathlib.Core.Option.{some}
+use Prim.Native.Nat.{ℕ, _+_, _*_, _≤_}
+use native.Mathlib.Omega.{arith}
+use lib.ListN.{length, take, drop, length-append, length-take, take-append-drop}
+use lib.Seq.{drop-drop, drop-append-seam, take-append-seam}
+use Rattle.text.specs.Chars.{Starts}
+use Rattle.tokens.specs.declared.Event.{Event}
+use Rattle.tokens.specs.Tokens.{Kind, start, end, empty, Tok, tag, ref, char, Good, opens, closes, bytes, eventOf, front, Means}
+use Rattle.tokens.specs.Stream.{Reads, flat, AllGood, AllShort, eventsAt}
+use Rattle.tokens.proofs.Theory.{agree}
+use Rattle.tokens.proofs.Streams.{flat-one, reads-flat, reads-tokens}
+use Rattle.output.specs.Escape.{Piece, render}
+use Rattle.sheet.specs.Sheet.{Sheet}
+use Rattle.runs.specs.Visits.{Env}
+use Rattle.runs.specs.Parse.{yield, size}
+use Rattle.runs.specs.Machine.{Control, after, State, fresh-state}
+use Rattle.runs.specs.Taken.{Passed, closed-with}
+use Rattle.runs.specs.Spells.{Token, start-token, end-token, empty-token, eventsOfMarks, Spelled, through, runTokens}
+use Rattle.runs.proofs.Main.{to-tree, parsed-count}
+use Rattle.runs.proofs.Spells.{spelled-iff, through-spells}
+use Rattle.calls.specs.Names.{tagNamed, tokenFor, tokensFor, tokenOf}
+use Rattle.runs.specs.Visits.{mostVisits}
+use Rattle.calls.specs.Limits.{without-output, silent}
+use Rattle.calls.specs.Call.{Result, fresh-held, Called}
+use Rattle.calls.specs.Accepted.{Accepted, accepted}
+use Rattle.calls.proofs.Frame.{state-behind, countOf}
+use Rattle.calls.proofs.Steps.{tokensOf, Steps, steps-silent, steps-count, steps-run, run-steps, ended, Ends, run-ends, ends-run}
+
+-- the tokens that are read have at most 32 bytes each, as a front has no more
+module _ (s : List ℕ) where
+  front-of : (at : ℕ) (t t′ : Tok) (r v : List ℕ) → Good t → Good t′ → drop at s ≡ bytes t ++ r → front s at ≡ bytes t′ ++ v → (t ≡ t′) × (length (bytes t) ≤ 32)
+  front-of at t t′ r v ok ok′ e w =
+      let d : List ℕ = drop at s in
+      let b : d ≡ bytes t′ ++ (v ++ drop 32 d) = sym (take-append-drop 32 d) ∙ ap (λ (l : List ℕ). l ++ drop 32 d) w ∙ append-assoc (bytes t′) v (drop 32 d) in
+      let q = agree t t′ ok ok′ r (v ++ drop 32 d) (sym e ∙ b) .0 in
+      (q, omega (arith, ap (λ (x : Tok). length (bytes x)) q, ap length w, length-append (bytes t′) v, length-take 32 d))
+
+  reads-short : (ts : List Tok) (at to : ℕ) (r : List ℕ) → AllGood ts → drop at s ≡ flat ts ++ r → Reads s at (eventsAt at ts) to → AllShort ts
+  reads-short [] at to r g e rd = tt
+  reads-short (t ∷ ts) at to r g e (next, (t′, ok′, (v, w), p, q), rd) =
+      let e₁ : drop at s ≡ bytes t ++ (flat ts ++ r) = e ∙ append-assoc (bytes t) (flat ts) r in
+      let f = front-of at t t′ (flat ts ++ r) v (g .0) ok′ e₁ w in
+      let n : next ≡ at + length (bytes t) = q ∙ ap (λ (x : Tok). at + length (bytes x)) (sym (f .0)) in
+      let d : drop (at + length (bytes t)) s ≡ flat ts ++ r =
+      sym (drop-drop (length (bytes t)) at s) ∙ ap (drop (length (bytes t))) e₁ ∙ drop-append-seam (bytes t) (flat ts ++ r) in
+      (f .1, reads-short ts (at + length (bytes t)) to r (g .1) d (subst (λ (i : ℕ). Reads s i (eventsAt (at + length (bytes t)) ts) to) n rd))
+
+-- the tokens of the events that are read are those of the tokens as they are spelled
+module _ (a : Sheet) (s : List ℕ) where
+  name-at : (k : Kind) (at : ℕ) (n b r : List ℕ) → drop at s ≡ bytes (tag k n b) ++ r → take (length n) (drop (at + length (opens k)) s) ≡ n
+  name-at k at n b r e =
+      let d : drop at s ≡ opens k ++ (n ++ ((b ++ closes k) ++ r)) =
+      e ∙ append-assoc (opens k) (n ++ (b ++ closes k)) r ∙ ap (λ (l : List ℕ). opens k ++ l) (append-assoc n (b ++ closes k) r) in
+      ap (take (length n)) (sym (drop-drop (length (opens k)) at s) ∙ ap (drop (length (opens k))) d ∙ drop-append-seam (opens k) (n ++ ((b ++ closes k) ++ r)))
+      ∙ take-append-seam n ((b ++ closes k) ++ r)
+
+  token-at : (t : Tok) (at : ℕ) (r : List ℕ) → drop at s ≡ bytes t ++ r → tokenOf a s (eventOf at t) ≡ tokenFor a t
+  token-at (tag start n b) at r e = ap (λ (l : List ℕ). start-token (tagNamed (a .names) l)) (name-at start at n b r e)
+  token-at (tag end n b) at r e = ap (λ (l : List ℕ). end-token (tagNamed (a .names) l)) (name-at end at n b r e)
+  token-at (tag empty n b) at r e = ap (λ (l : List ℕ). empty-token (tagNamed (a .names) l)) (name-at empty at n b r e)
+  token-at (ref x) at r e = refl
+  token-at (char c) at r e = refl
+
+  pub tokens-at : (ts : List Tok) (at : ℕ) (r : List ℕ) → drop at s ≡ flat ts ++ r → tokensOf a s (eventsAt at ts) ≡ tokensFor a ts
+  tokens-at [] at r e = refl
+  tokens-at (t ∷ ts) at r e =
+      let e₁ : drop at s ≡ bytes t ++ (flat ts ++ r) = e ∙ append-assoc (bytes t) (flat ts) r in
+      let d : drop (at + length (bytes t)) s ≡ flat ts ++ r =
+      sym (drop-drop (length (bytes t)) at s) ∙ ap (drop (length (bytes t))) e₁ ∙ drop-append-seam (bytes t) (flat ts ++ r) in
+      ap₂ (λ (k : Token) (ks : List Token). k ∷ ks) (token-at t at (flat ts ++ r) e₁) (tokens-at ts (at + length (bytes t)) r d)
+
+-- a state that holds no output
+quiet : (z : State) → z .store .env .out ≡ [] → silent z ≡ z
+quiet z h =
+    ap (λ (l : List Piece). record { control = z .control; store = record { kept = z .store .kept; env = record { values = z .store .env .values; echo = z .store .env .echo; out = l; count = z .store .env .count } } })
+    (sym h)
+
+length-nil : (l : List ℕ) → length l ≡ 0 → l ≡ []
+length-nil [] e = refl
+length-nil (x ∷ l) e = absurd (omega (arith, e))
+
+module _ (a : Sheet) (ok : Passed a) (s : List ℕ) (room : ℕ) where
+  -- the state that steps from fresh come to, where the root is closed
+  last-is : (v : Env) (last : State) (p : List Piece) → last .store .env .out ≡ [] → state-behind p last ≡ closed-with v →
+      (last ≡ closed-with (without-output v)) × (v .out ≡ p) × (v .count ≡ countOf last)
+  last-is v last p h e =
+      (sym (quiet last h) ∙ ap silent e, sym (ap (λ (z : State). z .store .env .out) e) ∙ ap (λ (l : List Piece). p ++ l) h ∙ append-nil p, sym (ap countOf e))
+
+  ended-is : (v : Env) (to : ℕ) (p : List Piece) (last : State) → to ≡ length s → v .out ≡ p → last ≡ closed-with (without-output v) → ended to p last ≡ accepted s v
+  ended-is v to p last n o l =
+      ap₂ (λ (j : ℕ) (x : List Piece). ended j x last) n (sym o)
+      ∙ ap (λ (z : State). record { number = 0; taken = length s; output = render (v .out); held = record { run = z; closing = some 0 } }) l
+
+  abbrev pub Answered : Result → Env → Type 0
+  Answered r v = Accepted a s v × (length (render (v .out)) ≤ room) × (r ≡ accepted s v)
+
+  to-accepted : (r : Result) → Called a s false room fresh-held r → r .number ≡ 0 → (v : Env) × Answered r v
+  to-accepted r d h =
+      let n = run-ends a s d h in
+      let es : List Event = n .events in
+      let run : runTokens a fresh-state (tokensOf a s es) ≡ through (state-behind (n .printed) (n .last)) =
+      steps-run a fresh-state (tokensOf a s es) (n .last) (n .printed) [] (n .steps) in
+      let k = through-spells a (tokensOf a s es) (state-behind (n .printed) (n .last)) run in
+      let t = to-tree a (eventsOfMarks (k .0)) (state-behind (n .printed) (n .last)) (k .1) (n .root-closed) in
+      let v : Env = t .0 in
+      let l = last-is v (n .last) (n .printed) (steps-silent a fresh-state (tokensOf a s es) (n .last) (n .printed) refl (n .steps)) (t .2) in
+      let c = steps-count a fresh-state (tokensOf a s es) (n .last) (n .printed) (omega arith) (n .steps) in
+      let (ts, g, p, q, e) = reads-tokens s 0 es (n .to) (n .reads) in
+      let same : tokensOf a s es ≡ tokensFor a ts = ap (tokensOf a s) p ∙ tokens-at a s ts 0 (drop (n .to) s) e in
+      let nil : drop (n .to) s ≡ [] = length-nil (drop (n .to) s) (n .nothing-left) in
+      let b : s ≡ flat ts = e ∙ ap (λ (x : List ℕ). flat ts ++ x) nil ∙ append-nil (flat ts) in
+      let o : render (v .out) ≡ render (n .printed) = ap render (l .1) in
+      let i : n .to ≡ length s = omega (arith, q, ap length b) in (
+        v,
+        (
+          record {
+            tokens = ts;
+            good = g;
+            short = reads-short s ts 0 (n .to) (drop (n .to) s) g e (subst (λ (x : List Event). Reads s 0 x (n .to)) p (n .reads));
+            are-bytes = b;
+            spells = spelled-iff a ok (tokensFor a ts) v .0 (ap (runTokens a fresh-state) (sym same) ∙ run ∙ ap through (t .2));
+            counts = omega (arith, c, l .2);
+          },
+          omega (arith, ap length o, n .fits),
+          n .is ∙ ended-is v (n .to) (n .printed) (n .last) i (l .1) (l .0),
+        ),
+      )
+
+  from-accepted : (v : Env) → Accepted a s v → length (render (v .out)) ≤ room → Called a s false room fresh-held (accepted s v)
+  from-accepted v x f =
+      let ts : List Tok = x .tokens in
+      let es : List Event = eventsAt 0 ts in
+      let rd : Reads s 0 es (0 + length (flat ts)) =
+      subst (λ (l : List ℕ). Reads l 0 es (0 + length (flat ts))) (append-nil (flat ts) ∙ sym (x .are-bytes)) (reads-flat ts [] [] (x .good) (x .short)) in
+      let same : tokensOf a s es ≡ tokensFor a ts = tokens-at a s ts 0 [] (x .are-bytes ∙ sym (append-nil (flat ts))) in
+      let st = run-steps a fresh-state (tokensOf a s es) [] (closed-with v) (ap (runTokens a fresh-state) same ∙ spelled-iff a ok (tokensFor a ts) v .1 (x .spells)) (x .counts) in
+      let l = last-is v (st .last) (st .printed) (steps-silent a fresh-state (tokensOf a s es) (st .last) (st .printed) refl (st .steps)) (sym (st .is)) in
+      let n : 0 + length (flat ts) ≡ length s = omega (arith, ap length (x .are-bytes)) in
+      let o : render (v .out) ≡ render (st .printed) = ap render (l .1) in
+      let e : drop (0 + length (flat ts)) s ≡ [] = ap₂ (λ (i : ℕ) (x : List ℕ). drop i x) n (sym (append-nil s)) ∙ drop-append-seam s [] in
+      let d = ends-run a s es 0 room fresh-state (0 + length (flat ts)) (st .last) (st .printed) rd (st .steps) (ap (λ (z : State). z .control) (l .0)) (ap length e)
+      (omega (arith, ap length o, f)) in
+      subst (Called a s false room fresh-held)
+      (ended-is v (0 + length (flat ts)) (st .printed) (st .last) n (l .1) (l .0)) d
+
+  -- demand 2
+  pub accepted-iff : (r : Result) → (Called a s false room fresh-held r × (r .number ≡ 0)) ↔ ((v : Env) × Answered r v)
+  accepted-iff r = (
+    (λ h. to-accepted r (h .0) (h .1)),
+    (λ h. (subst (Called a s false room fresh-held) (sym (h .1 .2)) (from-accepted (h .0) (h .1 .0) (h .1 .1)), ap (λ (x : Result). x .number) (h .1 .2))),
+  )
+
+-- the tree and what it comes to are one
+pub accepted-one : (a : Sheet) → Passed a → (s : List ℕ) (v v′ : Env) → Accepted a s v → Accepted a s v′ → v ≡ v′
+accepted-one a ok s v v′ x x′ =
+    let e : x .tokens ≡ x′ .tokens = flat-one (x .tokens) (x′ .tokens) (x .good) (x′ .good) (sym (x .are-bytes) ∙ x′ .are-bytes) in
+    let r = spelled-iff a ok (tokensFor a (x .tokens)) v .1 (x .spells) in
+    let r′ = spelled-iff a ok (tokensFor a (x′ .tokens)) v′ .1 (x′ .spells) in
+    let q : through (closed-with v) ≡ through (closed-with v′) = sym r ∙ ap (λ (ts : List Tok). runTokens a fresh-state (tokensFor a ts)) e ∙ r′ in
+    let p : closed-with v ≡ closed-with v′ = cc in
+    ap (λ (z : State). z .store .env) p
+
+-- the count is twice the number of nodes of the tree
+pub accepted-count : (a : Sheet) (s : List ℕ) (v : Env) (x : Accepted a s v) → v .count ≡ 2 * size (x .spells .root)
+accepted-count a s v x =
+    parsed-count a (yield (x .spells .root)) v (record { root = x .spells .root; are-events = refl; fits = x .spells .fits; value = x .spells .value })

@@ -1,0 +1,257 @@
+-- How a stream is cut into parts, and how much room is lent at a time, changes nothing. What the reader answers of a part it answers of the whole, unless
+-- it answers Begun (`stays` of the tokens), and what a token comes to depends on the room only where there is too little; so a call on a part goes as the call on
+-- the whole up to where it stops (`resume`). From there on the bytes that are left do as well as the whole (`shift`).
+-- Assumes nothing.
+use mathlib.Core.Path.{_≡_, refl, sym, ap, ap₂, _∙_, subst}
+use mathlib.Core.Logic.{_⊎_, inl, inr}
+use mathlib.Core.Bool.{Bool, true, false, _||_, true≢false}
+use mathlib.Core.List.{List, [], _∷_, _++_, append-nil, append-assoc}
+use mathlib.Core.Option.{Option, none, some}
+use Prim.Native.Nat.{ℕ, zero, suc, _+_, _-_, _≤_}
+use native.Mathlib.Omega.{arith}
+use native.Mathlib.Nat.{add-assoc}
+use lib.Dec.{leb, eqb}
+use lib.ListN.{length, take, drop, length-append, length-drop}
+use lib.Seq.{drop-drop, take-append-le, drop-append-le}
+use borrow.Author.Tests.{ne-eqb, leb-true, le-leb}
+use Rattle.tokens.specs.declared.Cursor.{Cursor}
+use Rattle.tokens.specs.declared.Event.{Event}
+use Rattle.tokens.specs.declared.Event.the-variants.{Start, End, Empty, Character}
+use Rattle.tokens.specs.declared.Answer.{Answer}
+use Rattle.tokens.specs.declared.Answer.the-variants.{Token, Begun, Bad, Long}
+use Rattle.tokens.specs.Tokens.{Kind, start, end, empty, Tok, tag, ref, char, bytes, eventOf, front, Means}
+use Rattle.tokens.proofs.Streams.{tag-name}
+use Rattle.tokens.proofs.Parts.{stays}
+use Rattle.sheet.specs.Sheet.{Sheet}
+use Rattle.runs.specs.Machine.{Control, before, inside, after, State, took, refused}
+use Rattle.runs.specs.Spells.{start-token, end-token, empty-token, stepToken}
+use Rattle.calls.specs.Names.{tagNamed, tokenOf}
+use Rattle.runs.specs.Visits.{mostVisits}
+use Rattle.calls.specs.Limits.{silent, outputOf, Taking, taken, refuses, no-room, limited, within, oneToken}
+use Rattle.calls.specs.Call.{Held, closingOf, handed, Result, stopped, after-writing, numberAt, Runs, takes, stops, full, no-token, CalledBy, Called}
+use Rattle.calls.specs.Parts.{joined, Told, Continued}
+use Rattle.calls.proofs.Answers.{AfterToken, split, to-number}
+use Rattle.calls.proofs.Frame.{countOf}
+use Rattle.calls.proofs.Steps.{takes-one, one-takes, refuses-over}
+
+abbrev RunToken : Type 0
+RunToken = Rattle.runs.specs.Spells.Token
+
+abbrev RunAnswer : Type 0
+RunAnswer = Rattle.runs.specs.Machine.Answer
+
+-- more room changes nothing where there is enough, and no refusal
+module _ (a : Sheet) (z : State) (room extra : ℕ) (k : RunToken) where
+  taken-in-more : (z′ : State) (w : List ℕ) → oneToken a z room k ≡ taken z′ w → (oneToken a z (room + extra) k ≡ taken z′ w) × (length w ≤ room)
+  taken-in-more z′ w e =
+      let o = takes-one a z room k z′ w e in (
+        one-takes a z (room + extra) k (o .reached) (o .stepped) (o .counts) (omega (arith, o .fits)) ∙ ap₂ taken (sym (o .silenced)) (sym (o .writes)),
+        omega (arith, o .fits, ap length (o .writes)),
+      )
+
+  refused-in-more : (n : ℕ) → oneToken a z room k ≡ refuses n → oneToken a z (room + extra) k ≡ refuses n
+  refused-in-more n e = by (stepToken a z k) e
+    where
+      by-tests : (y : State) (c f f′ : Bool) → limited y c f ≡ refuses n → limited y c f′ ≡ refuses n
+      by-tests y false f f′ e = e
+      by-tests y true false f′ e = absurd (let x : _≡_ {A = ℕ} 0 1 = cc in omega arith)
+      by-tests y true true f′ e = absurd (let x : _≡_ {A = ℕ} 0 1 = cc in omega arith)
+
+      by : (x : RunAnswer) → within room x ≡ refuses n → within (room + extra) x ≡ refuses n
+      by (took y) e = by-tests y (leb (countOf y) mostVisits) (leb (length (outputOf y)) room) (leb (length (outputOf y)) (room + extra)) e
+      by (refused m) e = e
+
+-- the name of a tag that was read in s stands in s
+module _ (a : Sheet) (s r : List ℕ) where
+  name-in : (from len : ℕ) → from + len ≤ length s → take len (drop from (s ++ r)) ≡ take len (drop from s)
+  name-in from len h = ap (take len) (drop-append-le from s r (omega arith)) ∙ take-append-le len (drop from s) r (omega (arith, length-drop from s))
+
+  token-in : (at : ℕ) (e : Event) (next : Cursor) → Means (front s at) at (Token e next) → tokenOf a (s ++ r) e ≡ tokenOf a s e
+  token-in at (Start from len) next m =
+      ap (λ (n : List ℕ). start-token (tagNamed (a .names) n)) (name-in from len (tag-name start s at from len next m .within))
+  token-in at (End from len) next m =
+      ap (λ (n : List ℕ). end-token (tagNamed (a .names) n)) (name-in from len (tag-name end s at from len next m .within))
+  token-in at (Empty from len) next m =
+      ap (λ (n : List ℕ). empty-token (tagNamed (a .names) n)) (name-in from len (tag-name empty s at from len next m .within))
+  token-in at (Character c) next m = refl
+
+token≢begun : (e : Event) (n : Cursor) → Token e n ≡ Begun → ⊥
+token≢begun e n p = let z : _≡_ {A = ℕ} 0 1 = cc in omega arith
+
+bad≢begun : Bad ≡ Begun → ⊥
+bad≢begun p = let z : _≡_ {A = ℕ} 0 1 = cc in omega arith
+
+long≢begun : Long ≡ Begun → ⊥
+long≢begun p = let z : _≡_ {A = ℕ} 0 1 = cc in omega arith
+
+-- a number over 17 closes
+closes : (n : ℕ) → 18 ≤ n → closingOf (eqb n 16 || eqb n 17) n ≡ some n
+closes n h = ap₂ (λ (b b′ : Bool). closingOf (b || b′) n) (ne-eqb n 16 (λ e. omega arith)) (ne-eqb n 17 (λ e. omega arith))
+
+-- and so do 27 and 0, at the end of a stream
+end-closes : (left : ℕ) (c : Control) (n : ℕ) → numberAt false left c Begun ≡ some n → closingOf (eqb n 16 || eqb n 17) n ≡ some n
+end-closes zero before n q = let h : 27 ≡ n = cc in closes n (omega arith)
+end-closes zero (inside o os) n q = let h : 27 ≡ n = cc in closes n (omega arith)
+end-closes zero after n q =
+    let h : 0 ≡ n = cc in
+    subst (λ (m : ℕ). closingOf (eqb m 16 || eqb m 17) m ≡ some m) h refl
+end-closes (suc left) c n q = let h : 27 ≡ n = cc in closes n (omega arith)
+
+module _ (a : Sheet) (s r : List ℕ) (b more : Bool) (told : Told b r more) (extra : ℕ) where
+  -- how the call on the whole goes, by what closed the state of the call on the part
+  abbrev Onward : ℕ → Result → Result → Option ℕ → Type 0
+  Onward room r₁ R none =
+      (r₂ : Result) × Runs a (s ++ r) more (r₁ .taken) (room + extra - length (r₁ .output)) (r₁ .held .run) r₂ × (R ≡ after-writing (r₁ .output) r₂)
+  Onward room r₁ R (some n) = R ≡ r₁
+
+  -- where the part's call stops open, the whole's goes on from there
+  from-here : (at room : ℕ) (z : State) (R : Result) (n : ℕ) → Runs a (s ++ r) more at (room + extra) z R → Onward room (stopped n at z) R none
+  from-here at room z R n d = (R, subst (λ (m : ℕ). Runs a (s ++ r) more at m z R) (omega arith) d, refl)
+
+  lift : (room : ℕ) (w : List ℕ) (r₁ R R′ : Result) (c : Option ℕ) → length w ≤ room → R ≡ after-writing w R′ → Onward (room - length w) r₁ R′ c →
+      Onward room (after-writing w r₁) R c
+  lift room w r₁ R R′ none h e (r₂, d, q) = (
+    r₂,
+    subst (λ (m : ℕ). Runs a (s ++ r) more (r₁ .taken) m (r₁ .held .run) r₂) (omega (arith, length-append w (r₁ .output))) d,
+    e ∙ ap (after-writing w) q ∙ ap (λ (l : List ℕ). record { number = r₂ .number; taken = r₂ .taken; output = l; held = r₂ .held }) (sym (append-assoc w (r₁ .output) (r₂ .output))),
+  )
+  lift room w r₁ R R′ (some n) h e q = e ∙ ap (after-writing w) q
+
+  -- where the part's call stops at a token that is only begun
+  at-begun : (at room : ℕ) (z : State) (R : Result) (n : ℕ) → Means (front s at) at Begun → numberAt b (length (drop at s)) (z .control) Begun ≡ some n →
+      Runs a (s ++ r) more at (room + extra) z R → Onward room (stopped n at z) R (handed n z .closing)
+  at-begun at room z R n m q d = by b refl told
+    where
+      waits : b ≡ true → Onward room (stopped n at z) R (handed n z .closing)
+      waits e =
+          let i : some 16 ≡ some n = ap (λ (x : Bool). numberAt x (length (drop at s)) (z .control) Begun) (sym e) ∙ q in
+          let h : 16 ≡ n = cc in
+          subst (λ (j : ℕ). Onward room (stopped j at z) R (handed j z .closing)) h (from-here at room z R 16 d)
+
+      by : (x : Bool) → b ≡ x → Told b r more → Onward room (stopped n at z) R (handed n z .closing)
+      by true e t = waits e
+      by false e (inl t) = waits t
+      by false e (inr (l, t)) =
+          let w : s ≡ s ++ r = sym (append-nil s) ∙ ap (λ (x : List ℕ). s ++ x) (sym l) in
+          let k : numberAt more (length (drop at (s ++ r))) (z .control) Begun ≡ some n =
+          ap₂ (λ (x : Bool) (y : List ℕ). numberAt x (length (drop at y)) (z .control) Begun) (sym t) (sym w) ∙ q in
+          subst (Onward room (stopped n at z) R)
+          (sym (end-closes (length (drop at s)) (z .control) n (ap (λ (x : Bool). numberAt x (length (drop at s)) (z .control) Begun) (sym e) ∙ q)))
+          (to-number a (s ++ r) more at (room + extra) z R Begun n k (split a (s ++ r) more d Begun (subst (λ (y : List ℕ). Means (front y at) at Begun) w m)))
+
+  resume : {at room : ℕ} {z : State} {r₁ R : Result} → Runs a s b at room z r₁ → Runs a (s ++ r) more at (room + extra) z R → Onward room r₁ R (r₁ .held .closing)
+  resume {R = R} (takes {at} {room} {z} {r = r₁} e next z′ w m t d) d′ =
+      let m′ = stays s r at (Token e (record { at = next })) (token≢begun e (record { at = next })) m in
+      let o = taken-in-more a z room extra (tokenOf a s e) z′ w t in
+      let i = subst (AfterToken a (s ++ r) more at (room + extra) z next R)
+      (ap (oneToken a z (room + extra)) (token-in a s r at e (record { at = next }) m) ∙ o .0) (split a (s ++ r) more d′ (Token e (record { at = next })) m′) in
+      let f = o .1 in
+      lift room w r₁ R (i .0) (r₁ .held .closing) f (i .2)
+      (resume d (subst (λ (n : ℕ). Runs a (s ++ r) more next n z′ (i .0)) (omega arith) (i .1)))
+  resume {R = R} (stops {at} {room} {z} e next n m t) d′ =
+      let m′ = stays s r at (Token e (record { at = next })) (token≢begun e (record { at = next })) m in
+      let i = subst (AfterToken a (s ++ r) more at (room + extra) z next R)
+      (ap (oneToken a z (room + extra)) (token-in a s r at e (record { at = next }) m) ∙ refused-in-more a z room extra (tokenOf a s e) n t)
+      (split a (s ++ r) more d′ (Token e (record { at = next })) m′) in
+      let h = refuses-over a z room (tokenOf a s e) n t in
+      subst (Onward room (stopped n at z) R) (sym (closes n (omega arith))) i
+  resume {R = R} (full {at} {room} {z} e next m t) d′ = from-here at room z R 17 d′
+  resume {R = R} (no-token {at} {room} {z} (Token e next) n m q) d′ = absurd (let y : _≡_ {A = ℕ} 0 1 = cc in omega arith)
+  resume {R = R} (no-token {at} {room} {z} Begun n m q) d′ = at-begun at room z R n m q d′
+  resume {R = R} (no-token {at} {room} {z} Bad n m q) d′ =
+      let h : 20 ≡ n = cc in
+      subst (Onward room (stopped n at z) R) (sym (closes n (omega arith)))
+      (to-number a (s ++ r) more at (room + extra) z R Bad n q (split a (s ++ r) more d′ Bad (stays s r at Bad bad≢begun m)))
+  resume {R = R} (no-token {at} {room} {z} Long n m q) d′ =
+      let h : 21 ≡ n = cc in
+      subst (Onward room (stopped n at z) R) (sym (closes n (omega arith)))
+      (to-number a (s ++ r) more at (room + extra) z R Long n q (split a (s ++ r) more d′ Long (stays s r at Long long≢begun m)))
+
+-- what stands in front of a part changes an answer's places only
+abbrev moved-by : ℕ → Result → Result
+moved-by n r = record { number = r .number; taken = n + r .taken; output = r .output; held = r .held }
+
+module _ (a : Sheet) (whole : List ℕ) (more : Bool) (n : ℕ) where
+  abbrev rest : List ℕ
+  rest = drop n whole
+
+  name-moved : (at m len : ℕ) → take len (drop (at + m) rest) ≡ take len (drop (n + at + m) whole)
+  name-moved at m len = ap (take len) (drop-drop (at + m) n whole ∙ ap (λ (i : ℕ). drop i whole) (sym (add-assoc n at m)))
+
+  token-moved : (at : ℕ) (t : Tok) → tokenOf a rest (eventOf at t) ≡ tokenOf a whole (eventOf (n + at) t)
+  token-moved at (tag start m g) = ap (λ (l : List ℕ). start-token (tagNamed (a .names) l)) (name-moved at 1 (length m))
+  token-moved at (tag end m g) = ap (λ (l : List ℕ). end-token (tagNamed (a .names) l)) (name-moved at 2 (length m))
+  token-moved at (tag empty m g) = ap (λ (l : List ℕ). empty-token (tagNamed (a .names) l)) (name-moved at 1 (length m))
+  token-moved at (ref x) = refl
+  token-moved at (char c) = refl
+
+  front-moved : (at from : ℕ) → from ≡ n + at → front whole from ≡ front rest at
+  front-moved at from h = ap (take 32) (ap (λ (i : ℕ). drop i whole) h ∙ sym (drop-drop at n whole))
+
+  abbrev Shifted : ℕ → ℕ → State → Result → Type 0
+  Shifted at room z r = (r′ : Result) × Runs a rest more at room z r′ × (r ≡ moved-by n r′)
+
+  -- a token in the bytes that are left
+  record Left (at from room : ℕ) (z : State) (e : Event) (next : ℕ) : Type 0 where
+    pub event : Event
+    pub to : ℕ
+    pub means : Means (front rest at) at (Token event (record { at = to }))
+    pub is-next : next ≡ n + to
+    pub same : oneToken a z room (tokenOf a whole e) ≡ oneToken a z room (tokenOf a rest event)
+
+  left-token : (at from room : ℕ) (z : State) (e : Event) (next : ℕ) → from ≡ n + at → Means (front whole from) from (Token e (record { at = next })) →
+      Left at from room z e next
+  left-token at from room z e next h (t, ok, st, p, q) =
+      record {
+        event = eventOf at t;
+        to = at + length (bytes t);
+        means = (t, ok, (st .0, sym (front-moved at from h) ∙ st .1), refl, refl);
+        is-next = omega (arith, q, h);
+        same = ap (oneToken a z room) (ap (tokenOf a whole) (p ∙ ap (λ (i : ℕ). eventOf i t) h) ∙ sym (token-moved at t));
+      }
+
+  none-left : (at from : ℕ) (x : Answer) (k : ℕ) (z : State) → from ≡ n + at → Means (front whole from) from x →
+      numberAt more (length (drop from whole)) (z .control) x ≡ some k → Means (front rest at) at x × (numberAt more (length (drop at rest)) (z .control) x ≡ some k)
+  none-left at from (Token e next) k z h m q = absurd (let y : _≡_ {A = ℕ} 0 1 = cc in omega arith)
+  none-left at from Begun k z h m q = (
+    subst (λ (f : List ℕ). Means f at Begun) (front-moved at from h) m,
+    ap (λ (l : List ℕ). numberAt more (length l) (z .control) Begun) (drop-drop at n whole ∙ ap (λ (i : ℕ). drop i whole) (sym h)) ∙ q,
+  )
+  none-left at from Bad k z h m q = (subst (λ (f : List ℕ). Means f at Bad) (front-moved at from h) m, q)
+  none-left at from Long k z h m q = (subst (λ (f : List ℕ). Means f at Long) (front-moved at from h) m, q)
+
+  shift : {from room : ℕ} {z : State} {r : Result} → Runs a whole more from room z r → (at : ℕ) → from ≡ n + at → Shifted at room z r
+  shift (takes {at = from} {room} {z} e next z′ w m t d) at h =
+      let l = left-token at from room z e next h m in
+      let i = shift d (l .to) (l .is-next) in
+      (after-writing w (i .0), takes (l .event) (l .to) z′ w (l .means) (sym (l .same) ∙ t) (i .1), ap (after-writing w) (i .2))
+  shift (stops {at = from} {room} {z} e next k m t) at h =
+      let l = left-token at from room z e next h m in
+      (stopped k at z, stops (l .event) (l .to) k (l .means) (sym (l .same) ∙ t), ap (λ (i : ℕ). stopped k i z) h)
+  shift (full {at = from} {room} {z} e next m t) at h =
+      let l = left-token at from room z e next h m in
+      (stopped 17 at z, full (l .event) (l .to) (l .means) (sym (l .same) ∙ t), ap (λ (i : ℕ). stopped 17 i z) h)
+  shift (no-token {at = from} {room} {z} x k m q) at h =
+      let l = none-left at from x k z h m q in
+      (stopped k at z, no-token x k (l .0) (l .1), ap (λ (i : ℕ). stopped k i z) h)
+
+module _ (a : Sheet) (s r : List ℕ) (b more : Bool) (told : Told b r more) (room extra : ℕ) where
+  -- the call on the whole, from where the part's stopped, as a call of its own
+  as-call : (r₁ R : Result) (c : Option ℕ) → r₁ .held .closing ≡ c → Onward a s r b more told extra room r₁ R c → Continued a (s ++ r) more (room + extra) r₁ R c
+  as-call r₁ R none h (r₂, d, q) =
+      let i = shift a (s ++ r) more (r₁ .taken) d 0 (omega arith) in (
+        i .0,
+        subst (λ (c : Option ℕ). CalledBy a (drop (r₁ .taken) (s ++ r)) more (room + extra - length (r₁ .output)) (r₁ .held .run) c (i .0)) (sym h) (i .1),
+        q ∙ ap (after-writing (r₁ .output)) (i .2),
+      )
+  as-call r₁ R (some n) h q = q
+
+  by-closing : (z : State) (c : Option ℕ) (r₁ R : Result) → CalledBy a s b room z c r₁ → CalledBy a (s ++ r) more (room + extra) z c R →
+      Continued a (s ++ r) more (room + extra) r₁ R (r₁ .held .closing)
+  by-closing z none r₁ R d d′ = as-call r₁ R (r₁ .held .closing) refl (resume a s r b more told extra d d′)
+  by-closing z (some n) r₁ R d d′ = subst (Continued a (s ++ r) more (room + extra) r₁ R) (sym (ap (λ (x : Result). x .held .closing) d)) (d′ ∙ sym d)
+
+  -- a call on the part s in so much room, against a call on s ++ r in more room, from the same state
+  pub in-parts : (h : Held) (r₁ R : Result) → Called a s b room h r₁ → Called a (s ++ r) more (room + extra) h R →
+      Continued a (s ++ r) more (room + extra) r₁ R (r₁ .held .closing)
+  in-parts h r₁ R d d′ = by-closing (h .run) (h .closing) r₁ R d d′

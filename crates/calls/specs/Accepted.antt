@@ -1,0 +1,33 @@
+-- What it is for a whole stream to be accepted (demand 2, over bytes), and what its call answers.
+-- Assumes nothing.
+use mathlib.Core.Path.{_≡_}
+use mathlib.Core.List.{List}
+use mathlib.Core.Option.{some}
+use Prim.Native.Nat.{ℕ, _≤_}
+use lib.ListN.{length}
+use Rattle.tokens.specs.Tokens.{Tok}
+use Rattle.tokens.specs.Stream.{flat, AllGood, AllShort}
+use Rattle.sheet.specs.Sheet.{Sheet}
+use Rattle.output.specs.Escape.{render}
+use Rattle.runs.specs.Visits.{Env}
+use Rattle.runs.specs.Taken.{closed-with}
+use Rattle.runs.specs.Spells.{Spelled}
+use Rattle.calls.specs.Names.{tokensFor}
+use Rattle.runs.specs.Visits.{mostVisits}
+use Rattle.calls.specs.Limits.{without-output}
+use Rattle.calls.specs.Call.{Result}
+
+-- the bytes are tokens of at most 32 bytes each, which spell a tree no deeper than the limit in which no step rejects; v is what it comes to, and
+-- its visits are within the limit
+pub record Accepted (a : Sheet) (s : List ℕ) (v : Env) : Type 0 where
+  pub tokens : List Tok
+  pub good : AllGood tokens
+  pub short : AllShort tokens
+  pub are-bytes : s ≡ flat tokens
+  pub spells : Spelled a (tokensFor a tokens) v
+  pub counts : v .count ≤ mostVisits
+
+-- 0, all is taken, the whole output is written, and the run is closed by 0 with the attributes, echo and count of the tree
+abbrev pub accepted : List ℕ → Env → Result
+accepted s v =
+    record { number = 0; taken = length s; output = render (v .out); held = record { run = closed-with (without-output v); closing = some 0 } }

@@ -1,0 +1,88 @@
+-- One call on a part of the stream: its number, the bytes taken, the bytes written, and what is handed back.
+-- Assumes nothing.
+use mathlib.Core.Path.{_≡_}
+use mathlib.Core.Bool.{Bool, true, false, _||_}
+use mathlib.Core.List.{List, [], _++_}
+use mathlib.Core.Option.{Option, none, some}
+use Prim.Native.Nat.{ℕ, zero, suc, _+_, _-_}
+use lib.Dec.{eqb}
+use lib.ListN.{length, drop}
+use Rattle.tokens.specs.declared.Event.{Event}
+use Rattle.tokens.specs.declared.Answer.{Answer}
+use Rattle.tokens.specs.declared.Answer.the-variants.{Token, Begun, Bad, Long}
+use Rattle.tokens.specs.Tokens.{front, Means}
+use Rattle.tokens.specs.Numbers.{numberOf}
+use Rattle.sheet.specs.Sheet.{Sheet}
+use Rattle.runs.specs.Options.{orElse}
+use Rattle.runs.specs.Machine.{Control, before, inside, after, State, fresh-state}
+use Rattle.calls.specs.Names.{tokenOf}
+use Rattle.calls.specs.Limits.{Taking, taken, refuses, no-room, oneToken}
+
+-- what is handed in and back: the run between two tokens, which holds no output, and the number that closed it, if one has
+pub record Held : Type 0 where
+  pub run : State
+  pub closing : Option ℕ
+
+abbrev pub fresh-held : Held
+fresh-held = record { run = fresh-state; closing = none }
+
+-- 16 and 17 leave the state open, every other number of a run closes it
+abbrev pub closingOf : Bool → ℕ → Option ℕ
+closingOf true n = none
+closingOf false n = some n
+
+abbrev pub handed : ℕ → State → Held
+handed n z = record { run = z; closing = closingOf (eqb n 16 || eqb n 17) n }
+
+pub record Result : Type 0 where
+  pub number : ℕ
+  pub taken : ℕ
+  pub output : List ℕ
+  pub held : Held
+
+-- the call stops at `at` with the number n: the bytes before it are taken, and no more is written
+abbrev pub stopped : ℕ → ℕ → State → Result
+stopped n at z = record { number = n; taken = at; output = []; held = handed n z }
+
+-- the same after w was written
+abbrev pub after-writing : List ℕ → Result → Result
+after-writing w r = record { number = r .number; taken = r .taken; output = w ++ r .output; held = r .held }
+
+-- nothing is left of a stream that is declared ended
+abbrev pub atEnd : Control → ℕ
+atEnd before = 27
+atEnd (inside o os) = 27
+atEnd after = 0
+
+-- the number where no whole token comes next, by whether more is to come and how many bytes are left
+abbrev pub numberAt : Bool → ℕ → Control → Answer → Option ℕ
+numberAt more left c (Token e next) = none
+numberAt more left c Begun = orElse (numberOf more left Begun) (some (atEnd c))
+numberAt more left c Bad = numberOf more left Bad
+numberAt more left c Long = numberOf more left Long
+
+-- the call from the place `at` on, with so much room left, in the state z. A token that is refused, or that there is no room for, leaves the state as it was
+-- before it, and nothing of its output
+pub data Runs (a : Sheet) (part : List ℕ) (more : Bool) : ℕ → ℕ → State → Result → Type 0 where
+  takes : {at room : ℕ} {z : State} {r : Result} (e : Event) (next : ℕ) (z′ : State) (w : List ℕ) →
+      Means (front part at) at (Token e (record { at = next })) → oneToken a z room (tokenOf a part e) ≡ taken z′ w → Runs a part more next (room - length w) z′ r →
+      Runs a part more at room z (after-writing w r)
+  stops : {at room : ℕ} {z : State} (e : Event) (next n : ℕ) →
+      Means (front part at) at (Token e (record { at = next })) → oneToken a z room (tokenOf a part e) ≡ refuses n → Runs a part more at room z (stopped n at z)
+  full : {at room : ℕ} {z : State} (e : Event) (next : ℕ) →
+      Means (front part at) at (Token e (record { at = next })) → oneToken a z room (tokenOf a part e) ≡ no-room → Runs a part more at room z (stopped 17 at z)
+  no-token : {at room : ℕ} {z : State} (x : Answer) (n : ℕ) →
+      Means (front part at) at x → numberAt more (length (drop at part)) (z .control) x ≡ some n → Runs a part more at room z (stopped n at z)
+
+-- a closed state: 28 after 0, and any other number again; nothing is taken or written, and the state is handed back as given
+abbrev pub again : ℕ → ℕ
+again zero = 28
+again (suc n) = suc n
+
+abbrev pub CalledBy : Sheet → List ℕ → Bool → ℕ → State → Option ℕ → Result → Type 0
+CalledBy a part more room z none r = Runs a part more 0 room z r
+CalledBy a part more room z (some n) r = r ≡ record { number = again n; taken = 0; output = []; held = record { run = z; closing = some n } }
+
+-- r is what a call answers: with the sheet a, a part of the stream, whether more is to come, the room lent, and what is handed in
+abbrev pub Called : Sheet → List ℕ → Bool → ℕ → Held → Result → Type 0
+Called a part more room h r = CalledBy a part more room (h .run) (h .closing) r

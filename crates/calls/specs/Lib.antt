@@ -1,0 +1,6 @@
+pub mod Names
+pub mod Limits
+pub mod Call
+pub mod Reached
+pub mod Accepted
+pub mod Parts

@@ -1,0 +1,4 @@
+pub mod Lists
+pub mod Spots
+pub mod Frames
+pub mod Theorems
