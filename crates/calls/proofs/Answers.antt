@@ -1,9 +1,9 @@
--- A call has one answer, and, where the reader answers, it has one. At each place the reader's answer is one (`one-answer` of the tokens), and what a token
+-- A call has an answer, and one only. At each place the reader answers (`some-answer`); its answer is one (`one-answer` of the tokens), and what a token
 -- comes to is a function, so each way that a run can go on is decided there (`split`); every token taken leaves fewer bytes.
 -- Assumes nothing.
 use mathlib.Core.Path.{_≡_, refl, sym, ap, _∙_, subst}
 use mathlib.Core.Bool.{Bool, true, false}
-use mathlib.Core.List.{List}
+use mathlib.Core.List.{List, []}
 use mathlib.Core.Option.{Option, none, some}
 use Prim.Native.Nat.{ℕ, zero, suc, _+_, _-_, _≤_, _<_}
 use native.Mathlib.Omega.{arith}
@@ -17,7 +17,8 @@ use Rattle.sheet.specs.Sheet.{Sheet}
 use Rattle.runs.specs.Machine.{Control, State}
 use Rattle.calls.specs.Names.{tokenOf}
 use Rattle.calls.specs.Limits.{Taking, taken, refuses, no-room, oneToken}
-use Rattle.calls.specs.Call.{Held, Result, stopped, after-writing, numberAt, Runs, takes, stops, full, no-token, CalledBy, Called}
+use Rattle.calls.specs.Call.{Held, Result, stopped, after-writing, numberAt, Runs, takes, stops, full, no-token, again, CalledBy, Called}
+use Rattle.calls.proofs.Readable.{some-answer}
 
 module _ (a : Sheet) (part : List ℕ) (more : Bool) where
   -- how a run goes on from the token that stands at `at`, by what that comes to
@@ -100,17 +101,11 @@ module _ (a : Sheet) (part : List ℕ) (more : Bool) where
     from-answer room z h Bad m = (stopped 20 at z, no-token Bad 20 m refl)
     from-answer room z h Long m = (stopped 21 at z, no-token Long 21 m refl)
 
-  -- a reader's answer at each place
-  abbrev pub Readable : Type 0
-  Readable = (at : ℕ) → (x : Answer) × Means (front part at) at x
-
-  runs-on : Readable → (left at : ℕ) → at ≤ length part → length part ≤ at + left → (room : ℕ) (z : State) → (r : Result) × Runs a part more at room z r
-  runs-on read zero at h l room z = from-answer at (λ next i j room′ z′. absurd (omega arith)) room z h (read at .0) (read at .1)
-  runs-on read (suc left) at h l room z =
-      from-answer at (λ next i j room′ z′. runs-on read left next j (omega arith) room′ z′) room z h (read at .0) (read at .1)
-
-  pub some-run : Readable → (room : ℕ) (z : State) → (r : Result) × Runs a part more 0 room z r
-  some-run read room z = runs-on read (length part) 0 (omega arith) (omega arith) room z
+  runs-on : (left at : ℕ) → at ≤ length part → length part ≤ at + left → (room : ℕ) (z : State) → (r : Result) × Runs a part more at room z r
+  runs-on zero at h l room z = let x = some-answer part at in from-answer at (λ next i j room′ z′. absurd (omega arith)) room z h (x .0) (x .1)
+  runs-on (suc left) at h l room z =
+      let x = some-answer part at in
+      from-answer at (λ next i j room′ z′. runs-on left next j (omega arith) room′ z′) room z h (x .0) (x .1)
 
   -- any two answers of a call are equal
   by-closing : (room : ℕ) (z : State) (c : Option ℕ) (r r′ : Result) → CalledBy a part more room z c r → CalledBy a part more room z c r′ → r ≡ r′
@@ -121,9 +116,9 @@ module _ (a : Sheet) (part : List ℕ) (more : Bool) where
   call-one room h r r′ d d′ = by-closing room (h .run) (h .closing) r r′ d d′
 
   -- and it has one
-  some-by : Readable → (room : ℕ) (z : State) (c : Option ℕ) → (r : Result) × CalledBy a part more room z c r
-  some-by read room z none = some-run read room z
-  some-by read room z (some n) = (_, refl)
-
-  pub call-some : Readable → (room : ℕ) (h : Held) → (r : Result) × Called a part more room h r
-  call-some read room h = some-by read room (h .run) (h .closing)
+  pub call-some : (room : ℕ) (h : Held) → (r : Result) × Called a part more room h r
+  call-some room h = by (h .closing)
+    where
+      by : (c : Option ℕ) → (r : Result) × CalledBy a part more room (h .run) c r
+      by none = runs-on (length part) 0 (omega arith) (omega arith) room (h .run)
+      by (some n) = (record { number = again n; taken = 0; output = []; held = record { run = h .run; closing = some n } }, refl)

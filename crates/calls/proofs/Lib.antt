@@ -1,3 +1,4 @@
+pub mod Readable
 pub mod Names
 pub mod Answers
 pub mod Frame
