@@ -17,7 +17,8 @@ use Rattle.sheet.specs.Sheet.{Sheet}
 use Rattle.runs.specs.Machine.{Control, State}
 use Rattle.calls.specs.Names.{tokenOf}
 use Rattle.calls.specs.Limits.{Taking, taken, refuses, no-room, oneToken}
-use Rattle.calls.specs.Call.{Held, Result, stopped, after-writing, numberAt, Runs, takes, stops, full, no-token, again, CalledBy, Called}
+use Rattle.calls.specs.Held.{Held}
+use Rattle.calls.specs.Call.{Result, stopped, after-writing, numberAt, Runs, takes, stops, full, no-token, again, CalledBy, Called}
 use Rattle.calls.proofs.Readable.{some-answer}
 
 module _ (a : Sheet) (part : List ℕ) (more : Bool) where

@@ -25,7 +25,8 @@ use Rattle.runs.proofs.Spells.{token-refused}
 use Rattle.calls.specs.Names.{tokenOf}
 use Rattle.runs.specs.Visits.{mostVisits}
 use Rattle.calls.specs.Limits.{silent, outputOf, Taking, taken, refuses, no-room, limited, within, oneToken}
-use Rattle.calls.specs.Call.{Held, closingOf, handed, Result, Runs, takes, stops, full, no-token, again, CalledBy, Called}
+use Rattle.calls.specs.Held.{Held, closingOf, handed}
+use Rattle.calls.specs.Call.{Result, Runs, takes, stops, full, no-token, again, CalledBy, Called}
 use Rattle.calls.specs.Reached.{ReachedBy}
 use Rattle.calls.proofs.Frame.{state-behind, answer-behind, token-frame, countOf}
 use Rattle.calls.proofs.Steps.{outOf, behind-silent, takes-one}

@@ -29,7 +29,8 @@ use Rattle.runs.proofs.Spells.{spelled-iff, through-spells}
 use Rattle.calls.specs.Names.{tagNamed, tokenFor, tokensFor, tokenOf}
 use Rattle.runs.specs.Visits.{mostVisits}
 use Rattle.calls.specs.Limits.{without-output, silent}
-use Rattle.calls.specs.Call.{Result, fresh-held, Called}
+use Rattle.calls.specs.Held.{fresh-held}
+use Rattle.calls.specs.Call.{Result, Called}
 use Rattle.calls.specs.Accepted.{Accepted, accepted}
 use Rattle.calls.proofs.Frame.{state-behind, countOf}
 use Rattle.calls.proofs.Steps.{tokensOf, Steps, steps-silent, steps-count, steps-run, run-steps, ended, Ends, run-ends, ends-run}

@@ -28,17 +28,12 @@ use Rattle.runs.specs.Spells.{start-token, end-token, empty-token, stepToken}
 use Rattle.calls.specs.Names.{tagNamed, tokenOf}
 use Rattle.runs.specs.Visits.{mostVisits}
 use Rattle.calls.specs.Limits.{silent, outputOf, Taking, taken, refuses, no-room, limited, within, oneToken}
-use Rattle.calls.specs.Call.{Held, closingOf, handed, Result, stopped, after-writing, numberAt, Runs, takes, stops, full, no-token, CalledBy, Called}
-use Rattle.calls.specs.Parts.{joined, Told, Continued}
-use Rattle.calls.proofs.Answers.{AfterToken, split, to-number}
+use Rattle.calls.specs.Held.{Held, closingOf, handed}
+use Rattle.calls.specs.Call.{Result, stopped, after-writing, numberAt, Runs, takes, stops, full, no-token, CalledBy, Called}
+use Rattle.calls.specs.Parts.{joined, Told, Continued, Feeds, at-once, closes, goes-on}
+use Rattle.calls.proofs.Answers.{AfterToken, split, to-number, call-one, call-some}
 use Rattle.calls.proofs.Frame.{countOf}
-use Rattle.calls.proofs.Steps.{takes-one, one-takes, refuses-over}
-
-abbrev RunToken : Type 0
-RunToken = Rattle.runs.specs.Spells.Token
-
-abbrev RunAnswer : Type 0
-RunAnswer = Rattle.runs.specs.Machine.Answer
+use Rattle.calls.proofs.Steps.{RunToken, RunAnswer, takes-one, one-takes, refuses-over}
 
 -- more room changes nothing where there is enough, and no refusal
 module _ (a : Sheet) (z : State) (room extra : ℕ) (k : RunToken) where
@@ -85,17 +80,17 @@ long≢begun : Long ≡ Begun → ⊥
 long≢begun p = let z : _≡_ {A = ℕ} 0 1 = cc in omega arith
 
 -- a number over 17 closes
-closes : (n : ℕ) → 18 ≤ n → closingOf (eqb n 16 || eqb n 17) n ≡ some n
-closes n h = ap₂ (λ (b b′ : Bool). closingOf (b || b′) n) (ne-eqb n 16 (λ e. omega arith)) (ne-eqb n 17 (λ e. omega arith))
+over-closes : (n : ℕ) → 18 ≤ n → closingOf (eqb n 16 || eqb n 17) n ≡ some n
+over-closes n h = ap₂ (λ (b b′ : Bool). closingOf (b || b′) n) (ne-eqb n 16 (λ e. omega arith)) (ne-eqb n 17 (λ e. omega arith))
 
 -- and so do 27 and 0, at the end of a stream
 end-closes : (left : ℕ) (c : Control) (n : ℕ) → numberAt false left c Begun ≡ some n → closingOf (eqb n 16 || eqb n 17) n ≡ some n
-end-closes zero before n q = let h : 27 ≡ n = cc in closes n (omega arith)
-end-closes zero (inside o os) n q = let h : 27 ≡ n = cc in closes n (omega arith)
+end-closes zero before n q = let h : 27 ≡ n = cc in over-closes n (omega arith)
+end-closes zero (inside o os) n q = let h : 27 ≡ n = cc in over-closes n (omega arith)
 end-closes zero after n q =
     let h : 0 ≡ n = cc in
     subst (λ (m : ℕ). closingOf (eqb m 16 || eqb m 17) m ≡ some m) h refl
-end-closes (suc left) c n q = let h : 27 ≡ n = cc in closes n (omega arith)
+end-closes (suc left) c n q = let h : 27 ≡ n = cc in over-closes n (omega arith)
 
 module _ (a : Sheet) (s r : List ℕ) (b more : Bool) (told : Told b r more) (extra : ℕ) where
   -- how the call on the whole goes, by what closed the state of the call on the part
@@ -154,17 +149,17 @@ module _ (a : Sheet) (s r : List ℕ) (b more : Bool) (told : Told b r more) (ex
       (ap (oneToken a z (room + extra)) (token-in a s r at e (record { at = next }) m) ∙ refused-in-more a z room extra (tokenOf a s e) n t)
       (split a (s ++ r) more d′ (Token e (record { at = next })) m′) in
       let h = refuses-over a z room (tokenOf a s e) n t in
-      subst (Onward room (stopped n at z) R) (sym (closes n (omega arith))) i
+      subst (Onward room (stopped n at z) R) (sym (over-closes n (omega arith))) i
   resume {R = R} (full {at} {room} {z} e next m t) d′ = from-here at room z R 17 d′
   resume {R = R} (no-token {at} {room} {z} (Token e next) n m q) d′ = absurd (let y : _≡_ {A = ℕ} 0 1 = cc in omega arith)
   resume {R = R} (no-token {at} {room} {z} Begun n m q) d′ = at-begun at room z R n m q d′
   resume {R = R} (no-token {at} {room} {z} Bad n m q) d′ =
       let h : 20 ≡ n = cc in
-      subst (Onward room (stopped n at z) R) (sym (closes n (omega arith)))
+      subst (Onward room (stopped n at z) R) (sym (over-closes n (omega arith)))
       (to-number a (s ++ r) more at (room + extra) z R Bad n q (split a (s ++ r) more d′ Bad (stays s r at Bad bad≢begun m)))
   resume {R = R} (no-token {at} {room} {z} Long n m q) d′ =
       let h : 21 ≡ n = cc in
-      subst (Onward room (stopped n at z) R) (sym (closes n (omega arith)))
+      subst (Onward room (stopped n at z) R) (sym (over-closes n (omega arith)))
       (to-number a (s ++ r) more at (room + extra) z R Long n q (split a (s ++ r) more d′ Long (stays s r at Long long≢begun m)))
 
 -- what stands in front of a part changes an answer's places only
@@ -255,3 +250,16 @@ module _ (a : Sheet) (s r : List ℕ) (b more : Bool) (told : Told b r more) (ro
   pub in-parts : (h : Held) (r₁ R : Result) → Called a s b room h r₁ → Called a (s ++ r) more (room + extra) h R →
       Continued a (s ++ r) more (room + extra) r₁ R (r₁ .held .closing)
   in-parts h r₁ R d d′ = by-closing (h .run) (h .closing) r₁ R d d′
+
+-- so any calls that feed a stream answer what one call on all of it does
+pub feeds-as-one : (a : Sheet) (more : Bool) {whole : List ℕ} {room : ℕ} {h : Held} {r : Result} → Feeds a more whole room h r → Called a whole more room h r
+feeds-as-one a more (at-once d) = d
+feeds-as-one a more (closes {h} room extra s later b r₁ n told d c) =
+    let R = call-some a (s ++ later) more (room + extra) h in
+    let q = subst (Continued a (s ++ later) more (room + extra) r₁ (R .0)) c (in-parts a s later b more told room extra h r₁ (R .0) d (R .1)) in
+    subst (Called a (s ++ later) more (room + extra) h) q (R .1)
+feeds-as-one a more (goes-on {h} {r₂} room extra s later b r₁ told d c f) =
+    let R = call-some a (s ++ later) more (room + extra) h in
+    let q = subst (Continued a (s ++ later) more (room + extra) r₁ (R .0)) c (in-parts a s later b more told room extra h r₁ (R .0) d (R .1)) in
+    let e = call-one a (drop (r₁ .taken) (s ++ later)) more (room + extra - length (r₁ .output)) (r₁ .held) (q .0) r₂ (q .1) (feeds-as-one a more f) in
+    subst (Called a (s ++ later) more (room + extra) h) (q .2 ∙ ap (joined r₁) e) (R .1)

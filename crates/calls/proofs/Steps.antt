@@ -23,13 +23,14 @@ use Rattle.runs.specs.Spells.{stepToken, TokenOutcome, through, onward-token, r
 use Rattle.calls.specs.Names.{tokenOf}
 use Rattle.runs.specs.Visits.{mostVisits}
 use Rattle.calls.specs.Limits.{silent, outputOf, Taking, taken, refuses, no-room, limited, within, oneToken}
-use Rattle.calls.specs.Call.{Held, Result, stopped, after-writing, atEnd, numberAt, Runs, takes, stops, full, no-token}
+use Rattle.calls.specs.Held.{Held}
+use Rattle.calls.specs.Call.{Result, stopped, after-writing, atEnd, numberAt, Runs, takes, stops, full, no-token}
 use Rattle.calls.proofs.Frame.{state-behind, answer-behind, token-frame, countOf, tokens-count, token-number}
 
-abbrev RunToken : Type 0
+abbrev pub RunToken : Type 0
 RunToken = Rattle.runs.specs.Spells.Token
 
-abbrev RunAnswer : Type 0
+abbrev pub RunAnswer : Type 0
 RunAnswer = Rattle.runs.specs.Machine.Answer
 
 render-append : (p q : List Piece) → render (p ++ q) ≡ render p ++ render q

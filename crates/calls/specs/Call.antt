@@ -1,11 +1,10 @@
 -- One call on a part of the stream: its number, the bytes taken, the bytes written, and what is handed back.
 -- Assumes nothing.
 use mathlib.Core.Path.{_≡_}
-use mathlib.Core.Bool.{Bool, true, false, _||_}
+use mathlib.Core.Bool.{Bool}
 use mathlib.Core.List.{List, [], _++_}
 use mathlib.Core.Option.{Option, none, some}
 use Prim.Native.Nat.{ℕ, zero, suc, _+_, _-_}
-use lib.Dec.{eqb}
 use lib.ListN.{length, drop}
 use Rattle.tokens.specs.declared.Event.{Event}
 use Rattle.tokens.specs.declared.Answer.{Answer}
@@ -14,25 +13,10 @@ use Rattle.tokens.specs.Tokens.{front, Means}
 use Rattle.tokens.specs.Numbers.{numberOf}
 use Rattle.sheet.specs.Sheet.{Sheet}
 use Rattle.runs.specs.Options.{orElse}
-use Rattle.runs.specs.Machine.{Control, before, inside, after, State, fresh-state}
+use Rattle.runs.specs.Machine.{Control, before, inside, after, State}
 use Rattle.calls.specs.Names.{tokenOf}
+use Rattle.calls.specs.Held.{Held, handed}
 use Rattle.calls.specs.Limits.{Taking, taken, refuses, no-room, oneToken}
-
--- what is handed in and back: the run between two tokens, which holds no output, and the number that closed it, if one has
-pub record Held : Type 0 where
-  pub run : State
-  pub closing : Option ℕ
-
-abbrev pub fresh-held : Held
-fresh-held = record { run = fresh-state; closing = none }
-
--- 16 and 17 leave the state open, every other number of a run closes it
-abbrev pub closingOf : Bool → ℕ → Option ℕ
-closingOf true n = none
-closingOf false n = some n
-
-abbrev pub handed : ℕ → State → Held
-handed n z = record { run = z; closing = closingOf (eqb n 16 || eqb n 17) n }
 
 pub record Result : Type 0 where
   pub number : ℕ

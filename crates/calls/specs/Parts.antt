@@ -8,6 +8,7 @@ use mathlib.Core.Option.{Option, none, some}
 use Prim.Native.Nat.{ℕ, _+_, _-_}
 use lib.ListN.{length, drop}
 use Rattle.sheet.specs.Sheet.{Sheet}
+use Rattle.calls.specs.Held.{Held}
 use Rattle.calls.specs.Call.{Result, Called}
 
 -- what two calls answer together
@@ -24,3 +25,12 @@ abbrev pub Continued : Sheet → List ℕ → Bool → ℕ → Result → Result
 Continued a whole more room r₁ r none =
     (r₂ : Result) × Called a (drop (r₁ .taken) whole) more (room - length (r₁ .output)) (r₁ .held) r₂ × (r ≡ joined r₁ r₂)
 Continued a whole more room r₁ r (some n) = r ≡ r₁
+
+-- calls one after another over a stream, whole being what is left of it and room what is left of all that is lent: each call gets some of both, and
+-- presents again what the one before has left; together they answer r
+pub data Feeds (a : Sheet) (more : Bool) : List ℕ → ℕ → Held → Result → Type 0 where
+  at-once : {whole : List ℕ} {room : ℕ} {h : Held} {r : Result} → Called a whole more room h r → Feeds a more whole room h r
+  closes : {h : Held} (room extra : ℕ) (s later : List ℕ) (b : Bool) (r₁ : Result) (n : ℕ) → Told b later more → Called a s b room h r₁ → r₁ .held .closing ≡ some n →
+      Feeds a more (s ++ later) (room + extra) h r₁
+  goes-on : {h : Held} {r₂ : Result} (room extra : ℕ) (s later : List ℕ) (b : Bool) (r₁ : Result) → Told b later more → Called a s b room h r₁ → r₁ .held .closing ≡ none →
+      Feeds a more (drop (r₁ .taken) (s ++ later)) (room + extra - length (r₁ .output)) (r₁ .held) r₂ → Feeds a more (s ++ later) (room + extra) h (joined r₁ r₂)

@@ -157,7 +157,7 @@ pub fn alike(s: &[u8], l: Layout, m: usize, t: usize) -> usize
 }
 
 // Whether a nonterminal has a production with the tag that is next.
-fn can_be(s: &[u8], l: Layout, n: usize, x: Symbol) -> bool
+pub fn can_be(s: &[u8], l: Layout, n: usize, x: Symbol) -> bool
     requires { ⌜ LaidOut (now s) l ⌝ }
     ensures { λ r. ⌜ CanBeIs (now (s .entry)) n x r ⌝ }
 {
@@ -169,7 +169,7 @@ fn can_be(s: &[u8], l: Layout, n: usize, x: Symbol) -> bool
 }
 
 // Whether an atom that is any one character can be next.
-fn is_character(x: Symbol) -> bool
+pub fn is_character(x: Symbol) -> bool
     ensures { λ r. ⌜ CharacterIs x r ⌝ }
 {
     match x {
@@ -323,7 +323,15 @@ fn alt(l: Tally, r: Tally) -> Tally
 }
 
 // The counts of the tree at node `at`, of at most `left` nodes, whose first atom is j, from the place p to x.
-fn walk_tree(s: &[u8], l: Layout, x: Symbol, p: usize, at: usize, left: usize, j: usize) -> Tally
+pub fn walk_tree(
+    s: &[u8],
+    l: Layout,
+    x: Symbol,
+    p: usize,
+    at: usize,
+    left: usize,
+    j: usize,
+) -> Tally
     requires { ⌜ LaidOut (now s) l ⌝ }
     requires { ⌜ TreeIn (now s) at left j ⌝ }
     ensures { λ t. ⌜ Tallied (now (s .entry)) x p at j t ⌝ }

@@ -4,3 +4,4 @@ pub mod Settling
 pub mod Printing
 pub mod Running
 pub mod Performing
+pub mod Theorems

@@ -8,28 +8,24 @@ use Prim.Native.Nat.{ℕ, zero, suc, _+_, _-_, _*_, _≤_, _<_}
 use native.Mathlib.Omega.{arith}
 use lib.ListN.{length, take, drop, replicate, length-append, length-take, take-append-drop}
 use lib.Seq.{drop-append-seam}
-use Rattle.lent.specs.Put.{PutAs}
-use Rattle.lent.proofs.Laws.{put-none}
-use Rattle.text.specs.Chars.{Starts}
 use Rattle.programs.specs.Program.{Program, programBytes}
 use Rattle.programs.specs.Limits.{IsProgram, StatementsFit, Visit}
 use Rattle.programs.specs.Section.{backToBack, AllPrograms, Fill, StartOf, FieldIs, no-program, names}
 use Rattle.programs.proofs.Agree.{program-some}
-use Rattle.layout.specs.Layout.{tagOffset, tagCount, programLength, programOffset, stringOffset, stringLength, programsIn, stringsIn}
+use Rattle.layout.specs.Layout.{tagOffset, tagCount, programLength, stringLength, programsIn, stringsIn}
 use Rattle.layout.specs.LaidOut.{LaidOut}
 use Rattle.layout.specs.declared.Layout.{Layout}
 use Rattle.sheet.specs.Tags.{tagRecord, TagAt}
 use Rattle.sheet.specs.Sheet.{Sheet, From, IsSheet}
-use Rattle.runs.specs.Execute.{Effect, nameOf, execute}
+use Rattle.runs.specs.Execute.{Effect, nameOf}
 use Rattle.runs.specs.Visits.{performed}
 use Rattle.visits.specs.Evaluated.{LiesAt}
 use Rattle.visits.specs.Written.{Pen, NameAt, Sources}
-use Rattle.visits.specs.Ran.{mostPrinted, Comes, Ground, RanAs, lists}
+use Rattle.visits.specs.Ran.{mostPrinted, Comes, RanAs, lists}
 use Rattle.visits.specs.Performed.{PerformedAs}
 use Rattle.visits.specs.declared.Env.{Env}
 use Rattle.visits.specs.declared.Ran.{Ran}
-use Rattle.visits.specs.declared.Performed.{Performed}
-use Rattle.visits.proofs.Running.{still, said-no}
+use Rattle.visits.proofs.Running.{still}
 
 -- ---- names
 name-in : (s : List ℕ) (t : ℕ) (n : List ℕ) → tagOffset s ≡ 0 → TagAt s t n → NameAt s t n
@@ -48,7 +44,7 @@ names-in s i k [] z f t h = absurd (omega arith)
 names-in s i k (n ∷ ns) z f zero h = subst (λ (m : ℕ). NameAt s m n) (omega arith) (name-in s i n z (f .0))
 names-in s i k (n ∷ ns) z f (suc t) h = subst (λ (m : ℕ). NameAt s m (nameOf ns t)) (omega arith) (names-in s (suc i) k ns z (f .1) t (omega arith))
 
-names-counted : (s : List ℕ) (i k : ℕ) (ns : List (List ℕ)) → From (TagAt s) i k ns → i + length ns ≡ k
+pub names-counted : (s : List ℕ) (i k : ℕ) (ns : List (List ℕ)) → From (TagAt s) i k ns → i + length ns ≡ k
 names-counted s i k [] f = omega (arith, f)
 names-counted s i k (n ∷ ns) f = omega (arith, names-counted s (suc i) k ns (f .1))
 

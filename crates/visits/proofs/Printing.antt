@@ -25,7 +25,7 @@ use Rattle.output.specs.Escape.{escaped, render, text, startTag, endTag}
 use Rattle.runs.specs.Characters.{charactersOf}
 use Rattle.runs.specs.Execute.{Effect, nameOf, executeOne}
 use Rattle.runs.proofs.Characters.{characters-of}
-use Rattle.visits.specs.Written.{Pen, Written, TextOf, RangeOf, tagText, NameAt, TagOf, Sources, PrintOf}
+use Rattle.visits.specs.Written.{Pen, Written, TextOf, RangeOf, tagText, NameAt, TagOf, PrintOf}
 use Rattle.visits.specs.Ran.{mostPrinted}
 use Rattle.visits.proofs.Lying.{second-part, statement-of}
 use Rattle.visits.proofs.Settling.{same-effect, no-effect}

@@ -4,10 +4,10 @@ use mathlib.Core.Path.{_≡_, refl, sym, ap, _∙_, subst}
 use mathlib.Core.Bool.{Bool, true, false, not, _&&_, true≢false}
 use mathlib.Core.List.{List, [], _∷_, _++_, append-nil, append-assoc}
 use mathlib.Core.Option.{Option, none, some}
-use Prim.Native.Nat.{ℕ, _+_, _*_, _-_, _/_, _%_, _≤_, _<_}
+use Prim.Native.Nat.{ℕ, _+_, _-_, _≤_, _<_}
 use native.Mathlib.Omega.{arith}
 use lib.ListN.{length, getD, drop, length-append, length-drop}
-use Rattle.lent.specs.Put.{put, PutAs}
+use Rattle.lent.specs.Put.{PutAs}
 use Rattle.lent.proofs.Laws.{put-none}
 use Rattle.text.specs.Chars.{Starts}
 use Rattle.programs.specs.Program.{Condition, conditionBytes, Statement, become, copy, recall, reject, print-start, print-end, print-text, echo, branch, statementBytes, Program, done, step, programBytes}

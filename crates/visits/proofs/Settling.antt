@@ -1,18 +1,17 @@
 -- A statement other than a branch: what it makes of the attributes and echo, and how many bytes it has, by its first byte.
 -- Assumes nothing.
-use mathlib.Core.Path.{_≡_, refl, sym, ap, ap₂, _∙_}
+use mathlib.Core.Path.{_≡_, refl, ap, ap₂, _∙_}
 use mathlib.Core.Bool.{Bool, true, false, true≢false}
 use mathlib.Core.List.{List, [], _∷_, _++_}
 use mathlib.Core.Option.{Option, none, some}
-use Prim.Native.Nat.{ℕ, _+_, _-_, _*_, _/_, _%_, _≤_, _<_}
+use Prim.Native.Nat.{ℕ, _+_, _-_, _/_, _%_, _≤_, _<_}
 use native.Mathlib.Omega.{arith}
 use lib.ListN.{length, getD, set, drop, length-drop}
 use Rattle.text.specs.Chars.{Starts}
-use Rattle.programs.specs.Program.{Statement, become, copy, recall, reject, print-start, print-end, print-text, echo, branch, echoByte, statementBytes, conditionBytes, programBytes}
+use Rattle.programs.specs.Program.{Statement, become, copy, recall, reject, print-start, print-end, print-text, echo, branch, statementBytes, conditionBytes, programBytes}
 use Rattle.programs.proofs.Reading.{byte-of, first-byte, starts-length}
-use Rattle.sheet.specs.Sheet.{Sheet}
 use Rattle.output.specs.Escape.{Piece}
-use Rattle.runs.specs.Execute.{Effect, executeOne}
+use Rattle.runs.specs.Execute.{Effect}
 use Rattle.visits.specs.Evaluated.{LiesAt, SettledAs, PastIs, EndIs}
 use Rattle.visits.specs.declared.Env.{Env}
 use Rattle.visits.proofs.Lying.{statement-of}

@@ -1,4 +1,5 @@
--- What evaluating an operand or a condition of a program section answers, and what an assignment or an echo statement does. Assumes nothing.
+-- What lies in a program section: the value of an operand, the answer of a condition, where a statement ends and what it makes of the attributes and
+-- echo. Assumes nothing.
 use mathlib.Core.Path.{_≡_}
 use mathlib.Core.List.{List}
 use mathlib.Core.Option.{some}
@@ -26,11 +27,11 @@ pub record JudgedAs (s : List ℕ) (i : ℕ) (kept values : List ℕ) (r : Judge
   pub high : r .next ≤ length s
   pub right : (c : Condition) → LiesAt conditionBytes s i c → (r .yes ≡ holds kept c values) × (r .next ≡ i + length (conditionBytes c))
 
--- the attributes and echo after a statement that lies at i and fits, where it does not reject
-abbrev pub SettledAs : List ℕ → ℕ → List ℕ → Env → Env → Type 0
-SettledAs s i kept e r =
-    (a : Sheet) (tags : ℕ) (strings : List ℕ) (t : Statement) → LiesAt statementBytes s i t → StatementFits tags strings t → (x : Effect) → executeOne a kept t (e .values) (e .echo) ≡ some x
-    → (r .values ≡ x .values) × (r .echo ≡ x .echo)
+-- r is i + w, as far as the section goes
+pub record EndIs (s : List ℕ) (i w r : ℕ) : Type 0 where
+  pub low : i + 1 ≤ r
+  pub high : r ≤ length s
+  pub exact : i + w ≤ length s → r ≡ i + w
 
 -- r is past the statement that lies at i, one other than a branch
 pub record PastIs (s : List ℕ) (i r : ℕ) : Type 0 where
@@ -38,8 +39,8 @@ pub record PastIs (s : List ℕ) (i r : ℕ) : Type 0 where
   pub high : r ≤ length s
   pub exact : (t : Statement) → LiesAt statementBytes s i t → r ≡ i + length (statementBytes t)
 
--- r is i + w, as far as the section goes
-pub record EndIs (s : List ℕ) (i w r : ℕ) : Type 0 where
-  pub low : i + 1 ≤ r
-  pub high : r ≤ length s
-  pub exact : i + w ≤ length s → r ≡ i + w
+-- the attributes and echo after a statement that lies at i and fits, where it does not reject
+abbrev pub SettledAs : List ℕ → ℕ → List ℕ → Env → Env → Type 0
+SettledAs s i kept e r =
+    (a : Sheet) (tags : ℕ) (strings : List ℕ) (t : Statement) → LiesAt statementBytes s i t → StatementFits tags strings t → (x : Effect) → executeOne a kept t (e .values) (e .echo) ≡ some x
+    → (r .values ≡ x .values) × (r .echo ≡ x .echo)

@@ -7,7 +7,6 @@ use Prim.Native.Nat.{ℕ, _+_, _*_, _≤_}
 use Rattle.programs.specs.Program.{Program}
 use Rattle.programs.specs.Limits.{Visit}
 use Rattle.programs.specs.Section.{FieldIs}
-use Rattle.layout.specs.Layout.{programLength}
 use Rattle.sheet.specs.Sheet.{Sheet, IsSheet}
 use Rattle.runs.specs.Visits.{performed}
 use Rattle.visits.specs.Written.{Pen}

@@ -1,6 +1,5 @@
 -- The first byte tells how many bytes the statement has.
 use borrow.Author.Needs.{needs}
-use native.Mathlib.Omega.{arith}
 use Rattle.visits.proofs.Settling.{width-is, past-is}
 use Rattle.visits.proofs.past.Statement.{statement}
 use Rattle.visits.proofs.past.Tie as tie

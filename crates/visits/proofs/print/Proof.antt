@@ -1,7 +1,7 @@
 -- The first byte tells which of three is printed, or nothing.
 use borrow.Author.Needs.{needs}
 use native.Mathlib.Omega.{arith}
-use mathlib.Core.Path.{refl, _∙_}
+use mathlib.Core.Path.{_∙_}
 use mathlib.Core.Bool.{true, false}
 use Prim.Native.Nat.{_+_, _*_}
 use Rattle.visits.specs.Written.{TagOf, RangeOf, PrintOf}

@@ -1,8 +1,7 @@
 -- A range that lies in the strings is written as text; of any other none is due.
 use borrow.Author.Needs.{needs}
 use native.Mathlib.Omega.{arith}
-use mathlib.Core.Path.{_∙_, ap}
-use Prim.Native.Nat.{ℕ, _+_, _*_, _-_}
+use Prim.Native.Nat.{_+_, _*_, _-_}
 use lib.ListN.{length, take, drop, length-take}
 use Rattle.visits.specs.Written.{TextOf, RangeOf}
 use Rattle.visits.specs.Ran.{mostPrinted}

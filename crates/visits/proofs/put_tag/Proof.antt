@@ -1,7 +1,7 @@
 -- The record's first byte is the length of the name that follows it; of a record that does not lie there no tag is due.
 use borrow.Author.Needs.{needs}
 use native.Mathlib.Omega.{arith}
-use mathlib.Core.Path.{refl, _∙_}
+use mathlib.Core.Path.{refl}
 use mathlib.Core.Bool.{true, false}
 use Rattle.visits.specs.Written.{TagOf}
 use Rattle.visits.specs.Ran.{mostPrinted}

@@ -1,18 +1,18 @@
 -- The loop is stated by what is left: writing the text of the rest at n now leaves what writing the whole text at `at` would have left, where
 -- the rest is whole characters; each character takes a byte at least and writes five at most.
 use borrow.Author.Needs.{needs}
-use mathlib.Core.Path.{_≡_, refl, sym, ap, _∙_}
+use mathlib.Core.Path.{_≡_, refl, _∙_}
 use mathlib.Core.Bool.{false}
-use mathlib.Core.List.{List, []}
+use mathlib.Core.List.{List}
 use mathlib.Core.Logic.{⊎-elim}
 use Prim.Native.Nat.{ℕ, _+_, _*_, _-_, _≤_}
 use native.Mathlib.Omega.{arith}
-use lib.ListN.{length, drop, length-drop, length-append}
-use Rattle.lent.specs.Put.{put, PutAs}
-use Rattle.lent.proofs.Laws.{put-append, put-none, put-dry, put-length}
+use lib.ListN.{length, drop, length-drop}
+use Rattle.lent.specs.Put.{put}
+use Rattle.lent.proofs.Laws.{put-dry}
 use Rattle.text.specs.Characters.{WholeCharacters}
 use Rattle.programs.proofs.Characters.{step-on, stop-at}
-use Rattle.output.specs.Escape.{text, escaped}
+use Rattle.output.specs.Escape.{text}
 use Rattle.runs.specs.Characters.{charactersOf}
 use Rattle.visits.proofs.Printing.{escaped-short, no-text, next-character, all-written}
 use Rattle.visits.proofs.put_text.Statement.{statement}

@@ -1,7 +1,6 @@
 -- Past the four attributes getD answers its default.
 use borrow.Author.Needs.{needs}
 use mathlib.Core.Path.{sym}
-use native.Mathlib.Omega.{arith}
 use lib.ListN.{List·getD-eq-default}
 use Rattle.visits.proofs.value_of.Statement.{statement}
 use Rattle.visits.proofs.value_of.Tie as tie

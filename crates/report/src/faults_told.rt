@@ -1,0 +1,237 @@
+// Every fault of a list, a line for each: where it is, for people, and its four bytes as the paper writes them.
+ghost use Prim.Native.Nat.{_+_, _<_};
+ghost use lib.ListN.{length};
+ghost use Rattle.layout.specs.LaidOut.{LaidOut};
+ghost use Rattle.trees.specs.Parsed.{RunsInside};
+use crate::expression::say_expression;
+use crate::symbols::say_atom;
+use crate::symbols::say_next;
+use crate::symbols::say_tag;
+use crate::words::say;
+use crate::words::say_number;
+use crate::words::say_ordinal;
+use layout::Layout;
+use layout::byte_at;
+use layout::nonterminal_of;
+use layout::tag_number_of;
+use trees::alike;
+
+// The numbers of the productions of nonterminal m with tag t.
+fn say_alike(s: &[u8], l: Layout, m: usize, t: usize)
+    requires { ⌜ LaidOut (now s) l ⌝ }
+{
+    let mut some = false;
+    let mut q = 0;
+    while q < l.productions {
+        let nonterminal = nonterminal_of(s, l, q);
+        let tag = tag_number_of(s, l, q);
+        if (nonterminal == m) & (tag == t) {
+            if some {
+                say(b", ");
+            }
+            say_number(q);
+            some = true;
+        }
+        q += 1;
+    }
+}
+
+// Rule T's fault of nonterminal m and tag t.
+fn say_t_fault(s: &[u8], l: Layout, m: usize, t: usize)
+    requires { ⌜ LaidOut (now s) l ⌝ }
+{
+    say_number(alike(s, l, m, t));
+    say(b" productions of nonterminal ");
+    say_number(m);
+    say(b" have the tag ");
+    say_tag(s, l, t);
+    say(b" (productions ");
+    say_alike(s, l, m, t);
+    say(b"): give all but one another tag");
+}
+
+fn say_production(s: &[u8], l: Layout, q: usize)
+    requires { ⌜ LaidOut (now s) l ⌝ }
+    requires { ⌜ q < l .productions ⌝ }
+{
+    say(b"production ");
+    say_number(q);
+    say(b" ");
+    say_tag(s, l, tag_number_of(s, l, q));
+}
+
+// A place of production q.
+fn say_place(s: &[u8], l: Layout, q: usize, p: usize)
+    requires { ⌜ LaidOut (now s) l ⌝ }
+    requires { ⌜ RunsInside (now s) ⌝ }
+    requires { ⌜ q < l .productions ⌝ }
+{
+    if p == 0 {
+        say(b"at the start");
+        return;
+    }
+    say(b"after the ");
+    say_ordinal(p);
+    say(b" atom");
+    let found = crate::node_of_atom(s, l, q, p);
+    if let crate::Found::At(i) = found {
+        say(b" (");
+        say_atom(s, l, i);
+        say(b")");
+    }
+}
+
+// Rule S's fault at place p of production q, where x is next.
+fn say_s_fault(s: &[u8], l: Layout, q: usize, p: usize, x: usize)
+    requires { ⌜ LaidOut (now s) l ⌝ }
+    requires { ⌜ RunsInside (now s) ⌝ }
+{
+    if q >= l.productions {
+        return;
+    }
+    say_production(s, l, q);
+    say(b", ");
+    say_place(s, l, q, p);
+    say(b", before ");
+    say_next(s, l, x);
+}
+
+// An entry's bytes, in decimal.
+fn say_bytes(rule: usize, first: usize, second: usize, third: usize) {
+    say(b" [");
+    say_number(rule);
+    say(b" ");
+    say_number(first);
+    say(b" ");
+    say_number(second);
+    say(b" ");
+    say_number(third);
+    say(b"]\n");
+}
+
+// Before the first fault of rule T.
+fn say_about_t() {
+    say(
+        b"\nProductions that cannot be told apart: nobody could say which of them an element with that tag is.\n",
+    );
+}
+
+// Before the first fault of rule S.
+fn say_about_s() {
+    say(
+        b"\nPlaces where the same input could be read in two ways, so the listing could come out in two ways.\n",
+    );
+    say(
+        b"A production says what an element may hold. Its atoms are numbered from the left, [1 ..] [2 ..]; * is any number of times.\n",
+    );
+    say(
+        b"Change the expression so that one way is left: one change often mends several places. Usual causes: a star over a part\n",
+    );
+    say(
+        b"that can be empty, as (a*)*; neighbours or alternatives that begin alike, as a* then a.\n",
+    );
+}
+
+// Before the first S fault of production q: its expression, in which the places are found.
+fn say_about_production(s: &[u8], l: Layout, q: usize)
+    requires { ⌜ LaidOut (now s) l ⌝ }
+    requires { ⌜ RunsInside (now s) ⌝ }
+{
+    if q >= l.productions {
+        return;
+    }
+    say(b"\n");
+    say_production(s, l, q);
+    say(b" holds ");
+    say_expression(s, l, q);
+    say(b"\n");
+}
+
+// Whether the entry at i is the list's first of its rule.
+fn starts_rule(list: &[u8], i: usize) -> bool
+    requires { ⌜ i + 3 < length (now list) ⌝ }
+{
+    if i < 4 {
+        return true;
+    }
+    list[i - 4] != list[i]
+}
+
+// Whether the entry at i is the list's first of its rule and production.
+fn starts_production(list: &[u8], i: usize) -> bool
+    requires { ⌜ i + 3 < length (now list) ⌝ }
+{
+    if starts_rule(list, i) {
+        return true;
+    }
+    if i < 4 {
+        return true;
+    }
+    list[i - 3] != list[i + 1]
+}
+
+// The entry at i, of rule T.
+fn say_t_entry(s: &[u8], l: Layout, list: &[u8], i: usize)
+    requires { ⌜ LaidOut (now s) l ⌝ }
+    requires { ⌜ i + 3 < length (now list) ⌝ }
+{
+    if starts_rule(list, i) {
+        say_about_t();
+    }
+    say(b"- ");
+    say_t_fault(s, l, byte_at(list, i + 1), byte_at(list, i + 2));
+}
+
+// The entry at i, of rule S.
+fn say_s_entry(s: &[u8], l: Layout, list: &[u8], i: usize)
+    requires { ⌜ LaidOut (now s) l ⌝ }
+    requires { ⌜ RunsInside (now s) ⌝ }
+    requires { ⌜ i + 3 < length (now list) ⌝ }
+{
+    let q = byte_at(list, i + 1);
+    if starts_rule(list, i) {
+        say_about_s();
+    }
+    if starts_production(list, i) {
+        say_about_production(s, l, q);
+    }
+    say(b"- ");
+    say_s_fault(s, l, q, byte_at(list, i + 2), byte_at(list, i + 3));
+}
+
+// The entry at i.
+fn say_entry(s: &[u8], l: Layout, list: &[u8], i: usize)
+    requires { ⌜ LaidOut (now s) l ⌝ }
+    requires { ⌜ RunsInside (now s) ⌝ }
+    requires { ⌜ i + 3 < length (now list) ⌝ }
+{
+    let rule = byte_at(list, i);
+    if rule == 8 {
+        say_t_entry(s, l, list, i);
+    } else {
+        say_s_entry(s, l, list, i);
+    }
+    say_bytes(
+        rule,
+        byte_at(list, i + 1),
+        byte_at(list, i + 2),
+        byte_at(list, i + 3),
+    );
+}
+
+// The first `count` entries.
+pub fn say_all(s: &[u8], l: Layout, list: &[u8], count: usize)
+    requires { ⌜ LaidOut (now s) l ⌝ }
+    requires { ⌜ RunsInside (now s) ⌝ }
+{
+    let mut i = 0;
+    let mut done = 0;
+    while done < count {
+        if list.len() - i < 4 {
+            return;
+        }
+        say_entry(s, l, list, i);
+        i += 4;
+        done += 1;
+    }
+}

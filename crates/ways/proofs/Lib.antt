@@ -1,0 +1,11 @@
+pub mod Strings
+pub mod Holds
+pub mod Spots
+pub mod Atoms
+pub mod Throughs
+pub mod Intos
+pub mod Outs
+pub mod Acrosses
+pub mod Ends
+pub mod Lengths
+pub mod Faithful

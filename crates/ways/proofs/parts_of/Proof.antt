@@ -1,0 +1,58 @@
+-- `parts_of`: the walk over the first part tells how many nodes and atoms it has; the second part has what is left.
+-- Assumes nothing.
+use mathlib.Core.Path.{refl}
+use native.Mathlib.Omega.{arith}
+use borrow.Author.Needs.{needs}
+use Rattle.ways.proofs.Spots.{first-tree, passed-by, parts-are}
+use Rattle.ways.proofs.parts_of.Statement.{statement}
+use Rattle.ways.proofs.parts_of.Tie as tie
+
+walk-tree-requires : tie.Need-walk-tree-requires
+walk-tree-requires c κs =
+    let w = c .before .before .before in
+    (w .pre .0, first-tree _ _ (w .pre .1 .1 .0) (w .pre .1 .1 .1) (w .pre .1 .0))
+
+sub-nodes : tie.Need-sub-nodes
+sub-nodes c =
+    let w = c .before .before .before .before in
+    let m = passed-by _ _ (w .pre .1 .1 .0) (w .pre .1 .1 .1) (w .pre .1 .0) _ _ _ (c .walk-tree .ensures) in
+    omega (arith, m .past)
+
+sub-t12 : tie.Need-sub-t12
+sub-t12 c =
+    let w = c .before .before .before .before .before .before in
+    let m = passed-by _ _ (w .pre .1 .1 .0) (w .pre .1 .1 .1) (w .pre .1 .0) _ _ _ (c .before .before .walk-tree .ensures) in
+    omega (arith, m .past, m .room)
+
+add-t14 : tie.Need-add-t14
+add-t14 c =
+    let w = c .before .before .before .before .before .before .before in
+    let m = passed-by _ _ (w .pre .1 .1 .0) (w .pre .1 .1 .1) (w .pre .1 .0) _ _ _ (c .before .before .before .walk-tree .ensures) in
+    omega (arith, m .past, m .room)
+
+add-t15 : tie.Need-add-t15
+add-t15 c =
+    let w = c .before .before .before .before .before .before .before .before .before in
+    let m = passed-by _ _ (w .pre .1 .1 .0) (w .pre .1 .1 .1) (w .pre .1 .0) _ _ _ (c .before .before .before .before .before .walk-tree .ensures) in
+    omega (arith, m .past, m .room, m .few)
+
+returns : tie.Need-returns
+returns c =
+    let w = c .before .before .before .before .before .before .before .before .before in
+    parts-are _ _ (w .pre .1 .1 .0) (w .pre .1 .1 .1) (w .pre .1 .0) _ _ _ (c .before .before .before .before .before .walk-tree .ensures) _ refl refl refl refl refl refl refl refl
+
+pub parts-of-spec : {M : Type 1} → statement M
+parts-of-spec =
+    tie.close
+    (tie.spec
+    (λ c. search needs)
+    (λ c. search needs)
+    walk-tree-requires
+    sub-nodes
+    (λ c. search needs)
+    (λ c. search needs)
+    sub-t12
+    (λ c. search needs)
+    add-t14
+    add-t15
+    returns)

@@ -1,0 +1,4 @@
+pub mod Held
+pub mod Spot
+pub mod Walks
+pub mod Answers
