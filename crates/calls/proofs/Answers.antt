@@ -18,13 +18,13 @@ use Rattle.runs.specs.Machine.{Control, State}
 use Rattle.calls.specs.Names.{tokenOf}
 use Rattle.calls.specs.Limits.{Taking, taken, refuses, no-room, oneToken}
 use Rattle.calls.specs.Held.{Held}
-use Rattle.calls.specs.Call.{Result, stopped, after-writing, numberAt, Runs, takes, stops, full, no-token, again, CalledBy, Called}
+use Rattle.calls.specs.Call.{Result, roomLeft, stopped, after-writing, numberAt, Runs, takes, stops, full, no-token, again, CalledBy, Called}
 use Rattle.calls.proofs.Readable.{some-answer}
 
 module _ (a : Sheet) (part : List ℕ) (more : Bool) where
   -- how a run goes on from the token that stands at `at`, by what that comes to
   abbrev pub AfterToken : ℕ → ℕ → State → ℕ → Result → Taking → Type 0
-  AfterToken at room z next r (taken z′ w) = (r′ : Result) × Runs a part more next (room - length w) z′ r′ × (r ≡ after-writing w r′)
+  AfterToken at room z next r (taken z′ w) = (r′ : Result) × Runs a part more next (roomLeft room w) z′ r′ × (r ≡ after-writing w r′)
   AfterToken at room z next r (refuses n) = r ≡ stopped n at z
   AfterToken at room z next r no-room = r ≡ stopped 17 at z
 
@@ -89,7 +89,7 @@ module _ (a : Sheet) (part : List ℕ) (more : Bool) where
         (t : Taking) → oneToken a z room (tokenOf a part e) ≡ t → (r : Result) × Runs a part more at room z r
     from-token room z e next m h (taken z′ w) t =
         let k = token-moves part at e (record { at = next }) h m in
-        let i = rest next (k .0) (k .1) (room - length w) z′ in
+        let i = rest next (k .0) (k .1) (roomLeft room w) z′ in
         (after-writing w (i .0), takes e next z′ w m t (i .1))
     from-token room z e next m h (refuses n) t = (stopped n at z, stops e next n m t)
     from-token room z e next m h no-room t = (stopped 17 at z, full e next m t)

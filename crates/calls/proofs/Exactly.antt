@@ -3,20 +3,21 @@
 -- Assumes nothing.
 use mathlib.Core.Path.{_≡_, refl, sym, ap, ap₂, _∙_, subst}
 use mathlib.Core.Logic.{_⊎_, inl, inr, _↔_}
-use mathlib.Core.Bool.{Bool, true, false, _&&_, _||_}
+use mathlib.Core.Bool.{Bool, true, false, _&&_}
 use mathlib.Core.List.{List, [], _++_, append-nil}
 use mathlib.Core.Option.{Option, none, some}
-use Prim.Native.Nat.{ℕ, _≤_, _<_}
+use Prim.Native.Nat.{ℕ, zero, suc, _≤_, _<_}
 use native.Mathlib.Omega.{arith}
-use lib.Dec.{leb, eqb}
-use lib.ListN.{length}
+use lib.Dec.{leb}
+use lib.ListN.{length, drop}
 use borrow.Author.Tests.{leb-true, leb-false, le-leb, lt-leb}
+use Rattle.tokens.specs.declared.Answer.the-variants.{Begun, Bad, Long}
 use Rattle.output.specs.Escape.{Piece}
 use Rattle.sheet.specs.Sheet.{Sheet}
 use Rattle.runs.specs.Visits.{grammar}
 use Rattle.runs.specs.Events.{Event}
 use Rattle.runs.specs.Acts.{Store}
-use Rattle.runs.specs.Machine.{State, fresh-state, Answer, took, refused, Outcome, finished, stopped, answered, run}
+use Rattle.runs.specs.Machine.{Control, before, inside, after, State, fresh-state, Answer, took, refused, Outcome, finished, stopped, answered, run}
 use Rattle.runs.specs.Taken.{Passed, Stopped}
 use Rattle.runs.specs.Spells.{Token, eventsOfToken, isBlank, passesAt, unless-blank, stepToken}
 use Rattle.runs.proofs.Moves.{run-through, run-stops}
@@ -25,10 +26,10 @@ use Rattle.runs.proofs.Spells.{token-refused}
 use Rattle.calls.specs.Names.{tokenOf}
 use Rattle.runs.specs.Visits.{mostVisits}
 use Rattle.calls.specs.Limits.{silent, outputOf, Taking, taken, refuses, no-room, limited, within, oneToken}
-use Rattle.calls.specs.Held.{Held, closingOf, handed}
-use Rattle.calls.specs.Call.{Result, Runs, takes, stops, full, no-token, again, CalledBy, Called}
+use Rattle.calls.specs.Held.{Held, leavesOpen, closingOf, Closing}
+use Rattle.calls.specs.Call.{Result, numberAt, Runs, takes, stops, full, no-token, again, CalledBy, Called}
 use Rattle.calls.specs.Reached.{ReachedBy}
-use Rattle.calls.proofs.Frame.{state-behind, answer-behind, token-frame, countOf}
+use Rattle.calls.proofs.Frame.{state-behind, answer-behind, token-frame, countOf, token-number}
 use Rattle.calls.proofs.Steps.{outOf, behind-silent, takes-one}
 
 -- a token in a state without output, and in the same with it
@@ -169,6 +170,53 @@ closing-is false n m e = cc
 pub closed-by : {a : Sheet} {part : List ℕ} {more : Bool} {at room : ℕ} {z : State} {r : Result} → Runs a part more at room z r → (n : ℕ) → r .held .closing ≡ some n →
     r .number ≡ n
 closed-by (takes e next z′ w m t d) n h = closed-by d n h
-closed-by (stops e next j m t) n h = closing-is (eqb j 16 || eqb j 17) j n h
-closed-by (full e next m t) n h = closing-is (eqb 17 16 || eqb 17 17) 17 n h
-closed-by (no-token x j m q) n h = closing-is (eqb j 16 || eqb j 17) j n h
+closed-by (stops e next j m t) n h = closing-is (leavesOpen j) j n h
+closed-by (full e next m t) n h = closing-is (leavesOpen 17) 17 n h
+closed-by (no-token x j m q) n h = closing-is (leavesOpen j) j n h
+
+-- called again after 0, and after a refusal
+pub after-end : (a : Sheet) (part : List ℕ) (more : Bool) (room : ℕ) (h : Held) (r : Result) → h .closing ≡ some 0 → Called a part more room h r → r .number ≡ 28
+after-end a part more room h r e d = ap (λ (x : Result). x .number) (closed-again a part more room h r 0 e d)
+
+pub after-refusal : (a : Sheet) (part : List ℕ) (more : Bool) (room : ℕ) (h : Held) (r : Result) (n : ℕ) → h .closing ≡ some n → 0 < n → Called a part more room h r →
+    r .number ≡ n
+after-refusal a part more room h r zero e l d = absurd (omega arith)
+after-refusal a part more room h r (suc n) e l d = ap (λ (x : Result). x .number) (closed-again a part more room h r (suc n) e d)
+
+-- what is handed back is fit to be handed in: the closing number is one of 01's, and the count is within the limit
+none-closes : (n : ℕ) → closingOf (leavesOpen 16) 16 ≡ some n → ⊥
+none-closes n e = let x : _≡_ {A = ℕ} 0 1 = cc in omega arith
+
+none-number : (more : Bool) (left : ℕ) (c : Control) (x : Rattle.tokens.specs.declared.Answer.Answer) (j : ℕ) → numberAt more left c x ≡ some j → (j ≡ 16) ⊎ Closing j
+none-number more left c (Rattle.tokens.specs.declared.Answer.the-variants.Token e next) j q = absurd (let y : _≡_ {A = ℕ} 0 1 = cc in omega arith)
+none-number true left c Begun j q = let h : 16 ≡ j = cc in inl (sym h)
+none-number false zero before Begun j q = let h : 27 ≡ j = cc in inr (inr (inl (omega arith, omega arith)))
+none-number false zero (inside o os) Begun j q = let h : 27 ≡ j = cc in inr (inr (inl (omega arith, omega arith)))
+none-number false zero after Begun j q = let h : 0 ≡ j = cc in inr (inl (sym h))
+none-number false (suc left) c Begun j q = let h : 27 ≡ j = cc in inr (inr (inl (omega arith, omega arith)))
+none-number more left c Bad j q = let h : 20 ≡ j = cc in inr (inr (inl (omega arith, omega arith)))
+none-number more left c Long j q = let h : 21 ≡ j = cc in inr (inr (inl (omega arith, omega arith)))
+
+module _ {a : Sheet} {part : List ℕ} {more : Bool} where
+  pub closing-fits : {at room : ℕ} {z : State} {r : Result} → Runs a part more at room z r → (n : ℕ) → r .held .closing ≡ some n → Closing n
+  closing-fits (takes e next z′ w m t d) n h = closing-fits d n h
+  closing-fits (stops {at} {room} {z} e next j m t) n h =
+      subst Closing (closing-is (leavesOpen j) j n h) (by (refuses-iff a z room (tokenOf a part e) j .0 t))
+    where
+      by : (stepToken a z (tokenOf a part e) ≡ refused j) ⊎ Over a z room (tokenOf a part e) j → Closing j
+      by (inl r) = let i = token-number a z (tokenOf a part e) j r in inr (inl (omega (arith, i .0), omega (arith, i .1)))
+      by (inr o) = inr (inr (o .0))
+  closing-fits (full e next m t) n h = absurd (let x : _≡_ {A = ℕ} 0 1 = cc in omega arith)
+  closing-fits (no-token {at} {room} {z} x j m q) n h = by (none-number more (length (drop at part)) (z .control) x j q)
+    where
+      by : (j ≡ 16) ⊎ Closing j → Closing n
+      by (inl e) = absurd (none-closes n (subst (λ (i : ℕ). closingOf (leavesOpen i) i ≡ some n) e h))
+      by (inr c) = subst Closing (closing-is (leavesOpen j) j n h) c
+
+  pub count-fits : {at room : ℕ} {z : State} {r : Result} → Runs a part more at room z r → countOf z ≤ mostVisits → countOf (r .held .run) ≤ mostVisits
+  count-fits (takes {at} {room} {z} e next z′ w m t d) h =
+      let o = takes-one a z room (tokenOf a part e) z′ w t in
+      count-fits d (subst (λ (y : State). countOf y ≤ mostVisits) (sym (o .silenced)) (o .counts))
+  count-fits (stops e next n m t) h = h
+  count-fits (full e next m t) h = h
+  count-fits (no-token x n m q) h = h

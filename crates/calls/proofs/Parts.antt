@@ -28,7 +28,7 @@ use Rattle.runs.specs.Spells.{start-token, end-token, empty-token, stepToken}
 use Rattle.calls.specs.Names.{tagNamed, tokenOf}
 use Rattle.runs.specs.Visits.{mostVisits}
 use Rattle.calls.specs.Limits.{silent, outputOf, Taking, taken, refuses, no-room, limited, within, oneToken}
-use Rattle.calls.specs.Held.{Held, closingOf, handed}
+use Rattle.calls.specs.Held.{Held, leavesOpen, closingOf, handed}
 use Rattle.calls.specs.Call.{Result, stopped, after-writing, numberAt, Runs, takes, stops, full, no-token, CalledBy, Called}
 use Rattle.calls.specs.Parts.{joined, Told, Continued, Feeds, at-once, closes, goes-on}
 use Rattle.calls.proofs.Answers.{AfterToken, split, to-number, call-one, call-some}
@@ -80,16 +80,16 @@ long≢begun : Long ≡ Begun → ⊥
 long≢begun p = let z : _≡_ {A = ℕ} 0 1 = cc in omega arith
 
 -- a number over 17 closes
-over-closes : (n : ℕ) → 18 ≤ n → closingOf (eqb n 16 || eqb n 17) n ≡ some n
+over-closes : (n : ℕ) → 18 ≤ n → closingOf (leavesOpen n) n ≡ some n
 over-closes n h = ap₂ (λ (b b′ : Bool). closingOf (b || b′) n) (ne-eqb n 16 (λ e. omega arith)) (ne-eqb n 17 (λ e. omega arith))
 
 -- and so do 27 and 0, at the end of a stream
-end-closes : (left : ℕ) (c : Control) (n : ℕ) → numberAt false left c Begun ≡ some n → closingOf (eqb n 16 || eqb n 17) n ≡ some n
+end-closes : (left : ℕ) (c : Control) (n : ℕ) → numberAt false left c Begun ≡ some n → closingOf (leavesOpen n) n ≡ some n
 end-closes zero before n q = let h : 27 ≡ n = cc in over-closes n (omega arith)
 end-closes zero (inside o os) n q = let h : 27 ≡ n = cc in over-closes n (omega arith)
 end-closes zero after n q =
     let h : 0 ≡ n = cc in
-    subst (λ (m : ℕ). closingOf (eqb m 16 || eqb m 17) m ≡ some m) h refl
+    subst (λ (m : ℕ). closingOf (leavesOpen m) m ≡ some m) h refl
 end-closes (suc left) c n q = let h : 27 ≡ n = cc in over-closes n (omega arith)
 
 module _ (a : Sheet) (s r : List ℕ) (b more : Bool) (told : Told b r more) (extra : ℕ) where

@@ -23,7 +23,7 @@ use Rattle.runs.specs.Spells.{stepToken, TokenOutcome, through, onward-token, r
 use Rattle.calls.specs.Names.{tokenOf}
 use Rattle.runs.specs.Visits.{mostVisits}
 use Rattle.calls.specs.Limits.{silent, outputOf, Taking, taken, refuses, no-room, limited, within, oneToken}
-use Rattle.calls.specs.Held.{Held}
+use Rattle.calls.specs.Held.{Held, handed}
 use Rattle.calls.specs.Call.{Result, stopped, after-writing, atEnd, numberAt, Runs, takes, stops, full, no-token}
 use Rattle.calls.proofs.Frame.{state-behind, answer-behind, token-frame, countOf, tokens-count, token-number}
 
@@ -154,6 +154,43 @@ abbrev pub tokensOf : Sheet → List ℕ → List Event → List RunToken
 tokensOf a s [] = []
 tokensOf a s (e ∷ es) = tokenOf a s e ∷ tokensOf a s es
 
+-- whatever a call answers, it has read the tokens that it counts as taken, its state is what they come to, and its output is theirs
+pub record Does (a : Sheet) (part : List ℕ) (at room : ℕ) (z : State) (r : Result) : Type 0 where
+  pub events : List Event
+  pub printed : List Piece
+  pub reads : Reads part at events (r .taken)
+  pub steps : Steps a z (tokensOf a part events) (r .held .run) printed
+  pub writes : r .output ≡ render printed
+  pub fits : length (render printed) ≤ room
+
+module _ (a : Sheet) (part : List ℕ) where
+  nothing-done : (at room n : ℕ) (z : State) → Does a part at room z (stopped n at z)
+  nothing-done at room n z = record { events = []; printed = []; reads = refl; steps = (refl, refl); writes = refl; fits = omega arith }
+
+  pub run-does : {more : Bool} {at room : ℕ} {z : State} {r : Result} → Runs a part more at room z r → Does a part at room z r
+  run-does (takes {at} {room} {z} {r} e next z′ w m t d) =
+      let i = run-does d in
+      let o = takes-one a z room (tokenOf a part e) z′ w t in
+      let y : State = o .reached in
+      record {
+        events = e ∷ i .events;
+        printed = outOf y ++ i .printed;
+        reads = (next, m, i .reads);
+        steps = (
+          y,
+          o .stepped,
+          o .counts,
+          i .printed,
+          subst (λ (x : State). Steps a x (tokensOf a part (i .events)) (r .held .run) (i .printed)) (o .silenced) (i .steps),
+          refl,
+        );
+        writes = ap₂ (λ (l k : List ℕ). l ++ k) (o .writes) (i .writes) ∙ sym (render-append (outOf y) (i .printed));
+        fits = omega (arith, ap length (render-append (outOf y) (i .printed)), length-append (render (outOf y)) (render (i .printed)), i .fits, o .fits, ap length (o .writes));
+      }
+  run-does (stops {at} {room} {z} e next n m t) = nothing-done at room n z
+  run-does (full {at} {room} {z} e next m t) = nothing-done at room 17 z
+  run-does (no-token {at} {room} {z} x n m q) = nothing-done at room n z
+
 -- a call that ends with 0
 abbrev pub ended : ℕ → List Piece → State → Result
 ended to p z = record { number = 0; taken = to; output = render p; held = record { run = z; closing = some 0 } }
@@ -185,42 +222,32 @@ module _ (a : Sheet) (s : List ℕ) where
   all-taken left c Bad q = absurd (let y : _≡_ {A = ℕ} 20 0 = cc in omega arith)
   all-taken left c Long q = absurd (let y : _≡_ {A = ℕ} 21 0 = cc in omega arith)
 
-  pub run-ends : {at room : ℕ} {z : State} {r : Result} → Runs a s false at room z r → r .number ≡ 0 → Ends a s at room z r
-  run-ends (takes {at} {room} {z} {r} e next z′ w m t d) h =
-      let i = run-ends d h in
-      let o = takes-one a z room (tokenOf a s e) z′ w t in
-      let y : State = o .reached in
-      let q : after-writing w r ≡ ended (i .to) (outOf y ++ i .printed) (i .last) =
-      ap (after-writing w) (i .is)
-      ∙ ap (λ (l : List ℕ). record { number = 0; taken = i .to; output = l; held = record { run = i .last; closing = some 0 } })
-      (ap (λ (l : List ℕ). l ++ render (i .printed)) (o .writes) ∙ sym (render-append (outOf y) (i .printed))) in
-      record {
-        events = e ∷ i .events;
-        to = i .to;
-        last = i .last;
-        printed = outOf y ++ i .printed;
-        reads = (next, m, i .reads);
-        steps = (y, o .stepped, o .counts, i .printed, subst (λ (x : State). Steps a x (tokensOf a s (i .events)) (i .last) (i .printed)) (o .silenced) (i .steps), refl);
-        root-closed = i .root-closed;
-        nothing-left = i .nothing-left;
-        fits = omega (arith, ap length (render-append (outOf y) (i .printed)), length-append (render (outOf y)) (render (i .printed)), i .fits, o .fits, ap length (o .writes));
-        is = q;
-      }
-  run-ends (stops {at} {room} {z} e next n m t) h = absurd (omega (arith, refuses-over a z room (tokenOf a s e) n t, h))
-  run-ends (full e next m t) h = absurd (omega (arith, h))
-  run-ends (no-token {at} {room} {z} x n m q) h =
+  at-the-end : {at room : ℕ} {z : State} {r : Result} → Runs a s false at room z r → r .number ≡ 0 →
+      (r .held .run .control ≡ after) × (length (drop (r .taken) s) ≡ 0) × (r .held .closing ≡ some 0)
+  at-the-end (takes e next z′ w m t d) h = at-the-end d h
+  at-the-end (stops {at} {room} {z} e next n m t) h = absurd (omega (arith, refuses-over a z room (tokenOf a s e) n t, h))
+  at-the-end (full e next m t) h = absurd (omega (arith, h))
+  at-the-end (no-token {at} {room} {z} x n m q) h =
       let i = all-taken (length (drop at s)) (z .control) x (q ∙ ap some h) in
+      (i .1, i .0, ap (λ (j : ℕ). handed j z .closing) h)
+
+  pub run-ends : {at room : ℕ} {z : State} {r : Result} → Runs a s false at room z r → r .number ≡ 0 → Ends a s at room z r
+  run-ends {r = r} d h =
+      let i = run-does a s d in
+      let e = at-the-end d h in
+      let w = i .writes in
+      let c = e .2 in
       record {
-        events = [];
-        to = at;
-        last = z;
-        printed = [];
-        reads = refl;
-        steps = (refl, refl);
-        root-closed = i .1;
-        nothing-left = i .0;
-        fits = omega arith;
-        is = ap (λ (j : ℕ). stopped j at z) h;
+        events = i .events;
+        to = r .taken;
+        last = r .held .run;
+        printed = i .printed;
+        reads = i .reads;
+        steps = i .steps;
+        root-closed = e .0;
+        nothing-left = e .1;
+        fits = i .fits;
+        is = λ k. record { number = h k; taken = r .taken; output = w k; held = record { run = r .held .run; closing = c k } };
       }
 
   pub ends-run : (es : List Event) (at room : ℕ) (z : State) (to : ℕ) (last : State) (p : List Piece) → Reads s at es to → Steps a z (tokensOf a s es) last p →

@@ -4,7 +4,7 @@ use mathlib.Core.Path.{_≡_}
 use mathlib.Core.Bool.{Bool}
 use mathlib.Core.List.{List, [], _++_}
 use mathlib.Core.Option.{Option, none, some}
-use Prim.Native.Nat.{ℕ, zero, suc, _+_, _-_}
+use Prim.Native.Nat.{ℕ, zero, suc, _-_}
 use lib.ListN.{length, drop}
 use Rattle.tokens.specs.declared.Event.{Event}
 use Rattle.tokens.specs.declared.Answer.{Answer}
@@ -16,7 +16,7 @@ use Rattle.runs.specs.Options.{orElse}
 use Rattle.runs.specs.Machine.{Control, before, inside, after, State}
 use Rattle.calls.specs.Names.{tokenOf}
 use Rattle.calls.specs.Held.{Held, handed}
-use Rattle.calls.specs.Limits.{Taking, taken, refuses, no-room, oneToken}
+use Rattle.calls.specs.Limits.{taken, refuses, no-room, oneToken}
 
 pub record Result : Type 0 where
   pub number : ℕ
@@ -31,6 +31,10 @@ stopped n at z = record { number = n; taken = at; output = []; held = handed n z
 -- the same after w was written
 abbrev pub after-writing : List ℕ → Result → Result
 after-writing w r = record { number = r .number; taken = r .taken; output = w ++ r .output; held = r .held }
+
+-- the room left after w was written
+abbrev pub roomLeft : ℕ → List ℕ → ℕ
+roomLeft room w = room - length w
 
 -- nothing is left of a stream that is declared ended
 abbrev pub atEnd : Control → ℕ
@@ -49,7 +53,7 @@ numberAt more left c Long = numberOf more left Long
 -- before it, and nothing of its output
 pub data Runs (a : Sheet) (part : List ℕ) (more : Bool) : ℕ → ℕ → State → Result → Type 0 where
   takes : {at room : ℕ} {z : State} {r : Result} (e : Event) (next : ℕ) (z′ : State) (w : List ℕ) →
-      Means (front part at) at (Token e (record { at = next })) → oneToken a z room (tokenOf a part e) ≡ taken z′ w → Runs a part more next (room - length w) z′ r →
+      Means (front part at) at (Token e (record { at = next })) → oneToken a z room (tokenOf a part e) ≡ taken z′ w → Runs a part more next (roomLeft room w) z′ r →
       Runs a part more at room z (after-writing w r)
   stops : {at room : ℕ} {z : State} (e : Event) (next n : ℕ) →
       Means (front part at) at (Token e (record { at = next })) → oneToken a z room (tokenOf a part e) ≡ refuses n → Runs a part more at room z (stopped n at z)

@@ -1,8 +1,10 @@
 -- What is handed in and back between two calls, and which numbers close it.
 -- Assumes nothing.
+use mathlib.Core.Path.{_≡_}
+use mathlib.Core.Logic.{_⊎_}
 use mathlib.Core.Bool.{Bool, true, false, _||_}
 use mathlib.Core.Option.{Option, none, some}
-use Prim.Native.Nat.{ℕ}
+use Prim.Native.Nat.{ℕ, _≤_}
 use lib.Dec.{eqb}
 use Rattle.runs.specs.Machine.{State, fresh-state}
 
@@ -15,9 +17,16 @@ abbrev pub fresh-held : Held
 fresh-held = record { run = fresh-state; closing = none }
 
 -- 16 and 17 leave the state open, every other number of a run closes it
+abbrev pub leavesOpen : ℕ → Bool
+leavesOpen n = eqb n 16 || eqb n 17
+
 abbrev pub closingOf : Bool → ℕ → Option ℕ
 closingOf true n = none
 closingOf false n = some n
 
 abbrev pub handed : ℕ → State → Held
-handed n z = record { run = z; closing = closingOf (eqb n 16 || eqb n 17) n }
+handed n z = record { run = z; closing = closingOf (leavesOpen n) n }
+
+-- the numbers that a state can be closed by
+abbrev pub Closing : ℕ → Type 0
+Closing n = (n ≡ 0) ⊎ (((20 ≤ n) × (n ≤ 27)) ⊎ (n ≡ 30))

@@ -1,4 +1,4 @@
--- A stream that comes in parts, or with less room: two calls, the second with what the first has left, against one call.
+-- A stream that comes in parts, or with room a little at a time: calls each with what the one before has left, against one call.
 -- Assumes nothing.
 use mathlib.Core.Path.{_≡_}
 use mathlib.Core.Logic.{_⊎_}

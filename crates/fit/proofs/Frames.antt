@@ -4,7 +4,7 @@
 use mathlib.Core.Path.{_≡_, refl, sym, ap, subst, _∙_}
 use mathlib.Core.Bool.{Bool, true, false, true≢false}
 use mathlib.Core.List.{List, [], _∷_}
-use mathlib.Core.Logic.{inl, inr, ⊎-elim}
+use mathlib.Core.Logic.{inr, ⊎-elim}
 use mathlib.Core.Option.{Option, none, some, Option·none-ne-some as none-some}
 use Prim.Native.Nat.{ℕ, zero, suc, _+_, _≤_, _<_}
 use native.Mathlib.Omega.{arith}
@@ -13,7 +13,7 @@ use lib.Dec.{T, eqb, leb}
 use lib.ListN.{length, getD, take, drop}
 use lib.Seq.{drop-cons, getD-take}
 use borrow.Author.Tests.{eqb-true, eq-eqb}
-use Rattle.expressions.specs.Expr.{Content, nothing, tree, Exp}
+use Rattle.expressions.specs.Expr.{Content, nothing, tree}
 use Rattle.expressions.specs.Grammar.{Production, contentOf}
 use Rattle.tells.specs.Tells.{Tells, holds, fails}
 use Rattle.tells.proofs.Laws.{leb-tells, as-told, told as is-told, not-told}

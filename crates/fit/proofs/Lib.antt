@@ -2,3 +2,5 @@ pub mod Lists
 pub mod Spots
 pub mod Frames
 pub mod Theorems
+pub mod Reached
+pub mod RunsFit

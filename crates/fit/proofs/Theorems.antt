@@ -6,14 +6,13 @@ use mathlib.Core.Bool.{Bool}
 use mathlib.Core.List.{List, [], _∷_}
 use mathlib.Core.Logic.{inl}
 use mathlib.Core.Option.{Option, some}
-use Prim.Native.Nat.{ℕ, zero, suc, _≤_}
+use Prim.Native.Nat.{ℕ, zero, suc, _+_, _≤_}
 use native.Mathlib.Omega.{arith}
 use lib.Dec.{T}
 use lib.ListN.{length, take}
 use Rattle.expressions.specs.Grammar.{Production, contentOf}
 use Rattle.tells.specs.Tells.{Tells}
 use Rattle.tells.proofs.Laws.{one-telling}
-use Rattle.layout.specs.Layout.{start}
 use Rattle.trees.specs.Trees.{Trees}
 use Rattle.trees.specs.GrammarAt.{GrammarIs}
 use Rattle.trees.proofs.Grammars.{grammar-is}
@@ -24,8 +23,8 @@ use Rattle.runs.specs.Nodes.{openNodes}
 use Rattle.runs.proofs.Nodes.{open-few}
 use Rattle.state.specs.Changes.{freshState}
 use Rattle.state.specs.Meaning.{All, none, more, Fits, Shaped}
-use Rattle.state.specs.Bytes.{SizedFrame, Sized}
-use Rattle.state.specs.declared.Saved.{Saved}
+use Rattle.state.specs.Bytes.{gathered, byteAt, savedAt, frameAt, stateFrom, SizedSet, SizedFrame, Sized}
+use Rattle.state.proofs.Gathered.{length-gathered}
 use Rattle.state.specs.declared.Frame.{Frame}
 use Rattle.state.specs.declared.State.{State}
 use Rattle.fit.specs.Fit.{childAt, SetFits, FrameFits, FramesFit, Fit}
@@ -42,6 +41,20 @@ one-fitting s w z a b h k = let g = grammar-is s w in one-telling (h .tells (g .
 pub fits-sheet : {s : List ℕ} {a : Sheet} → IsSheet s a → (z : State) (r : Bool) → FitTold s z r → Tells (Fit (grammarOf (a .rules)) (a .start-nonterminal) z) r
 fits-sheet {s} {a} i z r h = subst (λ (n : ℕ). Tells (Fit (grammarOf (a .rules)) n z) r) (sym (i .start-is)) (h .tells (grammarOf (a .rules)) (sheet-grammar i))
 
+-- what is read from bytes has the length of its type
+all-read : {X : Type 0} (P : X → Type 0) (f : ℕ → X) (w : ℕ) → ((at : ℕ) → P (f at)) → (at n : ℕ) → All P (gathered f w at n)
+unfolding gathered
+all-read P f w h at zero = none
+all-read P f w h at (suc n) = more (h at) (all-read P f w h (at + w) n)
+
+set-read : (b : List ℕ) (at : ℕ) → SizedSet (savedAt b at)
+unfolding savedAt
+set-read b at = record { values = length-gathered (byteAt b) 1 at 4 }
+
+frame-read : (b : List ℕ) (at : ℕ) → SizedFrame (frameAt b at)
+unfolding frameAt
+frame-read b at = record { saved = length-gathered (savedAt b) 5 (at + 3) 13; sets = all-read SizedSet (savedAt b) 5 (set-read b) (at + 3) 13 }
+
 -- no state that fits has more in use than its arrays hold
 module _ (s : List ℕ) (g : List Production) (γ : GrammarIs s g) where
   frame-room : (may : Option ℕ) (f : Frame) → FrameFits g may f → f .«open» ≤ 13
@@ -54,8 +67,16 @@ module _ (s : List ℕ) (g : List Production) (γ : GrammarIs s g) where
   frames-room may (f ∷ fs) k (more z a) =
       more (record { room = frame-room may f (k .0); sets = z .saved }) (frames-room (childAt (contentOf g (f .production)) (f .place)) fs (k .1) a)
 
+  shaped-by : (n : ℕ) (z : State) → length (z .frames) ≡ 32 → All SizedFrame (z .frames) → Fit g n z → Shaped z
+  shaped-by n z l a k = record { deep = k .few; frames = l; fits = frames-room (some n) (take (z .depth) (z .frames)) (k .frames) (all-take (z .depth) (z .frames) a) }
+
   pub fit-shaped : (n : ℕ) (z : State) → Sized z → Fit g n z → Shaped z
-  fit-shaped n z h k = record { deep = k .few; frames = h .frames; fits = frames-room (some n) (take (z .depth) (z .frames)) (k .frames) (all-take (z .depth) (z .frames) (h .each)) }
+  fit-shaped n z h k = shaped-by n z (h .frames) (h .each) k
+
+  -- so it is of every state read from bytes
+  pub fit-read-shaped : (n : ℕ) (b : List ℕ) → Fit g n (stateFrom b) → Shaped (stateFrom b)
+  unfolding stateFrom
+  fit-read-shaped n b k = shaped-by n (stateFrom b) (length-gathered (frameAt b) 68 23 32) (all-read SizedFrame (frameAt b) 68 (frame-read b) 23 32) k
 
 -- the fresh state fits whatever the sheet
 pub fresh-fit : (g : List Production) (n : ℕ) → Fit g n freshState

@@ -5,7 +5,7 @@ use mathlib.Core.Bool.{Bool, true, false}
 use mathlib.Core.List.{List}
 use mathlib.Core.Option.{Option, none, some}
 use Prim.Native.Nat.{ℕ, suc, _+_, _≤_, _<_}
-use lib.ListN.{length, take}
+use lib.ListN.{length}
 use Rattle.expressions.specs.Expr.{Exp, nodes, atoms}
 use Rattle.expressions.specs.Grammar.{Production, contentOf}
 use Rattle.tells.specs.Tells.{Tells}

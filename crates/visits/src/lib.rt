@@ -409,6 +409,44 @@ fn list(
     l
 }
 
+// Runs the program that starts at an offset of the section.
+fn perform_at(
+    s: &[u8],
+    l: layout::Layout,
+    field: usize,
+    kept: [u8; 4],
+    env: Env,
+    out: &mut [u8],
+    at: usize,
+    write: bool,
+) -> Performed
+    requires { ⌜ LaidOut (now s) l ⌝ }
+    requires { ⌜ (at ≤ 2 ^ 60) × (field ≤ l .programs) × (field ≡ 65535 → ⊥) ⌝ }
+    ensures { λ r. ⌜ PerformedAs (now (s .entry)) field kept env (record { write = write; lent = now (out .entry); at = at }) r (now (out .exit)) ⌝ }
+{
+    let a = l.programs_at;
+    let b = a + l.programs;
+    let c = l.strings_at;
+    let d = c + l.strings;
+    let section = &s[a..b];
+    let strings = &s[c..d];
+    let r = list(section, s, strings, field, kept, env, true, out, at, write);
+    let to = r.at;
+    let after = r.env;
+    if r.ok {
+        return Performed {
+            ok: true,
+            at: to,
+            env: after,
+        };
+    }
+    Performed {
+        ok: false,
+        at: at,
+        env: env,
+    }
+}
+
 // Runs the program that a field of the sheet s names, or none.
 pub fn perform(
     s: &[u8],
@@ -438,34 +476,5 @@ pub fn perform(
             env: env,
         };
     }
-    let a = l.programs_at;
-    let b = a + l.programs;
-    let c = l.strings_at;
-    let d = c + l.strings;
-    let r = list(
-        &s[a..b],
-        s,
-        &s[c..d],
-        field,
-        kept,
-        env,
-        true,
-        out,
-        at,
-        write,
-    );
-    let to = r.at;
-    let after = r.env;
-    if r.ok {
-        return Performed {
-            ok: true,
-            at: to,
-            env: after,
-        };
-    }
-    Performed {
-        ok: false,
-        at: at,
-        env: env,
-    }
+    perform_at(s, l, field, kept, env, out, at, write)
 }

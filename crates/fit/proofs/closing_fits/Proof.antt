@@ -1,9 +1,8 @@
 -- The tests go through the closing numbers; past them the number lies between 20 and 27 or is none of them.
 -- Assumes nothing.
-use mathlib.Core.Path.{_≡_}
 use mathlib.Core.Logic.{inl, inr}
 use Rattle.tells.specs.Tells.{holds, fails}
-use Rattle.fit.specs.Fit.{ClosingNumber, ended, counted}
+use Rattle.fit.specs.Fit.{ended, counted}
 use Rattle.fit.proofs.Frames.{closing-between, not-closing, a-closing}
 use Rattle.fit.proofs.closing_fits.Statement.{statement}
 use Rattle.fit.proofs.closing_fits.Tie as tie
