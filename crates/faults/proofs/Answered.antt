@@ -1,11 +1,11 @@
 -- From the passes to the checker's answers: the dry pass leaves the list as lent and ends four bytes for each fault on, so its end tells
 -- the count and the room; the T faults' end tells 8 from 9; and a pass that fits puts the whole list. Assumes nothing.
-use mathlib.Core.Path.{_≡_, refl, sym, ap, subst, _∙_}
+use mathlib.Core.Path.{_≡_, refl, sym, ap, _∙_}
 use mathlib.Core.Bool.{true, false}
 use mathlib.Core.List.{List, [], _∷_, _++_, List·Memᴰ, List·Memᴰ·head, List·Memᴰ·cases-cons, List·Memᴰ·not-nil}
-use mathlib.Core.Logic.{⊎-elim, _↔_}
-use Prim.Native.Nat.{ℕ, zero, suc, _*_, _/_, _≤_, _<_}
-use native.Mathlib.Nat.{zero-add, le-trans}
+use mathlib.Core.Logic.{⊎-elim}
+use Prim.Native.Nat.{ℕ, _*_, _/_, _≤_, _<_}
+use native.Mathlib.Nat.{zero-add}
 use native.Mathlib.Omega.{arith}
 use lib.ListN.{length, drop, length-append}
 use Rattle.expressions.specs.Grammar.{Production, Small}
@@ -14,6 +14,7 @@ use Rattle.expressions.specs.Listed.{tFaults, faultList}
 use Rattle.expressions.proofs.Order.{Bytes}
 use Rattle.expressions.proofs.ListedT.{t-iff}
 use Rattle.expressions.proofs.Listed.{listed}
+use Rattle.expressions.proofs.Numbers.{none-iff}
 use Rattle.expressions.proofs.Room.{list-bytes}
 use Rattle.lent.specs.Put.{put}
 use Rattle.lent.proofs.Laws.{put-dry, put-all}
@@ -22,9 +23,9 @@ use Rattle.trees.specs.GrammarAt.{GrammarIs}
 use Rattle.sheet.specs.Defect.{WellFormed, DefectIs, well-formed, its-size, its-sections, a-tag, a-production, a-tree, a-program, not-grounded}
 use Rattle.sheet.specs.Sheet.{Sheet, grammarOf, IsSheet}
 use Rattle.sheet.proofs.SheetLaws.{numbered-productions, sheet-grammar}
-use Rattle.faults.specs.Part.{AllPut}
+use Rattle.faults.specs.Part.{AllPut, NumberBy, some-T, only-S, neither}
 use Rattle.faults.specs.Checked.{ListedAs, passes, too-short, t-fault, s-faults-only, CheckedAs, well-formed as faults-of}
-use Rattle.faults.specs.declared.Checked.{Checked}
+use Rattle.faults.specs.Verdict.{VerdictIs, passes as keeps-both, breaks-T, breaks-S}
 use Rattle.faults.specs.declared.Ends.{Ends}
 
 -- an entry is no longer than the list that it stands in
@@ -79,8 +80,28 @@ module _ {s lent mid : List ℕ} {e : Ends} {a : Sheet} (i : IsSheet s a) (dry :
   answer : {number : ℕ} {after : List ℕ} → ListedAs g l lent after number → CheckedAs s lent after (record { number = number; count = e .all / 4 })
   answer z = faults-of a i l is-list (omega (arith, end-is)) z
 
-  pub answer-0 : e .all ≡ 0 → CheckedAs s lent mid (record { number = 0; count = e .all / 4 })
-  answer-0 z = answer (passes (no-fault l (omega (arith, z, end-is))) as-lent)
+  keeps-t : e .t ≡ 0 → KeepsT g
+  keeps-t z = no-t (tagCount s) g small (sym (dry .t-is g g-is) ∙ z)
+
+  a-t-fault : (e .t ≡ 0 → ⊥) → (b : Bytes) × TFault g b
+  a-t-fault z = some-t (tagCount s) g small (λ q. z (dry .t-is g g-is ∙ q))
+
+  none-listed : e .all ≡ 0 → l ≡ []
+  none-listed z = no-fault l (omega (arith, z, end-is))
+
+  some-listed : (e .all ≡ 0 → ⊥) → l ≡ [] → ⊥
+  some-listed z q = z (end-is ∙ ap (λ (x : List Bytes). 4 * length x) q)
+
+  -- where no list is lent the number is all
+  pub verdict-by : {n : ℕ} → NumberBy e n → VerdictIs s n
+  verdict-by (some-T z) = let b = a-t-fault z in breaks-T a i {b = b .0} (b .1)
+  verdict-by (only-S t z) = breaks-S a i (keeps-t t) (λ k. some-listed z (none-iff g l is-list .1 (keeps-t t, k)))
+  verdict-by (neither t z) = let k = none-iff g l is-list .0 (none-listed z) in keeps-both a i (k .0) (k .1)
+
+  pub answer-0 : {n : ℕ} → NumberBy e n → n ≡ 0 → CheckedAs s lent mid (record { number = 0; count = e .all / 4 })
+  answer-0 (some-T z) q = absurd (omega (arith, q))
+  answer-0 (only-S t z) q = absurd (omega (arith, q))
+  answer-0 (neither t z) q = answer (passes (none-listed z) as-lent)
 
   pub answer-10 : length mid < e .all → CheckedAs s lent mid (record { number = 10; count = e .all / 4 })
   answer-10 z = answer (too-short (let m : length mid ≡ length lent = ap length as-lent in omega (arith, z, m, end-is)) as-lent)
@@ -96,15 +117,10 @@ module _ {s lent mid : List ℕ} {e : Ends} {a : Sheet} (i : IsSheet s a) (dry :
         let put-at : after ≡ put true lent 0 (listBytes l) = wet .all-is g g-is .left ∙ ap (λ (d : List ℕ). put true d 0 (listBytes l)) as-lent in
         put-at ∙ put-all lent 0 (listBytes l) (omega (arith, long, fits)) ∙ ap (λ (k : ℕ). listBytes l ++ drop k lent) (zero-add _ ∙ long)
 
-    pub answer-8 : (e .t ≡ 0 → ⊥) → CheckedAs s lent after (record { number = 8; count = e .all / 4 })
-    answer-8 z =
-        let b = some-t (tagCount s) g small (λ q. z (dry .t-is g g-is ∙ q)) in
-        answer (t-fault {b = b .0} (b .1) fits written)
-
-    pub answer-9 : (e .all ≡ 0 → ⊥) → e .t ≡ 0 → CheckedAs s lent after (record { number = 9; count = e .all / 4 })
-    answer-9 y z =
-        answer
-        (s-faults-only (λ q. y (end-is ∙ ap (λ (x : List Bytes). 4 * length x) q)) (no-t (tagCount s) g small (sym (dry .t-is g g-is) ∙ z)) fits written)
+    pub answer-8-or-9 : {n : ℕ} → NumberBy e n → (n ≡ 0 → ⊥) → CheckedAs s lent after (record { number = n; count = e .all / 4 })
+    answer-8-or-9 (some-T z) q = let b = a-t-fault z in answer (t-fault {b = b .0} (b .1) fits written)
+    answer-8-or-9 (only-S t z) q = answer (s-faults-only (some-listed z) (keeps-t t) fits written)
+    answer-8-or-9 (neither t z) q = absurd (q refl)
 
 -- a sheet of number 0 is well-formed
 pub no-defect : {s : List ℕ} {d : ℕ} → DefectIs s d → d ≡ 0 → WellFormed s

@@ -1,6 +1,7 @@
 -- What the checker's contract says: it allows one answer only; 0 is given exactly to the sheets that keep rules T and S; 65,536 bytes always
 -- suffice; the number is of the table, and the list keeps its length. The argument: the sheet, its grammar and its list of faults are one,
 -- and beside them either the lent list is too short (10), or the number is that of the faults and the list stands at the start (Answer).
+-- Where no list is lent the verdict is one, and it is the checker's number but for 10.
 -- Assumes nothing.
 use mathlib.Core.Path.{_≡_, refl, sym, ap, subst, _∙_}
 use mathlib.Core.List.{List, [], _∷_, _++_, List·Memᴰ·head}
@@ -10,7 +11,9 @@ use native.Mathlib.Omega.{arith}
 use lib.ListN.{length, drop, length-append, length-drop}
 use Rattle.expressions.specs.Grammar.{Production}
 use Rattle.expressions.specs.FaultList.{SFault, KeepsT, KeepsS, IsFaultList, listBytes, FaultNumber, passes, t-fault, s-faults}
+use Rattle.expressions.specs.Listed.{faultList}
 use Rattle.expressions.proofs.Order.{Bytes, one-list}
+use Rattle.expressions.proofs.Listed.{listed}
 use Rattle.expressions.proofs.Numbers.{none-iff, one-number}
 use Rattle.expressions.proofs.Room.{list-bytes, any-suffices}
 use Rattle.layout.specs.Layout.{tagCount}
@@ -20,6 +23,7 @@ use Rattle.sheet.specs.Sheet.{Sheet, grammarOf, IsSheet}
 use Rattle.sheet.proofs.DefectLaws.{one-defect}
 use Rattle.sheet.proofs.SheetLaws.{few-productions, numbered-productions, few-nodes, sheet-grammar}
 use Rattle.faults.specs.Checked.{ListedAs, passes as none-listed, too-short, t-fault as t-listed, s-faults-only, CheckedAs, malformed, well-formed as faults-of}
+use Rattle.faults.specs.Verdict.{VerdictIs, malformed as no-sheet, passes as keeps-both, breaks-T, breaks-S}
 use Rattle.faults.specs.declared.Checked.{Checked}
 
 defect-most : {s : List ℕ} {n : ℕ} → DefectIs s n → n ≤ 7
@@ -147,3 +151,36 @@ same-length {s} {lent} {after} {r} (faults-of a i l is c z) = kept (answered is 
     kept (short h q f) = ap length f
     kept (whole h q f) =
         ap length f ∙ length-append (listBytes l) (drop (4 * length l) lent) ∙ omega (arith, h, list-bytes (grammarOf (a .rules)) l is, length-drop (4 * length l) lent)
+
+-- a verdict is the number of the sheet's faults, or of its defect
+of-sheet : {s : List ℕ} {n : ℕ} → VerdictIs s n → (a : Sheet) → IsSheet s a → FaultNumber (grammarOf (a .rules)) n
+of-sheet (no-sheet h d) a i = absurd (no-both h d i)
+of-sheet (keeps-both b j k h) a i = subst (λ (g : List Production). FaultNumber g 0) (same-grammar j i) (passes k h)
+of-sheet (breaks-T b j f) a i = subst (λ (g : List Production). FaultNumber g 8) (same-grammar j i) (t-fault f)
+of-sheet {s} (breaks-S b j k h) a i =
+    let g = grammarOf (b .rules) in
+    let l = faultList (tagCount s) g in
+    let is = listed (tagCount s) g (numbered-productions (j .well-formed) g (sheet-grammar j)) in
+    subst (λ (x : List Production). FaultNumber x 9) (same-grammar j i) (s-faults k (some-s g l is (λ e. h (none-iff g l is .0 e .1)) k .1))
+
+of-defect : {s : List ℕ} {m n : ℕ} → 1 ≤ m → DefectIs s m → VerdictIs s n → m ≡ n
+of-defect h d (no-sheet k f) = one-defect d f
+of-defect h d (keeps-both a i k x) = absurd (no-both h d i)
+of-defect h d (breaks-T a i f) = absurd (no-both h d i)
+of-defect h d (breaks-S a i k x) = absurd (no-both h d i)
+
+-- any two verdicts are one
+pub one-verdict : {s : List ℕ} {m n : ℕ} → VerdictIs s m → VerdictIs s n → m ≡ n
+one-verdict (no-sheet h d) w = of-defect h d w
+one-verdict (keeps-both a i k h) w = one-number (grammarOf (a .rules)) (passes k h) (of-sheet w a i)
+one-verdict (breaks-T a i f) w = one-number (grammarOf (a .rules)) (t-fault f) (of-sheet w a i)
+one-verdict (breaks-S a i k h) w = one-number (grammarOf (a .rules)) (of-sheet (breaks-S a i k h) a i) (of-sheet w a i)
+
+-- it is the checker's number, unless the lent list is too short
+pub verdict-checked : {s lent after : List ℕ} {r : Checked} {n : ℕ} → CheckedAs s lent after r → (r .number ≡ 10 → ⊥) → VerdictIs s n → r .number ≡ n
+verdict-checked (malformed h d c e) k v = of-defect h d v
+verdict-checked {s} {lent} {after} {r} {n} (faults-of a i l is c z) k v = by (answered is z)
+  where
+    by : Answer (grammarOf (a .rules)) l lent after (r .number) → r .number ≡ n
+    by (short h e f) = absurd (k e)
+    by (whole h e f) = one-number (grammarOf (a .rules)) e (of-sheet v a i)

@@ -27,3 +27,9 @@ pub record PartPut (s : List ℕ) (part : List Production → List (List ℕ)) (
 pub record AllPut (s : List ℕ) (write : Bool) (lent after : List ℕ) (r : Ends) : Type 0 where
   pub t-is : (g : List Production) → GrammarIs s g → r .t ≡ length (listBytes (tFaults (tagCount s) g))
   pub all-is : (g : List Production) → GrammarIs s g → PutAs write lent 0 (listBytes (faultList (tagCount s) g)) after (r .all)
+
+-- the number that the two ends tell
+pub data NumberBy (e : Ends) : ℕ → Type 0 where
+  some-T : (e .t ≡ 0 → ⊥) → NumberBy e 8
+  only-S : e .t ≡ 0 → (e .all ≡ 0 → ⊥) → NumberBy e 9
+  neither : e .t ≡ 0 → e .all ≡ 0 → NumberBy e 0

@@ -10,8 +10,9 @@ ghost use Rattle.layout.specs.LaidOut.{LaidOut};
 ghost use Rattle.trees.specs.Symbol.{nextOf, symbolByte};
 ghost use Rattle.sheet.specs.Defect.{WellFormed};
 ghost use Rattle.expressions.specs.Grammar.{contentOf};
-ghost use Rattle.faults.specs.Part.{sByTag, PartPut, AllPut};
+ghost use Rattle.faults.specs.Part.{sByTag, PartPut, AllPut, NumberBy};
 ghost use Rattle.faults.specs.Checked.{CheckedAs};
+ghost use Rattle.faults.specs.Verdict.{VerdictIs};
 use layout::Layout;
 use layout::layout_of;
 use lent::put_bytes;
@@ -242,6 +243,19 @@ fn list_faults(s: &[u8], l: Layout, list: &mut [u8], write: bool) -> Ends
     Ends { t: t, all: all }
 }
 
+// The number that the faults give: 8 where there is a T fault, 9 where there are S faults only, 0 where there is none.
+fn fault_number(ends: Ends) -> u8
+    ensures { λ r. ⌜ NumberBy ends r ⌝ }
+{
+    if ends.t > 0 {
+        return 8;
+    }
+    if ends.all > 0 {
+        return 9;
+    }
+    0
+}
+
 // The faults of a well-formed sheet: a dry pass counts them, and they are listed only where the lent list holds them all.
 fn check_faults(s: &[u8], l: Layout, list: &mut [u8]) -> Checked
     requires { ⌜ LaidOut (now s) l ⌝ }
@@ -249,8 +263,9 @@ fn check_faults(s: &[u8], l: Layout, list: &mut [u8]) -> Checked
     ensures { λ r. ⌜ CheckedAs (now (s .entry)) (now (list .entry)) (now (list .exit)) r ⌝ }
 {
     let ends = list_faults(s, l, list, false);
+    let number = fault_number(ends);
     let count = ends.all / ENTRY;
-    if ends.all == 0 {
+    if number == 0 {
         return Checked {
             number: 0,
             count: count,
@@ -263,14 +278,8 @@ fn check_faults(s: &[u8], l: Layout, list: &mut [u8]) -> Checked
         };
     }
     list_faults(s, l, list, true);
-    if ends.t == 0 {
-        return Checked {
-            number: 9,
-            count: count,
-        };
-    }
     Checked {
-        number: 8,
+        number: number,
         count: count,
     }
 }
@@ -288,4 +297,18 @@ pub fn check(sheet: &[u8], list: &mut [u8]) -> Checked
     }
     let l = layout_of(sheet);
     check_faults(sheet, l, list)
+}
+
+// The sheet's number where no list is lent: 0, or 1 to 9. The dry pass writes nothing, so any memory will do.
+pub fn verdict(sheet: &[u8]) -> usize
+    ensures { λ r. ⌜ VerdictIs (now (sheet .entry)) r ⌝ }
+{
+    let number = defect(sheet);
+    if number > 0 {
+        return number as usize;
+    }
+    let l = layout_of(sheet);
+    let mut unwritten = [0; 1];
+    let ends = list_faults(sheet, l, &mut unwritten, false);
+    fault_number(ends) as usize
 }

@@ -3,4 +3,7 @@ pub mod Spots
 pub mod Frames
 pub mod Theorems
 pub mod Reached
+pub mod Steps
 pub mod RunsFit
+pub mod Balanced
+pub mod Sizes

@@ -1,4 +1,4 @@
--- In every state that a run comes to, each open element is of the nonterminal that the place of the one around it has, the root of the start: a
+-- From event to event each open element is of the nonterminal that the place of the one around it has, the root of the start: a
 -- bracket string leads to the atom that its word says, and an element is opened only of that atom's nonterminal.
 -- Assumes nothing.
 use mathlib.Core.Path.{_≡_, refl, sym, ap, subst, _∙_}
@@ -7,26 +7,24 @@ use mathlib.Core.List.{List, [], _∷_, _++_}
 use mathlib.Core.Option.{Option, none, some}
 use Prim.Native.Nat.{ℕ, zero, suc, _+_, _≤_, _<_}
 use native.Mathlib.Omega.{arith}
-use lib.Dec.{T}
 use borrow.Author.Tests.{lt-ltb, le-ltb, eq-eqb}
 use Rattle.expressions.specs.Expr.{Atom, nonterminal, Exp, atom, cat, alt, star, empty, nodes, atoms, Content, nothing, tree}
 use Rattle.expressions.specs.Words.{Bracket, closing, Sym, br, at, _▷_, Lang, only, both, left, right, Star, stop, more, within, Word}
 use Rattle.expressions.specs.Grammar.{Production, tagsOf, contentOf, tag}
 use Rattle.expressions.proofs.Tree.{reach}
 use Rattle.expressions.proofs.Rule.{Rest}
-use Rattle.sheet.specs.Sheet.{Sheet}
 use Rattle.runs.specs.Options.{whenTrue}
-use Rattle.runs.specs.Lookup.{produces, find}
-use Rattle.runs.specs.Visits.{grammar}
+use Rattle.runs.specs.Lookup.{find}
 use Rattle.runs.specs.Events.{Event, starts, ends, letter}
-use Rattle.runs.specs.Acts.{Act, start-tag, fresh-store}
+use Rattle.runs.specs.Acts.{Act, start-tag}
 use Rattle.runs.specs.Way.{Way}
-use Rattle.runs.specs.Machine.{Open, at-place, at-start, Control, before, inside, after, go, outer, root-by, move, most, State, finished, run, fresh-state}
+use Rattle.runs.specs.Machine.{Open, at-place, at-start, Control, before, inside, after, go, outer, root-by, move}
 use Rattle.runs.proofs.Find.{find-sound}
 use Rattle.runs.proofs.Ways.{GoesTo, found-atom}
-use Rattle.runs.proofs.Moves.{Moves, stay, then, go-inj, refuse-go, moves-run}
+use Rattle.runs.proofs.Moves.{Moves, stay, then, go-inj, refuse-go}
 use Rattle.runs.proofs.Sound.{started, was-read, ended}
-use Rattle.fit.specs.Fit.{atomIn, atomAt, childOf, childAt}
+use Rattle.fit.specs.Fit.{atomIn, atomAt, childOf}
+use Rattle.fit.specs.RunFits.{Chain, ChainAt}
 
 abbrev Text : Type 0
 Text = List Sym
@@ -109,26 +107,16 @@ pub led-to : (e : Content) (p : ℕ) (α : List Bracket) (j : ℕ) (k : Atom) (s
 led-to e p α j k s h = past-string (IsAtom e) α j k s (rest-atoms e p (α ▷ at j k ∷ s) h)
 
 module _ (g : List Production) (n : ℕ) where
-  -- an open element and those around it, innermost first
-  abbrev pub Chain : Open → List Open → Type 0
-  Chain o [] = T (produces g n (o .production))
-  Chain o (p ∷ os) = (m : ℕ) × (childAt (contentOf g (p .production)) (p .place) ≡ some m) × T (produces g m (o .production)) × Chain p os
-
-  abbrev pub ChainAt : Control → Type 0
-  ChainAt before = Unit {0}
-  ChainAt (inside o os) = Chain o os
-  ChainAt after = Unit {0}
-
-  elsewhere : (o : Open) (os : List Open) (p : ℕ) → Chain o os → Chain (at-place o p) os
+  elsewhere : (o : Open) (os : List Open) (p : ℕ) → Chain g n o os → Chain g n (at-place o p) os
   elsewhere o [] p h = h
   elsewhere o (q ∷ os) p h = h
 
-  chain-outer : (o : Open) (os : List Open) → Chain o os → ChainAt (outer os)
+  chain-outer : (o : Open) (os : List Open) → Chain g n o os → ChainAt g n (outer os)
   chain-outer o [] h = tt
   chain-outer o (p ∷ os) h = h .3
 
   module _ (lim : ℕ) where
-    chain-inside : (o : Open) (os : List Open) (x : Event) (bs : List Act) (c : Control) → move g n lim (inside o os) x ≡ go bs c → Chain o os → ChainAt c
+    chain-inside : (o : Open) (os : List Open) (x : Event) (bs : List Act) (c : Control) → move g n lim (inside o os) x ≡ go bs c → Chain g n o os → ChainAt g n c
     chain-inside o os (starts none) bs c e h = refuse-go bs c e
     chain-inside o os (starts (some t)) bs c e h =
         let d = started g lim o os n t bs c e in
@@ -136,26 +124,22 @@ module _ (g : List Production) (n : ℕ) where
         let C : Content = contentOf g (o .production) in
         let G : GoesTo (tagsOf g) (tag t) (Rest C (o .place)) w = found-atom (tagsOf g) (tag t) C (o .place) w (d .is-way) in
         let a : atomAt C (w .place) ≡ some (nonterminal (d .nonterm)) = led-to C (o .place) (w .string) (w .place) (w .kind) (G .0) (G .2) ∙ ap some (d .is-kind) in
-        subst ChainAt (sym (d .is-control)) (d .nonterm, ap childOf a, find-sound g (d .nonterm) t (d .production) (d .is-found) .0, elsewhere o os (w .place) h)
-    chain-inside o os (ends t) bs c e h = let d = ended g lim o os n t bs c e in subst ChainAt (sym (d .is-control)) (chain-outer o os h)
-    chain-inside o os (letter x) bs c e h = let d = was-read g lim o os n x bs c e in subst ChainAt (sym (d .is-control)) (elsewhere o os (d .by .place) h)
+        subst (ChainAt g n) (sym (d .is-control)) (d .nonterm, ap childOf a, find-sound g (d .nonterm) t (d .production) (d .is-found) .0, elsewhere o os (w .place) h)
+    chain-inside o os (ends t) bs c e h = let d = ended g lim o os n t bs c e in subst (ChainAt g n) (sym (d .is-control)) (chain-outer o os h)
+    chain-inside o os (letter x) bs c e h = let d = was-read g lim o os n x bs c e in subst (ChainAt g n) (sym (d .is-control)) (elsewhere o os (d .by .place) h)
 
-    chain-step : (c : Control) (x : Event) (bs : List Act) (c′ : Control) → move g n lim c x ≡ go bs c′ → ChainAt c → ChainAt c′
+    chain-step : (c : Control) (x : Event) (bs : List Act) (c′ : Control) → move g n lim c x ≡ go bs c′ → ChainAt g n c → ChainAt g n c′
     chain-step before (starts none) bs c′ e h = refuse-go bs c′ e
     chain-step before (starts (some t)) bs c′ e h = by (find g n t) refl e
       where
-        by : (f : Option ℕ) → find g n t ≡ f → root-by f ≡ go bs c′ → ChainAt c′
+        by : (f : Option ℕ) → find g n t ≡ f → root-by f ≡ go bs c′ → ChainAt g n c′
         by none i e = refuse-go bs c′ e
-        by (some q) i e = subst ChainAt (go-inj (start-tag q ∷ []) bs (inside (at-start q) []) c′ e .1) (find-sound g n t q i .0)
+        by (some q) i e = subst (ChainAt g n) (go-inj (start-tag q ∷ []) bs (inside (at-start q) []) c′ e .1) (find-sound g n t q i .0)
     chain-step before (ends t) bs c′ e h = refuse-go bs c′ e
     chain-step before (letter x) bs c′ e h = refuse-go bs c′ e
     chain-step (inside o os) x bs c′ e h = chain-inside o os x bs c′ e h
     chain-step after x bs c′ e h = refuse-go bs c′ e
 
-    chain-moves : {c c′ : Control} {xs : List Event} {bs : List Act} → Moves g n lim c xs bs c′ → ChainAt c → ChainAt c′
+    pub chain-moves : {c c′ : Control} {xs : List Event} {bs : List Act} → Moves g n lim c xs bs c′ → ChainAt g n c → ChainAt g n c′
     chain-moves stay h = h
     chain-moves {c} (then {c′ = d} x bs e r) h = chain-moves r (chain-step c x bs d e h)
-
--- in every state that a run comes to
-pub chain-as-open : (s : Sheet) (xs : List Event) (z : State) → run s fresh-state xs ≡ finished z → ChainAt (grammar s) (s .start-nonterminal) (z .control)
-chain-as-open s xs z e = chain-moves (grammar s) (s .start-nonterminal) most (moves-run s before fresh-store xs z e .moved) tt

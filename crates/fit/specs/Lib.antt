@@ -1,3 +1,4 @@
 pub mod Fit
 pub mod Tests
 pub mod InUse
+pub mod RunFits

@@ -10,6 +10,7 @@ ghost use Rattle.trees.specs.Trees.{Trees};
 ghost use Rattle.trees.specs.Parsed.{RunsInside};
 ghost use Rattle.trees.specs.Tally.{TreeIn};
 ghost use Rattle.sheet.specs.Defect.{WellFormed};
+ghost use Rattle.state.specs.Bytes.{Sized};
 ghost use Rattle.state.specs.Meaning.{All};
 ghost use Rattle.fit.specs.Fit.{SetFits, ClosingFits};
 ghost use Rattle.fit.specs.Tests.{LeafOf, AroundOf, WalkedAs, SpotIs, FrameTold, FramesTold, FitTold};
@@ -257,6 +258,7 @@ pub fn state_fits(s: &[u8], l: Layout, z: State) -> bool
     requires { ⌜ LaidOut (now s) l ⌝ }
     requires { ⌜ WellFormed (now s) ⌝ }
     ensures { λ r. ⌜ FitTold (now (s .entry)) z r ⌝ }
+    ensures { λ _. ⌜ Sized z ⌝ }
 {
     let depth = z.depth;
     if State::DEPTH < depth {

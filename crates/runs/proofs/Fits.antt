@@ -189,7 +189,7 @@ module _ (g : List Production) (n lim : ℕ) where
   events-split (ends t) xs h = (tt, h)
   events-split (letter y) xs h = ((h .0, tt), h .1)
 
-  moves-letters : {c c′ : Control} {xs : List Event} {bs : List Act} → Moves g n lim c xs bs c′ → EventsFit xs → LettersFit bs
+  pub moves-letters : {c c′ : Control} {xs : List Event} {bs : List Act} → Moves g n lim c xs bs c′ → EventsFit xs → LettersFit bs
   moves-letters stay h = tt
   moves-letters {c} (then {c′ = c′} {xs = xs} {cs = cs} x bs e r) h =
       let i = events-split x xs h in

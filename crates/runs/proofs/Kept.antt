@@ -162,7 +162,7 @@ module _ (s : Sheet) where
       by (ks ∷ kss) q h = kept-inside n lim o os x bs c′ e ks kss (m .env) h m′ (ap (λ (z : Kept). acts s bs (store z (m .env))) (sym q) ∙ a)
   kept-step n lim after x bs c′ e m m′ h a = absurd (let z : _≡_ {A = ℕ} 0 1 = cc in omega arith)
 
-  kept-moves : {n lim : ℕ} {c c′ : Control} {xs : List Event} {bs : List Act} → Moves g n lim c xs bs c′ → (m m′ : Store) → KeptAt g c (m .kept) → acts s bs m ≡ some m′ → KeptAt g c′ (m′ .kept)
+  pub kept-moves : {n lim : ℕ} {c c′ : Control} {xs : List Event} {bs : List Act} → Moves g n lim c xs bs c′ → (m m′ : Store) → KeptAt g c (m .kept) → acts s bs m ≡ some m′ → KeptAt g c′ (m′ .kept)
   kept-moves {c = c} stay m m′ h a = let i : m ≡ m′ = cc in subst (λ (z : Store). KeptAt g c (z .kept)) i h
   kept-moves {n} {lim} {c} {c′} (then {c′ = d} {cs = cs} x bs e r) m m′ h a =
       by (λ y i j. kept-moves r y m′ (kept-step n lim c x bs d e m y h i) j) (acts s bs m) refl (sym (acts-append s bs cs m) ∙ a)

@@ -26,3 +26,4 @@ pub mod Execute
 pub mod Fits
 pub mod Spells
 pub mod Examples
+pub mod SheetFits

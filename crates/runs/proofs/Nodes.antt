@@ -189,6 +189,22 @@ end-nodes e p α h ns o =
     let i : b .0 ≡ ns = cc in
     ap (through-nodes (deepest e) α) (sym i) ∙ to-end (deepest e) (RestAround e) α (b .0) [] (b .2)
 
+-- where more may be open a string does the same
+only-inv : (b : Bool) (o : Option Stack) (ms : Stack) → only-if b o ≡ some ms → (b ≡ true) × (o ≡ some ms)
+only-inv true o ms e = (refl, e)
+only-inv false o ms e = absurd (none-some ms e)
+
+pub through-more : (D E : ℕ) → D ≤ E → (α : List Bracket) (ns ms : Stack) → through-nodes D α ns ≡ some ms → through-nodes E α ns ≡ some ms
+through-more D E d [] ns ms e = e
+through-more D E d (opening b ∷ α) ns ms e =
+    let v = only-inv (ltb (length ns) D) (through-nodes D α (b ∷ ns)) ms e in
+    let l : length ns < D = ltb-true (length ns) D (v .0) in
+    room-left E ns (through-nodes E α (b ∷ ns)) (omega arith) ∙ through-more D E d α (b ∷ ns) ms (v .1)
+through-more D E d (closing b ∷ α) [] ms e = absurd (none-some ms e)
+through-more D E d (closing b ∷ α) (m ∷ ns) ms e =
+    let v = only-inv (eqb b m) (through-nodes D α ns) ms e in
+    ap (λ (t : Bool). only-if t (through-nodes E α ns)) (v .0) ∙ through-more D E d α ns ms (v .1)
+
 -- a node around others
 inside-inv : (i : ℕ) (o : Option Stack) (ns : Stack) → inside-node i o ≡ some ns → (inner : Stack) × (o ≡ some inner) × (length ns ≡ suc (length inner))
 inside-inv i none ns e = absurd (none-some ns e)

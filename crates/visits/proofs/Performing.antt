@@ -9,8 +9,8 @@ use native.Mathlib.Omega.{arith}
 use lib.ListN.{length, take, drop, replicate, length-append, length-take, take-append-drop}
 use lib.Seq.{drop-append-seam}
 use Rattle.programs.specs.Program.{Program, programBytes}
-use Rattle.programs.specs.Limits.{IsProgram, StatementsFit, Visit}
-use Rattle.programs.specs.Section.{backToBack, AllPrograms, Fill, StartOf, FieldIs, no-program, names}
+use Rattle.programs.specs.Limits.{StatementsFit, Visit}
+use Rattle.programs.specs.Section.{backToBack, Fill, StartOf, FieldIs, no-program, names}
 use Rattle.programs.proofs.Agree.{program-some}
 use Rattle.layout.specs.Layout.{tagOffset, tagCount, programLength, stringLength, programsIn, stringsIn}
 use Rattle.layout.specs.LaidOut.{LaidOut}
@@ -19,6 +19,7 @@ use Rattle.sheet.specs.Tags.{tagRecord, TagAt}
 use Rattle.sheet.specs.Sheet.{Sheet, From, IsSheet}
 use Rattle.runs.specs.Execute.{Effect, nameOf}
 use Rattle.runs.specs.Visits.{performed}
+use Rattle.runs.proofs.SheetFits.{names-counted, one-of-all}
 use Rattle.visits.specs.Evaluated.{LiesAt}
 use Rattle.visits.specs.Written.{Pen, NameAt, Sources}
 use Rattle.visits.specs.Ran.{mostPrinted, Comes, RanAs, lists}
@@ -44,22 +45,14 @@ names-in s i k [] z f t h = absurd (omega arith)
 names-in s i k (n ∷ ns) z f zero h = subst (λ (m : ℕ). NameAt s m n) (omega arith) (name-in s i n z (f .0))
 names-in s i k (n ∷ ns) z f (suc t) h = subst (λ (m : ℕ). NameAt s m (nameOf ns t)) (omega arith) (names-in s (suc i) k ns z (f .1) t (omega arith))
 
-pub names-counted : (s : List ℕ) (i k : ℕ) (ns : List (List ℕ)) → From (TagAt s) i k ns → i + length ns ≡ k
-names-counted s i k [] f = omega (arith, f)
-names-counted s i k (n ∷ ns) f = omega (arith, names-counted s (suc i) k ns (f .1))
-
 -- ---- the program that starts at an offset
 together : (ps qs : List Program) → backToBack (ps ++ qs) ≡ backToBack ps ++ backToBack qs
 together [] qs = refl
 together (p ∷ ps) qs = ap (λ (l : List ℕ). programBytes p ++ l) (together ps qs) ∙ sym (append-assoc (programBytes p) (backToBack ps) (backToBack qs))
 
-all-but : (tags : ℕ) (strings : List ℕ) (before : List Program) (p : Program) (after : List Program) → AllPrograms tags strings (before ++ p ∷ after) → IsProgram tags strings p
-all-but tags strings [] p after h = h .0
-all-but tags strings (q ∷ before) p after h = all-but tags strings before p after (h .1)
-
 module _ (tags : ℕ) (strings section : List ℕ) (ps : List Program) (F : Fill tags strings section ps) (o : ℕ) (p : Program) (S : StartOf ps o p) where
   pub its-fits : StatementsFit tags strings p
-  its-fits = all-but tags strings (S .before) p (S .after) (rw (S .are) at (F .programs)) .fits
+  its-fits = one-of-all tags strings (S .before) p (S .after) (rw (S .are) at (F .programs)) .fits
 
   whole-section : section ≡ backToBack (S .before) ++ (programBytes p ++ backToBack (S .after))
   whole-section = F .filled ∙ ap backToBack (S .are) ∙ together (S .before) (p ∷ S .after)
@@ -97,7 +90,7 @@ module _ (s : List ℕ) (l : Layout) (L : LaidOut s l) where
       ap₂ (λ (n k : ℕ). take n (drop k s)) n (L .layout-is .strings-at-is .is)
 
   module _ (a : Sheet) (z : IsSheet s a) where
-    sources : Sources s strings-of a
+    pub sources : Sources s strings-of a
     sources = record { names-are = λ t h. subst (λ (m : ℕ). NameAt s m (nameOf (a .names) t)) (omega arith) (names-in s 0 (tagCount s) (a .names) (z .well-formed .sections .tags-at) (z .names-are) t h); strings-are = z .strings-are ∙ sym strings-are }
 
     filled : Fill (length (a .names)) strings-of section-of (z .well-formed .programs .programs)

@@ -37,7 +37,7 @@ on true e = refl
 on false e = sym e
 
 -- ---- outcomes
-render-append : (o q : List Piece) → render (o ++ q) ≡ render o ++ render q
+pub render-append : (o q : List Piece) → render (o ++ q) ≡ render o ++ render q
 render-append [] q = refl
 render-append (x ∷ o) q = ap (λ (l : List ℕ). written x ++ l) (render-append o q) ∙ sym (append-assoc (written x) (render o) (render q))
 

@@ -2,38 +2,31 @@
 -- stay in bounds. Assumes nothing.
 use mathlib.Core.Path.{_≡_, refl, sym, _∙_, subst}
 use mathlib.Core.Bool.{true, false, true≢false}
-use mathlib.Core.List.{List, [], _∷_}
+use mathlib.Core.List.{List}
 use mathlib.Core.Logic.{_⊎_, ⊎-elim}
 use mathlib.Core.Option.{Option, none, some}
-use Prim.Native.Nat.{ℕ, suc}
-use native.Mathlib.Omega.{arith}
+use Prim.Native.Nat.{ℕ}
 use lib.ListN.{length}
 use Rattle.programs.specs.Program.{Program}
-use Rattle.programs.specs.Limits.{Visit, first, StatementsFit}
+use Rattle.programs.specs.Limits.{Visit, first}
 use Rattle.programs.specs.Section.{FieldIs, names}
-use Rattle.layout.specs.Layout.{tagCount, programsIn, stringsIn}
-use Rattle.sheet.specs.Tags.{TagAt}
-use Rattle.sheet.specs.Sheet.{Sheet, From, IsSheet}
+use Rattle.sheet.specs.Sheet.{Sheet, IsSheet}
 use Rattle.runs.specs.Execute.{Effect}
 use Rattle.runs.specs.Visits.{performed}
-use Rattle.runs.specs.Fits.{NamesFit, AllValues}
+use Rattle.runs.specs.Fits.{AllValues}
 use Rattle.runs.proofs.Execute.{Fine, execute-fine, recalls-nothing}
+use Rattle.runs.proofs.SheetFits.{program-fits, sheet-fits}
 use Rattle.visits.specs.Written.{Pen}
 use Rattle.visits.specs.Ran.{Comes}
 use Rattle.visits.specs.Performed.{PerformedAs}
 use Rattle.visits.specs.declared.Env.{Env}
 use Rattle.visits.specs.declared.Performed.{Performed}
-use Rattle.visits.proofs.Performing.{its-fits, names-counted}
 
 env-by : {e f : Env} → e .values ≡ f .values → e .echo ≡ f .echo → e ≡ f
 env-by {e} {f} x y = let z : record { values = e .values; echo = e .echo } ≡ f = rw (x, y) refl in z
 
 performed-by : {r q : Performed} → r .ok ≡ q .ok → r .at ≡ q .at → r .env ≡ q .env → r ≡ q
 performed-by {r} {q} x y z = let w : record { ok = r .ok; at = r .at; env = r .env } ≡ q = rw (x, y, z) refl in w
-
-names-fit : (s : List ℕ) (i k : ℕ) (ns : List (List ℕ)) → From (TagAt s) i k ns → NamesFit ns
-names-fit s i k [] f = tt
-names-fit s i k (n ∷ ns) f = ((f .0 .a-name, f .0 .short), names-fit s (suc i) k ns (f .1))
 
 module _ (s : List ℕ) (field : ℕ) (kept : List ℕ) (e : Env) (p : Pen) (r : Performed) (d : List ℕ) (R : PerformedAs s field kept e p r d) (a : Sheet) (z : IsSheet s a) where
   abbrev Names : Visit → Option Program → Type 0
@@ -61,10 +54,7 @@ module _ (s : List ℕ) (field : ℕ) (kept : List ℕ) (e : Env) (p : Pen) (r :
       fine : (m : Option Program) → Names v m → Fine (length (e .values)) (performed a kept m (e .values) (e .echo))
       fine none g = (fits, refl, tt)
       fine (some q) (names n q₁ S w) =
-          let count : tagCount s ≡ length (a .names) = omega (arith, names-counted s 0 (tagCount s) (a .names) (z .names-are)) in
-          let its : StatementsFit (tagCount s) (stringsIn s) q = its-fits (tagCount s) (stringsIn s) (programsIn s) (z .well-formed .programs .programs) (z .well-formed .programs .fill) field q S in
-          let here = subst (λ (t : ℕ). StatementsFit t (stringsIn s) q) count its in
-          execute-fine a (names-fit s 0 (tagCount s) (a .names) (z .names-are)) kept k-fits q (subst (λ (w : List ℕ). StatementsFit (length (a .names)) w q) (sym (z .strings-are)) here) (e .values) (e .echo) fits
+          execute-fine a (sheet-fits z .names-fit) kept k-fits q (program-fits z v field (some q) (names n q S w) .0 .fits) (e .values) (e .echo) fits
 
       go : (o : Option Effect) → Fine (length (e .values)) o → Comes o p (r .ok) (r .at) (r .env) d → AllValues (r .env .values)
       go none g c = subst (λ (f : Env). AllValues (f .values)) (sym (R .back c .1)) fits

@@ -211,7 +211,7 @@ fn put_range(strings: &[u8], o: usize, n: usize, out: &mut [u8], at: usize, writ
 }
 
 // Writes the start tag or the end tag of tag t.
-fn put_tag(tags: &[u8], t: usize, ending: bool, out: &mut [u8], at: usize, write: bool) -> usize
+pub fn put_tag(tags: &[u8], t: usize, ending: bool, out: &mut [u8], at: usize, write: bool) -> usize
     requires { ⌜ (t < 256) × (at + mostPrinted ≤ farthest) ⌝ }
     ensures { λ r. ⌜ Written mostPrinted (TagOf (now (tags .entry)) t ending) (record { write = write; lent = now (out .entry); at = at }) r (now (out .exit)) ⌝ }
 {

@@ -1,0 +1,4 @@
+pub mod Names
+pub mod Firsts
+pub mod Blanks
+pub mod Answers
