@@ -1,0 +1,5 @@
+pub mod Fields
+pub mod Echoing
+pub mod Acting
+pub mod Bracketing
+pub mod Theorems

@@ -1,0 +1,335 @@
+// Acts: what brackets, tags and characters do to a state, with output into lent memory or dry.
+ghost use Prim.Native.Nat.{_+_, _≤_, _<_, _^_};
+ghost use Rattle.text.specs.Chars.{Char};
+ghost use Rattle.expressions.specs.Words.{opening, closing};
+ghost use Rattle.layout.specs.LaidOut.{LaidOut};
+ghost use Rattle.sheet.specs.Defect.{WellFormed};
+ghost use Rattle.acts.specs.Acted.{EntersAs, LeavesAs, ReadsAs, BracketsAs};
+ghost use Rattle.acts.specs.Visited.{FieldFound, VisitedAs, EchoedAs, NodeAs, BracketAs};
+use layout::Layout;
+use state::Frame;
+use state::Saved;
+use state::State;
+use ways::Line;
+
+// A field that names no program.
+const NONE: usize = 65535;
+
+// What acts came to: whether no program rejected, where the next byte of output goes, and the state.
+pub struct Acted {
+    pub ok: bool,
+    pub at: usize,
+    pub state: State,
+}
+
+// The field of production q's node i for its first visit or its second; the production itself is node 0.
+fn field_of(s: &[u8], l: Layout, q: usize, i: usize, again: bool) -> usize
+    requires { ⌜ LaidOut (now s) l ⌝ }
+    requires { ⌜ q < l .productions ⌝ }
+    requires { ⌜ WellFormed (now s) ⌝ }
+    ensures { λ r. ⌜ FieldFound (now (s .entry)) q i again r ⌝ }
+{
+    if i == 0 {
+        if again {
+            return layout::second_program_of(s, l, q);
+        }
+        return layout::first_program_of(s, l, q);
+    }
+    if layout::node_count_of(s, l, q) < i {
+        return NONE;
+    }
+    let node = layout::first_node_of(s, l, q) + (i - 1);
+    if again {
+        return layout::second_program_of_node(s, l, node);
+    }
+    layout::first_program_of_node(s, l, node)
+}
+
+// A visit of production q's node i, which counts one with or without a program.
+fn visit(
+    s: &[u8],
+    l: Layout,
+    q: usize,
+    i: usize,
+    again: bool,
+    kept: [u8; 4],
+    z: State,
+    out: &mut [u8],
+    at: usize,
+    write: bool,
+) -> Acted
+    requires { ⌜ LaidOut (now s) l ⌝ }
+    requires { ⌜ q < l .productions ⌝ }
+    requires { ⌜ at ≤ 2 ^ 60 ⌝ }
+    requires { ⌜ z .count + 1 < 2 ^ 64 ⌝ }
+    requires { ⌜ WellFormed (now s) ⌝ }
+    ensures { λ r. ⌜ VisitedAs (now (s .entry)) q i again kept z (record { write = write; lent = now (out .entry); at = at }) r (now (out .exit)) ⌝ }
+{
+    let values = z.values;
+    let before = visits::Env {
+        values: values,
+        echo: z.echo,
+    };
+    let field = field_of(s, l, q, i, again);
+    let done = visits::perform(s, l, field, kept, before, out, at, write);
+    let after = done.env;
+    let changed = after.values;
+    Acted {
+        ok: done.ok,
+        at: done.at,
+        state: z.with_env(changed, after.echo, z.count + 1),
+    }
+}
+
+// Writes production q's start tag or end tag, where echo is on.
+fn echo_tag(
+    s: &[u8],
+    l: Layout,
+    q: usize,
+    ending: bool,
+    on: bool,
+    out: &mut [u8],
+    at: usize,
+    write: bool,
+) -> usize
+    requires { ⌜ LaidOut (now s) l ⌝ }
+    requires { ⌜ q < l .productions ⌝ }
+    requires { ⌜ at ≤ 2 ^ 61 ⌝ }
+    requires { ⌜ WellFormed (now s) ⌝ }
+    ensures { λ r. ⌜ EchoedAs (now (s .entry)) q ending on (record { write = write; lent = now (out .entry); at = at }) r (now (out .exit)) ⌝ }
+{
+    if on {
+        let t = layout::tag_number_of(s, l, q);
+        return visits::put_tag(s, t, ending, out, at, write);
+    }
+    at
+}
+
+// A start tag of production q: its first visit, the tag if echo is then on, and a new innermost element.
+pub fn enter(
+    s: &[u8],
+    l: Layout,
+    q: usize,
+    z: State,
+    out: &mut [u8],
+    at: usize,
+    write: bool,
+) -> Acted
+    requires { ⌜ LaidOut (now s) l ⌝ }
+    requires { ⌜ q < l .productions ⌝ }
+    requires { ⌜ at ≤ 2 ^ 59 ⌝ }
+    requires { ⌜ z .count ≤ 2 ^ 63 ⌝ }
+    requires { ⌜ WellFormed (now s) ⌝ }
+    ensures { λ r. ⌜ EntersAs (now (s .entry)) q z (record { write = write; lent = now (out .entry); at = at }) r (now (out .exit)) ⌝ }
+{
+    let nothing = [0u8; 4];
+    let visited = visit(s, l, q, 0, false, nothing, z, out, at, write);
+    if !visited.ok {
+        return visited;
+    }
+    let after = visited.state;
+    let to = echo_tag(s, l, q, false, after.echo, out, visited.at, write);
+    let values = after.values;
+    let kept = Saved {
+        values: values,
+        echo: z.echo,
+    };
+    let pushed = after.push(Frame::start(q as u8, kept));
+    let inside = pushed.state;
+    Acted {
+        ok: true,
+        at: to,
+        state: inside,
+    }
+}
+
+// An end tag of production q: its second visit with the values just after its first, the tag if echo is then on; last of all echo
+// returns to what it was before the first visit, and the element is closed.
+pub fn leave(
+    s: &[u8],
+    l: Layout,
+    q: usize,
+    z: State,
+    out: &mut [u8],
+    at: usize,
+    write: bool,
+) -> Acted
+    requires { ⌜ LaidOut (now s) l ⌝ }
+    requires { ⌜ q < l .productions ⌝ }
+    requires { ⌜ at ≤ 2 ^ 59 ⌝ }
+    requires { ⌜ z .count ≤ 2 ^ 63 ⌝ }
+    requires { ⌜ WellFormed (now s) ⌝ }
+    ensures { λ r. ⌜ LeavesAs (now (s .entry)) q z (record { write = write; lent = now (out .entry); at = at }) r (now (out .exit)) ⌝ }
+{
+    let taken = z.restore();
+    let kept = taken.saved;
+    let values = kept.values;
+    let visited = visit(s, l, q, 0, true, values, taken.state, out, at, write);
+    if !visited.ok {
+        return visited;
+    }
+    let after = visited.state;
+    let to = echo_tag(s, l, q, true, after.echo, out, visited.at, write);
+    let changed = after.values;
+    let left = after.with_env(changed, kept.echo, after.count);
+    Acted {
+        ok: true,
+        at: to,
+        state: left.pop(),
+    }
+}
+
+// A character, written if echo is on.
+pub fn read_character(c: u32, z: State, out: &mut [u8], at: usize, write: bool) -> Acted
+    requires { ⌜ at ≤ 2 ^ 59 ⌝ }
+    requires { ⌜ Char c ⌝ }
+    ensures { λ r. ⌜ ReadsAs c z (record { write = write; lent = now (out .entry); at = at }) r (now (out .exit)) ⌝ }
+{
+    if z.echo {
+        let to = output::put_char(out, at, c, write);
+        return Acted {
+            ok: true,
+            at: to,
+            state: z,
+        };
+    }
+    Acted {
+        ok: true,
+        at: at,
+        state: z,
+    }
+}
+
+// An opening bracket of production q: node i's first visit, of which the attributes just after it and echo before it are kept.
+fn open_node(
+    s: &[u8],
+    l: Layout,
+    q: usize,
+    i: usize,
+    z: State,
+    out: &mut [u8],
+    at: usize,
+    write: bool,
+) -> Acted
+    requires { ⌜ LaidOut (now s) l ⌝ }
+    requires { ⌜ q < l .productions ⌝ }
+    requires { ⌜ at ≤ 2 ^ 60 ⌝ }
+    requires { ⌜ z .count + 1 < 2 ^ 64 ⌝ }
+    requires { ⌜ WellFormed (now s) ⌝ }
+    ensures { λ r. ⌜ NodeAs (now (s .entry)) q (opening i) z (record { write = write; lent = now (out .entry); at = at }) r (now (out .exit)) ⌝ }
+{
+    let nothing = [0u8; 4];
+    let visited = visit(s, l, q, i, false, nothing, z, out, at, write);
+    if !visited.ok {
+        return visited;
+    }
+    let after = visited.state;
+    let given = after.values;
+    let kept = Saved {
+        values: given,
+        echo: z.echo,
+    };
+    Acted {
+        ok: true,
+        at: visited.at,
+        state: after.save(kept),
+    }
+}
+
+// A closing bracket of production q: node i's second visit, with the values just after its first; last of all echo returns.
+fn close_node(
+    s: &[u8],
+    l: Layout,
+    q: usize,
+    i: usize,
+    z: State,
+    out: &mut [u8],
+    at: usize,
+    write: bool,
+) -> Acted
+    requires { ⌜ LaidOut (now s) l ⌝ }
+    requires { ⌜ q < l .productions ⌝ }
+    requires { ⌜ at ≤ 2 ^ 60 ⌝ }
+    requires { ⌜ z .count + 1 < 2 ^ 64 ⌝ }
+    requires { ⌜ WellFormed (now s) ⌝ }
+    ensures { λ r. ⌜ NodeAs (now (s .entry)) q (closing i) z (record { write = write; lent = now (out .entry); at = at }) r (now (out .exit)) ⌝ }
+{
+    let taken = z.restore();
+    let kept = taken.saved;
+    let values = kept.values;
+    let visited = visit(s, l, q, i, true, values, taken.state, out, at, write);
+    if !visited.ok {
+        return visited;
+    }
+    let after = visited.state;
+    let changed = after.values;
+    Acted {
+        ok: true,
+        at: visited.at,
+        state: after.with_env(changed, kept.echo, after.count),
+    }
+}
+
+// The bracket of production q whose byte is c.
+fn bracket(
+    s: &[u8],
+    l: Layout,
+    q: usize,
+    c: u8,
+    z: State,
+    out: &mut [u8],
+    at: usize,
+    write: bool,
+) -> Acted
+    requires { ⌜ LaidOut (now s) l ⌝ }
+    requires { ⌜ q < l .productions ⌝ }
+    requires { ⌜ at ≤ 2 ^ 60 ⌝ }
+    requires { ⌜ z .count + 1 < 2 ^ 64 ⌝ }
+    requires { ⌜ WellFormed (now s) ⌝ }
+    ensures { λ r. ⌜ BracketAs (now (s .entry)) q c z (record { write = write; lent = now (out .entry); at = at }) r (now (out .exit)) ⌝ }
+{
+    let i = (c / 2) as usize;
+    if c % 2 == 0 {
+        return open_node(s, l, q, i, z, out, at, write);
+    }
+    close_node(s, l, q, i, z, out, at, write)
+}
+
+// The brackets of a string, in turn, until a program rejects.
+pub fn brackets(
+    s: &[u8],
+    l: Layout,
+    q: usize,
+    line: Line,
+    z: State,
+    out: &mut [u8],
+    at: usize,
+    write: bool,
+) -> Acted
+    requires { ⌜ LaidOut (now s) l ⌝ }
+    requires { ⌜ q < l .productions ⌝ }
+    requires { ⌜ line .length ≤ 128 ⌝ }
+    requires { ⌜ at ≤ 2 ^ 59 ⌝ }
+    requires { ⌜ z .count ≤ 2 ^ 63 ⌝ }
+    requires { ⌜ WellFormed (now s) ⌝ }
+    ensures { λ r. ⌜ BracketsAs (now (s .entry)) q line z (record { write = write; lent = now (out .entry); at = at }) r (now (out .exit)) ⌝ }
+{
+    let codes = line.brackets;
+    let mut i = 0;
+    let mut to = at;
+    let mut state = z;
+    while i < line.length {
+        let next = bracket(s, l, q, codes[i], state, out, to, write);
+        if !next.ok {
+            return next;
+        }
+        to = next.at;
+        state = next.state;
+        i += 1;
+    }
+    Acted {
+        ok: true,
+        at: to,
+        state: state,
+    }
+}
