@@ -44,7 +44,7 @@ module _ (s : Sheet) (o : List Piece) where
       by none = refl
       by (some m′) = refl
 
-  step-frame : (z : State) (x : Event) → step s (state-behind o z) x ≡ answer-behind o (step s z x)
+  pub step-frame : (z : State) (x : Event) → step s (state-behind o z) x ≡ answer-behind o (step s z x)
   step-frame z x = turned-frame (z .store) (move (grammar s) (s .start-nonterminal) most (z .control) x)
 
   run-frame : (z : State) (xs : List Event) → answered (run s (state-behind o z) xs) ≡ answer-behind o (answered (run s z xs))
@@ -136,7 +136,7 @@ module _ (g : List Production) (n : ℕ) where
   move-number after x = (omega arith, omega arith)
 
 module _ (s : Sheet) where
-  step-number : (z : State) (x : Event) (j : ℕ) → step s z x ≡ refused j → (22 ≤ j) × (j ≤ 26)
+  pub step-number : (z : State) (x : Event) (j : ℕ) → step s z x ≡ refused j → (22 ≤ j) × (j ≤ 26)
   step-number z x j e =
       by (move (grammar s) (s .start-nonterminal) most (z .control) x) (move-number (grammar s) (s .start-nonterminal) (z .control) x) e
     where

@@ -176,6 +176,13 @@ one-verdict (keeps-both a i k h) w = one-number (grammarOf (a .rules)) (passes k
 one-verdict (breaks-T a i f) w = one-number (grammarOf (a .rules)) (t-fault f) (of-sheet w a i)
 one-verdict (breaks-S a i k h) w = one-number (grammarOf (a .rules)) (of-sheet (breaks-S a i k h) a i) (of-sheet w a i)
 
+-- and it is at most 9
+pub verdict-most : {s : List ℕ} {n : ℕ} → VerdictIs s n → n ≤ 9
+verdict-most (no-sheet h d) = omega (arith, defect-most d)
+verdict-most (keeps-both a i k h) = omega arith
+verdict-most (breaks-T a i f) = omega arith
+verdict-most (breaks-S a i k h) = omega arith
+
 -- it is the checker's number, unless the lent list is too short
 pub verdict-checked : {s lent after : List ℕ} {r : Checked} {n : ℕ} → CheckedAs s lent after r → (r .number ≡ 10 → ⊥) → VerdictIs s n → r .number ≡ n
 verdict-checked (malformed h d c e) k v = of-defect h d v

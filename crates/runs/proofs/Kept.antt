@@ -42,7 +42,7 @@ if-some false o ms e = absurd (none-some ms e)
 
 module _ (s : Sheet) (q : ℕ) (kss : Kept) where
   -- the visits along a bracket string
-  kept-string : (lim : ℕ) (α : List Bracket) (ns ms : List ℕ) → through-nodes lim α ns ≡ some ms → (ks : List Saved) (v : Env) → length ks ≡ suc (length ns) →
+  pub kept-string : (lim : ℕ) (α : List Bracket) (ns ms : List ℕ) → through-nodes lim α ns ≡ some ms → (ks : List Saved) (v : Env) → length ks ≡ suc (length ns) →
       (m : Store) → acts s (bracket-acts q α) (store (ks ∷ kss) v) ≡ some m → (ks′ : List Saved) × (m .kept ≡ ks′ ∷ kss) × (length ks′ ≡ suc (length ms))
   kept-string lim [] ns ms t ks v l m e =
       let h : store (ks ∷ kss) v ≡ m = cc in

@@ -1,0 +1,5 @@
+pub mod Replies
+pub mod BytesLaws
+pub mod Theorems
+pub mod Going
+pub mod Entering

@@ -1,0 +1,211 @@
+-- What AnsweredAs says of a call. Under a sheet that passes and that the state fits, a reply is a call's answer in the sense of the calls (`is-call`): a
+-- call that gives the state back under such a sheet was closed before (`given-closed`). So there is one reply (`one-reply`), its number is one of the
+-- table's (`numbers`), and what it hands back fits (`handed-back-fit`).
+-- Assumes nothing.
+use mathlib.Core.Path.{_≡_, refl, sym, ap, ap₂, _∙_, subst}
+use mathlib.Core.Logic.{_⊎_, inl, inr}
+use mathlib.Core.Bool.{Bool, true, false, not, _||_, cond, true≢false}
+use mathlib.Core.List.{List, [], _++_}
+use mathlib.Core.Option.{Option, none, some, Option·none-ne-some as none-some}
+use Prim.Native.Nat.{ℕ, zero, suc, _≤_}
+use native.Mathlib.Omega.{arith}
+use lib.Dec.{eqb}
+use lib.ListN.{length, take, drop}
+use lib.Seq.{take-append-seam}
+use borrow.Author.Tests.{eqb-true, eq-eqb}
+use Rattle.sheet.specs.Sheet.{Sheet, IsSheet}
+use Rattle.sheet.proofs.SheetLaws.{one-sheet}
+use Rattle.faults.specs.Verdict.{VerdictIs, passes}
+use Rattle.faults.proofs.Theorems.{one-verdict, verdict-most}
+use Rattle.runs.specs.Taken.{Passed}
+use Rattle.runs.specs.Machine.{State as Run}
+use Rattle.calls.specs.Held.{Held, leavesOpen, closingOf, Closing}
+use Rattle.calls.specs.Call.{Result, Runs, takes, stops, full, no-token, again, CalledBy, Called}
+use Rattle.calls.proofs.Answers.{call-one}
+use Rattle.calls.proofs.Exactly.{closing-fits}
+use Rattle.state.specs.Meaning.{meaningOf}
+use Rattle.state.specs.Changes.{notClosed}
+use Rattle.state.specs.declared.State.{State}
+use Rattle.fit.specs.Fit.{ClosingNumber, ended, refused, counted}
+use Rattle.converter.specs.declared.Reply.{Reply}
+use Rattle.converter.specs.Answered.{FitsSheet, heldOf, GivenBack, sheet-fails, unfit, closed, Ran, AnsweredAs, as-given, runs}
+use Rattle.converter.specs.Fed.{resultOf}
+
+pub some-inj : {X : Type 0} {x y : X} → some x ≡ some y → x ≡ y
+some-inj e = cc
+
+module _ {s : List ℕ} {a : Sheet} (i : IsSheet s a) (ok : Passed a) where
+  not-failed : {n : ℕ} → 1 ≤ n → VerdictIs s n → ⊥
+  not-failed h v = omega (arith, h, one-verdict v (passes a i (ok .keeps-T) (ok .keeps-S)))
+
+  pub fits-here : {b : Sheet} {z : State} → IsSheet s b → FitsSheet b z → FitsSheet a z
+  fits-here {b} {z} j f = subst (λ (x : Sheet). FitsSheet x z) (one-sheet j i) f
+
+  -- given back under a sheet that passes and that the state fits: it was closed
+  pub given-closed : {z : State} {n : ℕ} → FitsSheet a z → GivenBack s (some z) n → (m : ℕ) × (heldOf z .closing ≡ some m) × (n ≡ again m)
+  given-closed f (sheet-fails h v) = absurd (not-failed h v)
+  given-closed {z} f (unfit b j k w) = absurd (w z refl (subst (λ (x : Sheet). FitsSheet x z) (one-sheet i j) f))
+  given-closed {z} f (closed b j k y e g m h) = (m, ap (λ (x : State). heldOf x .closing) (some-inj e) ∙ h, refl)
+
+-- there is one number of those that give the state back
+pub one-given : {s : List ℕ} {o : Option State} {m n : ℕ} → GivenBack s o m → GivenBack s o n → m ≡ n
+one-given (sheet-fails h v) (sheet-fails k w) = one-verdict v w
+one-given (sheet-fails h v) (unfit b j l w) = absurd (not-failed j l h v)
+one-given (sheet-fails h v) (closed b j l z e f m c) = absurd (not-failed j l h v)
+one-given (unfit a i k w) (sheet-fails h v) = absurd (not-failed i k h v)
+one-given (unfit a i k w) (unfit b j l w′) = refl
+one-given (unfit a i k w) (closed b j l z e f m c) = absurd (w z e (fits-here i k j f))
+one-given (closed a i k z e f m c) (sheet-fails h v) = absurd (not-failed i k h v)
+one-given (closed a i k z e f m c) (unfit b j l w) = absurd (w z e (fits-here j l i f))
+one-given (closed a i k z e f m c) (closed b j l y e′ f′ m′ c′) =
+    let q : z ≡ y = some-inj (sym e ∙ e′) in
+    ap again (some-inj (sym c ∙ ap (λ (x : State). heldOf x .closing) q ∙ c′))
+
+module _ {s : List ℕ} {z : State} {part : List ℕ} {ended : Bool} {lent after : List ℕ} {r : Reply} where
+  -- a run's reply is its answer
+  pub ran-result : (w : Ran s z part ended lent after r) → resultOf after r ≡ w .answer
+  ran-result w =
+      let n = w .number in
+      let t = w .taken in
+      let o : take (r .written) after ≡ w .answer .output =
+      ap₂ take (w .written) (w .left) ∙ take-append-seam (w .answer .output) (drop (length (w .answer .output)) lent) in
+      let h = w .held in
+      λ i. record { number = n i; taken = t i; output = o i; held = h i }
+
+  -- under a sheet that passes and that the state fits, a reply is what the call answers
+  pub is-call : {a : Sheet} → IsSheet s a → Passed a → FitsSheet a z → AnsweredAs s z part ended lent after r → Called a part (not ended) (length lent) (heldOf z) (resultOf after r)
+  is-call {a} i ok f (as-given g k v) =
+      let (m, c, e) = given-closed i ok f g in
+      let t = k .taken in
+      let o : take (r .written) after ≡ [] = ap (λ (n : ℕ). take n after) (k .written) in
+      let h : heldOf (r .state) ≡ record { run = meaningOf z; closing = some m } =
+      ap heldOf (k .state) ∙ ap (λ (x : Option ℕ). record { run = meaningOf z; closing = x }) c in
+      subst (λ (x : Option ℕ). CalledBy a part (not ended) (length lent) (meaningOf z) x (resultOf after r)) (sym c) (λ j. record { number = e j; taken = t j; output = o j; held = h j })
+  is-call {a} i ok f (runs w v) =
+      subst (λ (x : Sheet). Called x part (not ended) (length lent) (heldOf z) (resultOf after r)) (one-sheet (w .is-sheet) i)
+      (subst (Called (w .sheet) part (not ended) (length lent) (heldOf z)) (sym (ran-result w)) (w .called))
+
+  -- a state that a call handed back fits when it fitted before
+  pub handed-back-fit : {a : Sheet} → IsSheet s a → Passed a → FitsSheet a z → AnsweredAs s z part ended lent after r → FitsSheet a (r .state)
+  handed-back-fit {a} i ok f (as-given g k v) = subst (FitsSheet a) (sym (k .state)) f
+  handed-back-fit {a} i ok f (runs w v) = fits-here i ok (w .is-sheet) (w .fits-again)
+
+-- the same reply, but for what the states hold out of use
+pub record Same (after after′ : List ℕ) (r q : Reply) : Type 0 where
+  pub number : r .number ≡ q .number
+  pub taken : r .taken ≡ q .taken
+  pub written : r .written ≡ q .written
+  pub count : r .state .count ≡ q .state .count
+  pub left : after ≡ after′
+  pub held : heldOf (r .state) ≡ heldOf (q .state)
+
+-- the count is one of the things that a state holds
+count-held : (z y : State) → heldOf z ≡ heldOf y → z .count ≡ y .count
+unfolding meaningOf
+count-held z y e = ap (λ (h : Held). h .run .store .env .count) e
+
+pub not-both : {s : List ℕ} {z : State} {part : List ℕ} {ended : Bool} {lent after : List ℕ} {r : Reply} {n : ℕ} → GivenBack s (some z) n → Ran s z part ended lent after r → ⊥
+not-both g w = let (m, c, e) = given-closed (w .is-sheet) (w .passed) (w .fits) g in none-some m (sym (w .is-open) ∙ c)
+
+module _ {s : List ℕ} {z : State} {part : List ℕ} {ended : Bool} {lent after after′ : List ℕ} {r q : Reply} where
+  pub one-run-reply : Ran s z part ended lent after r → Ran s z part ended lent after′ q → Same after after′ r q
+  one-run-reply w u =
+      let c : Called (u .sheet) part (not ended) (length lent) (heldOf z) (w .answer) =
+      subst (λ (x : Sheet). Called x part (not ended) (length lent) (heldOf z) (w .answer)) (one-sheet (w .is-sheet) (u .is-sheet)) (w .called) in
+      let e : w .answer ≡ u .answer = call-one (u .sheet) part (not ended) (length lent) (heldOf z) (w .answer) (u .answer) c (u .called) in
+      let h : heldOf (r .state) ≡ heldOf (q .state) = w .held ∙ ap (λ (x : Result). x .held) e ∙ sym (u .held) in
+      record {
+        number = w .number ∙ ap (λ (x : Result). x .number) e ∙ sym (u .number);
+        taken = w .taken ∙ ap (λ (x : Result). x .taken) e ∙ sym (u .taken);
+        written = w .written ∙ ap (λ (x : Result). length (x .output)) e ∙ sym (u .written);
+        count = count-held (r .state) (q .state) h;
+        left = w .left ∙ ap (λ (x : Result). x .output ++ drop (length (x .output)) lent) e ∙ sym (u .left);
+        held = h;
+      }
+
+-- any two replies that a call may have are one
+pub one-reply : {s : List ℕ} {z : State} {part : List ℕ} {ended : Bool} {lent after after′ : List ℕ} {r q : Reply} →
+    AnsweredAs s z part ended lent after r → AnsweredAs s z part ended lent after′ q → Same after after′ r q × (r .visits ≡ q .visits)
+one-reply (as-given g k v) (as-given g′ k′ v′) =
+    let e = k .state ∙ sym (k′ .state) in (
+      record {
+        number = one-given g g′;
+        taken = k .taken ∙ sym (k′ .taken);
+        written = k .written ∙ sym (k′ .written);
+        count = ap (λ (x : State). x .count) e;
+        left = k .left ∙ sym (k′ .left);
+        held = ap heldOf e;
+      },
+      v ∙ sym v′,
+    )
+one-reply (as-given g k v) (runs u v′) = absurd (not-both g u)
+one-reply (runs w v) (as-given g k v′) = absurd (not-both g w)
+one-reply (runs w v) (runs u v′) = let o = one-run-reply w u in (o, v ∙ o .count ∙ sym v′)
+
+-- the numbers of the table that a call answers; 10 is none of them
+abbrev pub InTable : ℕ → Type 0
+InTable n = (n ≤ 9) ⊎ ((n ≡ 16) ⊎ ((n ≡ 17) ⊎ ((20 ≤ n) × (n ≤ 30))))
+
+closing-in : {n : ℕ} → Closing n → InTable n
+closing-in (inl e) = inl (omega arith)
+closing-in (inr (inl (h, k))) = inr (inr (inr (h, omega arith)))
+closing-in (inr (inr e)) = inr (inr (inr (omega arith, omega arith)))
+
+-- what a run hands back is closed or not by its number
+handed-by : {a : Sheet} {part : List ℕ} {more : Bool} {at room : ℕ} {z : Run} {r : Result} → Runs a part more at room z r →
+    r .held .closing ≡ closingOf (leavesOpen (r .number)) (r .number)
+handed-by (takes e next z′ w m t d) = handed-by d
+handed-by (stops e next n m t) = refl
+handed-by (full e next m t) = refl
+handed-by (no-token x n m q) = refl
+
+pub run-number : {a : Sheet} {part : List ℕ} {more : Bool} {at room : ℕ} {z : Run} {r : Result} → Runs a part more at room z r → InTable (r .number)
+run-number {r = r} d = by (eqb (r .number) 16) (eqb (r .number) 17) refl refl (handed-by d)
+  where
+    by : (b c : Bool) → eqb (r .number) 16 ≡ b → eqb (r .number) 17 ≡ c → r .held .closing ≡ closingOf (b || c) (r .number) → InTable (r .number)
+    by true c e h k = inr (inl (eqb-true (r .number) 16 e))
+    by false true e h k = inr (inr (inl (eqb-true (r .number) 17 h)))
+    by false false e h k = closing-in (closing-fits d (r .number) k)
+
+again-in : {c n : ℕ} → ClosingNumber c → c ≡ n → InTable (again n)
+again-in {n = zero} k e = inr (inr (inr (omega arith, omega arith)))
+again-in {n = suc n} ended e = absurd (omega arith)
+again-in {n = suc n} (refused h k) e = inr (inr (inr (omega arith, omega arith)))
+again-in {n = suc n} counted e = inr (inr (inr (omega arith, omega arith)))
+
+pub given-number : {s : List ℕ} {o : Option State} {n : ℕ} → GivenBack s o n → InTable n
+given-number (sheet-fails h v) = inl (verdict-most v)
+given-number (unfit a i k w) = inr (inr (inr (omega arith, omega arith)))
+given-number (closed a i k z e f m c) = by (f .closing) (eqb (z .closed) notClosed) refl c
+  where
+    by : (z .closed ≡ notClosed) ⊎ ClosingNumber (z .closed) → (b : Bool) → eqb (z .closed) notClosed ≡ b → cond b none (some (z .closed)) ≡ some m → InTable (again m)
+    by q true e c = absurd (none-some m c)
+    by (inl q) false e c = absurd (true≢false (sym (eq-eqb (z .closed) notClosed q) ∙ e))
+    by (inr q) false e c = again-in q (some-inj c)
+
+pub ran-number : {s : List ℕ} {z : State} {part : List ℕ} {ended : Bool} {lent after : List ℕ} {r : Reply} → Ran s z part ended lent after r → InTable (r .number)
+ran-number {z = z} {part} {ended} {lent} w =
+    subst InTable (sym (w .number))
+    (run-number (subst (λ (c : Option ℕ). CalledBy (w .sheet) part (not ended) (length lent) (meaningOf z) c (w .answer)) (w .is-open) (w .called)))
+
+-- every number that a call answers
+pub numbers : {s : List ℕ} {z : State} {part : List ℕ} {ended : Bool} {lent after : List ℕ} {r : Reply} → AnsweredAs s z part ended lent after r → InTable (r .number)
+numbers (as-given g k v) = given-number g
+numbers (runs w v) = ran-number w
+
+-- the output stands first in the lent memory, and all past it is as lent
+pub written-first : {s : List ℕ} {z : State} {part : List ℕ} {ended : Bool} {lent after : List ℕ} {r : Reply} → AnsweredAs s z part ended lent after r →
+    (r .written ≡ length (take (r .written) after)) × (after ≡ take (r .written) after ++ drop (r .written) lent)
+written-first {lent = lent} {after} {r} (as-given g k v) =
+    let o : take (r .written) after ≡ [] = ap (λ (n : ℕ). take n after) (k .written) in
+    (k .written ∙ sym (ap length o), k .left ∙ ap₂ (λ (l : List ℕ) (n : ℕ). l ++ drop n lent) (sym o) (sym (k .written)))
+written-first {lent = lent} {after} {r} (runs w v) =
+    let o : take (r .written) after ≡ w .answer .output = ap (λ (x : Result). x .output) (ran-result w) in
+    (w .written ∙ sym (ap length o), w .left ∙ ap₂ (λ (l : List ℕ) (n : ℕ). l ++ drop n lent) (sym o) (sym (w .written)))
+
+-- the visits are the count of what the state holds
+pub visits-held : {s : List ℕ} {z : State} {part : List ℕ} {ended : Bool} {lent after : List ℕ} {r : Reply} → AnsweredAs s z part ended lent after r →
+    r .visits ≡ heldOf (r .state) .run .store .env .count
+unfolding meaningOf
+visits-held (as-given g k v) = v ∙ ap (λ (x : State). x .count) (sym (k .state))
+visits-held (runs w v) = v

@@ -1,0 +1,4 @@
+pub mod Answered
+pub mod Bytes
+pub mod Fed
+pub mod Inner

@@ -1,0 +1,11 @@
+pub mod Places
+pub mod Joined
+pub mod Tops
+pub mod Turns
+pub mod Starts
+pub mod Follows
+pub mod Ends
+pub mod Letters
+pub mod Tokens
+pub mod Takings
+pub mod Onward

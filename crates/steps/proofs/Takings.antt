@@ -1,0 +1,187 @@
+-- A token with the limits on count and room, one law for each return of `take`, all from what the dry run answered; and the answer is one.
+-- Assumes nothing.
+use mathlib.Core.Path.{_≡_, refl, sym, ap, ap₂, _∙_, subst}
+use mathlib.Core.Bool.{Bool, true, false}
+use mathlib.Core.List.{List, _++_, append-nil}
+use Prim.Native.Nat.{ℕ, _+_, _-_, _≤_, _<_}
+use native.Mathlib.Nat.{zero-add}
+use native.Mathlib.Omega.{arith}
+use borrow.Author.Tests.{le-leb, lt-leb}
+use lib.Dec.{leb}
+use lib.ListN.{length, take, drop, length-drop, drop-of-length-le}
+use lib.Seq.{take-all, drop-drop}
+use Rattle.lent.proofs.Laws.{put-all}
+use Rattle.output.proofs.Writing.{put-one-outcome}
+use Rattle.tokens.specs.declared.Event.{Event as Read}
+use Rattle.sheet.specs.Sheet.{Sheet, IsSheet}
+use Rattle.visits.specs.Written.{Pen}
+use Rattle.runs.specs.Visits.{mostVisits}
+use Rattle.runs.specs.Events.{Event}
+use Rattle.runs.specs.Machine.{State as Standing, Answer, took, refused, step}
+use Rattle.runs.specs.Spells.{stepToken}
+use Rattle.calls.specs.Limits.{Taking, taken, refuses, no-room, limited, within, oneToken, outputOf}
+use Rattle.calls.specs.Names.{tokenOf}
+use Rattle.calls.proofs.Frame.{countOf, step-number, token-number}
+use Rattle.fit.specs.RunFits.{RunFits}
+use Rattle.state.specs.declared.State.{State}
+use Rattle.state.specs.Meaning.{meaningOf, Shaped}
+use Rattle.steps.specs.declared.Stepped.{Stepped}
+use Rattle.steps.specs.Stepped.{Took, AnsweredAs, SteppedAs, TokenAs}
+use Rattle.steps.specs.Taken.{Left, Takes, TakenAs}
+use Rattle.steps.specs.Parts.{Ready}
+
+-- a state's count is its run's
+counts : (z : State) → countOf (meaningOf z) ≡ z .count
+unfolding meaningOf
+counts z = refl
+
+count-after : {m : Standing} {z : State} {p : Pen} {r : Stepped} {d : List ℕ} → Took m z p r d → r .state .count ≡ countOf m
+count-after {m} {z} {p} {r} K = sym (counts (r .state)) ∙ ap countOf (K .means)
+
+-- the run dry, and where it writes
+abbrev pub dryPen : List ℕ → Pen
+dryPen lent = record { write = false; lent = lent; at = 0 }
+
+abbrev pub wetPen : List ℕ → ℕ → Pen
+wetPen lent at = record { write = true; lent = drop at lent; at = 0 }
+
+module _ {s part : List ℕ} {e : Read} {z : State} {lent : List ℕ} {at : ℕ} (inside : at ≤ length lent) (few : z .count ≤ mostVisits)
+    (y : Stepped) (d : List ℕ) (D : TokenAs s part e z (dryPen lent) y d) where
+  abbrev Step : Sheet → Answer
+  Step a = stepToken a (meaningOf z) (tokenOf a part e)
+
+  abbrev Room : ℕ
+  Room = length lent - at
+
+  -- what the dry run took, where it answers 0
+  dry-took : (a : Sheet) → IsSheet s a → Shaped z → RunFits a (meaningOf z) → y .number ≡ 0 → (m : Standing) × (Step a ≡ took m) × Took m z (dryPen lent) y d
+  dry-took a i h f q = by (Step a) refl (D .right a i h f)
+    where
+      by : (x : Answer) → Step a ≡ x → AnsweredAs x z (dryPen lent) y d → (m : Standing) × (x ≡ took m) × Took m z (dryPen lent) y d
+      by (took m) k A = (m, refl, A)
+      by (refused n) k A = absurd (omega (arith, token-number a (meaningOf z) (tokenOf a part e) n k .0, A, q))
+
+  -- refused: all as it was
+  module _ (n : ℕ) (r : Stepped) (q : r ≡ record { number = n; at = at; state = z }) where
+    all-left : ((a : Sheet) → IsSheet s a → Shaped z → RunFits a (meaningOf z) → Takes (oneToken a (meaningOf z) Room (tokenOf a part e)) z lent at (record { number = n; at = at; state = z }) lent) →
+        (d′ : List ℕ) → d′ ≡ lent → TakenAs s part e z lent at r d′
+    all-left f d′ same =
+        subst (λ (w : List ℕ). TakenAs s part e z lent at r w) (sym same)
+        (subst (λ (w : Stepped). TakenAs s part e z lent at w lent) (sym q) (record { inside = inside; count = few; right = f }))
+
+  pub take-refused : (y .number ≡ 0 → ⊥) → (r : Stepped) → r ≡ record { number = y .number; at = at; state = z } → TakenAs s part e z lent at r d
+  take-refused k r q =
+      all-left (y .number) r q (λ a i h f. by a (Step a) (D .right a i h f)) d (D .dry refl)
+    where
+      by : (a : Sheet) (x : Answer) → AnsweredAs x z (dryPen lent) y d → Takes (within Room x) z lent at (record { number = y .number; at = at; state = z }) lent
+      by a (took m) A = absurd (k (A .number))
+      by a (refused n) A = record { number = A; state = refl; next = refl; left = refl }
+
+  module _ (zero : y .number ≡ 0) where
+    -- the answer by the two limits
+    by-limits : (a : Sheet) (i : IsSheet s a) (h : Shaped z) (f : RunFits a (meaningOf z)) (b b′ : Bool) → leb (countOf (dry-took a i h f zero .0)) mostVisits ≡ b →
+        leb (length (outputOf (dry-took a i h f zero .0))) Room ≡ b′ → oneToken a (meaningOf z) Room (tokenOf a part e) ≡ limited (dry-took a i h f zero .0) b b′
+    by-limits a i h f b b′ p p′ = ap (within Room) (dry-took a i h f zero .1) ∙ ap₂ (λ (c c′ : Bool). limited (dry-took a i h f zero .0) c c′) p p′
+
+    pub take-counted : mostVisits < y .state .count → (r : Stepped) → r ≡ record { number = 30; at = at; state = z } → TakenAs s part e z lent at r d
+    take-counted k r q =
+        all-left 30 r q
+        (λ a i h f.
+        let w = dry-took a i h f zero in
+        subst (λ (t : Taking). Takes t z lent at (record { number = 30; at = at; state = z }) lent)
+        (sym (by-limits a i h f false (leb (length (outputOf (w .0))) Room) (lt-leb (countOf (w .0)) mostVisits (omega (arith, count-after (w .2), k))) refl))
+        (record { number = refl; state = refl; next = refl; left = refl }))
+        d (D .dry refl)
+
+    module _ (counted : y .state .count ≤ mostVisits) where
+      pub take-full : Room < y .at → (r : Stepped) → r ≡ record { number = 17; at = at; state = z } → TakenAs s part e z lent at r d
+      take-full k r q =
+          all-left 17 r q
+          (λ a i h f.
+          let w = dry-took a i h f zero in
+          subst (λ (t : Taking). Takes t z lent at (record { number = 17; at = at; state = z }) lent)
+          (sym (by-limits a i h f true false (le-leb (countOf (w .0)) mostVisits (omega (arith, count-after (w .2), counted))) (lt-leb (length (outputOf (w .0))) Room (omega (arith, w .2 .written .next, k)))))
+          (record { number = refl; state = refl; next = refl; left = refl }))
+          d (D .dry refl)
+
+      written-out : y .at ≤ Room → (x : Stepped) (d′ : List ℕ) → TokenAs s part e z (wetPen lent at) x d′ → (r : Stepped) → r ≡ record { number = 0; at = at + y .at; state = y .state } →
+          TakenAs s part e z lent at r (take at lent ++ d′)
+      written-out k x d′ W r q =
+          subst (λ (w : Stepped). TakenAs s part e z lent at w (take at lent ++ d′)) (sym q)
+          (record {
+            inside = omega (arith, inside, k);
+            count = counted;
+            right = λ a i h f.
+                let w = dry-took a i h f zero in
+                let m : Standing = w .0 in
+                let A : Took m z (wetPen lent at) x d′ = subst (λ (t : Answer). AnsweredAs t z (wetPen lent at) x d′) (w .1) (W .right a i h f) in
+                let l : y .at ≡ length (outputOf m) = omega (arith, w .2 .written .next) in
+                subst (λ (t : Taking). Takes t z lent at (record { number = 0; at = at + y .at; state = y .state }) (take at lent ++ d′))
+                (sym (by-limits a i h f true true (le-leb (countOf m) mostVisits (omega (arith, count-after (w .2), counted))) (le-leb (length (outputOf m)) Room (omega (arith, l, k)))))
+                (record {
+                  number = refl;
+                  means = w .2 .means;
+                  shaped = w .2 .shaped;
+                  closed = w .2 .closed;
+                  next = ap (λ (n : ℕ). at + n) l;
+                  left = ap (λ (t : List ℕ). take at lent ++ t)
+                      (A .written .left ∙ put-all (drop at lent) 0 (outputOf m) (omega (arith, length-drop at lent, l, k))
+                      ∙ ap (λ (n : ℕ). outputOf m ++ drop n (drop at lent)) (zero-add (length (outputOf m))) ∙ ap (λ (t : List ℕ). outputOf m ++ t) (drop-drop (length (outputOf m)) at lent));
+                });
+          })
+
+      -- the part of the memory that is lent to the second run, and the whole with what that left of it
+      pub take-done : y .at ≤ Room → (x : Stepped) (d′ : List ℕ) → TokenAs s part e z (record { write = true; lent = take (length d - at) (drop at d); at = 0 }) x d′ → (r : Stepped) →
+          r ≡ record { number = 0; at = at + y .at; state = y .state } → TakenAs s part e z lent at r (take at d ++ (d′ ++ drop (length d - at) (drop at d)))
+      take-done k x d′ W r q =
+          let same : d ≡ lent = D .dry refl in
+          let l : length (drop at d) ≤ length d - at = omega (arith, length-drop at d) in
+          subst (λ (w : List ℕ). TakenAs s part e z lent at r (take at d ++ (d′ ++ w))) (sym (drop-of-length-le (drop at d) l))
+          (subst (λ (w : List ℕ). TakenAs s part e z lent at r (take at d ++ w)) (sym (append-nil d′))
+          (subst (λ (w : List ℕ). TakenAs s part e z lent at r (take at w ++ d′)) (sym same)
+          (written-out k x d′ (subst (λ (w : List ℕ). TokenAs s part e z (wetPen w at) x d′) same
+          (subst (λ (w : List ℕ). TokenAs s part e z (record { write = true; lent = w; at = 0 }) x d′) (take-all (length d - at) (drop at d) l) W)) r q)))
+
+-- the answer is one
+pub record Same (r r′ : Stepped) (d d′ : List ℕ) : Type 0 where
+  pub number : r .number ≡ r′ .number
+  pub next : r .at ≡ r′ .at
+  pub memory : d ≡ d′
+  pub means : meaningOf (r .state) ≡ meaningOf (r′ .state)
+
+pub one-answer : {s part : List ℕ} {e : Read} {z : State} {lent : List ℕ} {at : ℕ} {r r′ : Stepped} {d d′ : List ℕ} → Ready s z →
+    TakenAs s part e z lent at r d → TakenAs s part e z lent at r′ d′ → Same r r′ d d′
+one-answer {s} {part} {e} {z} {lent} {at} {r} {r′} {d} {d′} y t t′ =
+    by (oneToken (y .sheet) (meaningOf z) (length lent - at) (tokenOf (y .sheet) part e)) (t .right (y .sheet) (y .is-sheet) (y .shaped) (y .fits)) (t′ .right (y .sheet) (y .is-sheet) (y .shaped) (y .fits))
+  where
+    left-one : (n : ℕ) → Left n z lent at r d → Left n z lent at r′ d′ → Same r r′ d d′
+    left-one n k k′ =
+        record {
+          number = k .number ∙ sym (k′ .number);
+          next = k .next ∙ sym (k′ .next);
+          memory = k .left ∙ sym (k′ .left);
+          means = ap meaningOf (k .state ∙ sym (k′ .state));
+        }
+
+    by : (x : Taking) → Takes x z lent at r d → Takes x z lent at r′ d′ → Same r r′ d d′
+    by (taken m w) k k′ =
+        record {
+          number = k .number ∙ sym (k′ .number);
+          next = k .next ∙ sym (k′ .next);
+          memory = k .left ∙ sym (k′ .left);
+          means = k .means ∙ sym (k′ .means);
+        }
+    by (refuses n) k k′ = left-one n k k′
+    by no-room k k′ = left-one 17 k k′
+
+-- the same of an event: one number, and where that is 0 one offset, one memory and one meaning
+pub one-event : {s : List ℕ} {x : Event} {z : State} {p : Pen} {r r′ : Stepped} {d d′ : List ℕ} → Ready s z → SteppedAs s x z p r d → SteppedAs s x z p r′ d′ →
+    (r .number ≡ r′ .number) × (r .number ≡ 0 → Same r r′ d d′)
+one-event {s} {x} {z} {p} {r} {r′} {d} {d′} y t t′ =
+    by (step (y .sheet) (meaningOf z) x) refl (t .right (y .sheet) (y .is-sheet) (y .shaped) (y .fits)) (t′ .right (y .sheet) (y .is-sheet) (y .shaped) (y .fits))
+  where
+    by : (k : Answer) → step (y .sheet) (meaningOf z) x ≡ k → AnsweredAs k z p r d → AnsweredAs k z p r′ d′ → (r .number ≡ r′ .number) × (r .number ≡ 0 → Same r r′ d d′)
+    by (refused n) q A A′ = (A ∙ sym A′, λ e. absurd (omega (arith, step-number (y .sheet) (meaningOf z) x n q .0, A, e)))
+    by (took m) q A A′ =
+        let o = put-one-outcome (p .write) (p .lent) (p .at) (outputOf m) d d′ (r .at) (r′ .at) (A .written) (A′ .written) in
+        (A .number ∙ sym (A′ .number), λ e. record { number = A .number ∙ sym (A′ .number); next = o .1; memory = o .0; means = A .means ∙ sym (A′ .means) })

@@ -1,0 +1,3 @@
+pub mod Stepped
+pub mod Taken
+pub mod Parts
