@@ -1,19 +1,22 @@
 #!/usr/bin/env python3
 """The example sheets, from a readable description.
 
-    python3 examples/make.py            writes examples/*.sheet, the same files in crates/reports/data, and prints each sheet's parts
+    python3 examples/make.py            writes examples/*.sheet, *.schedule and *.listing, and the data and the expected output of the
+                                        tests `reports` and `stories`; prints each sheet's parts
     python3 examples/make.py --check    says whether the files are what it would write
 
 A sheet is its tags by name and its productions: nonterminal, tag by name, and the expression, in which n1 is nonterminal 1, CHAR any
 one character, `.` then, `|` or, `*` any number of times. The bytes are laid out by the builder in tests/sheets.py.
+The stories below have the listings and messages that document 01 asks for, written by hand; no program here converts anything.
 """
 import os
 import sys
+from xml.etree import ElementTree
 
 HERE = os.path.dirname(os.path.abspath(__file__))
 ROOT = os.path.dirname(HERE)
 sys.path.insert(0, os.path.join(ROOT, 'tests'))
-from sheets import ECHO, END, Sheet  # noqa: E402
+from sheets import CLOSE, ECHO, ECHO_OFF, END, EQUAL, IF, NOW, OPEN, REJECT, SET, TEXT, VALUE, Sheet  # noqa: E402
 
 TAGS = ['schedule', 'programme', 'film', 'title', 'start']
 TITLE_AND_START = [(2, 'title', 'CHAR*'), (3, 'start', 'CHAR*')]
@@ -32,6 +35,140 @@ def sheet(rules):
     return Sheet(TAGS, numbered, programs=[ECHO + END]).production(0, first=0).bytes()
 
 
+def programmes():
+    """The sheet of the stories: a listing keeps start, title and people, drops descriptions, and says (no title) where there is none."""
+    tags = ['schedule', 'programme', 'start', 'title', 'people', 'person', 'description']
+    rules = [(0, 0, 'n1*'), (1, 1, 'n2.n3*.n4*.n6*'), (2, 2, 'CHAR*'), (3, 3, 'CHAR*'), (4, 4, 'n5*'), (5, 5, 'CHAR*'), (6, 6, 'CHAR*')]
+    untitled = b'(no title)'
+    programs = [
+        ECHO + END,                                                                  # at 0: keep everything
+        SET(0, 0) + END,                                                             # at 2: no title yet
+        IF(EQUAL(NOW(0), VALUE(1)), REJECT, SET(0, 1)) + END,                        # at 6: a second title is rejected
+        IF(EQUAL(NOW(0), VALUE(0)), OPEN(3) + TEXT(0, len(untitled)) + CLOSE(3)) + END,  # at 19: no title came
+        ECHO_OFF + END,                                                              # at 36: drop it
+    ]
+    at = [sum(map(len, programs[:i])) for i in range(len(programs))]
+    sheet = Sheet(tags, rules, programs=programs, strings=untitled)
+    sheet.production(0, first=at[0]).production(1, first=at[1]).production(3, first=at[2]).production(6, first=at[4])
+    return sheet.node(6, second=at[3]).bytes()  # node 6 is the star over title
+
+
+# ---------------------------------------------------------------------------------------------------------------------
+# The stories: a schedule, and the listing that comes of it, or the message.
+
+QUIZ = '''<schedule>
+  <programme>
+    <start>2026-03-02T19:30</start>
+    <title>This&lt;/title&gt;That</title>
+    <people><person>Ann Ode</person><person>Bo Ng</person></people>
+    <description>A quiz on words &amp; tags.</description>
+  </programme>
+</schedule>
+'''
+
+NOTHING = '''<schedule>
+  <programme><start>20:15</start><title></title><description>The show is called nothing.</description></programme>
+  <programme><start>21:00</start><title/></programme>
+  <programme><start>22:00</start><people/></programme>
+</schedule>
+'''
+
+DAMAGED = '''<schedule>
+  <programme>
+    <start>18:00</start>
+    <title>Caf\u00e9 at six</title>
+  </programme>
+  <programme>
+    <start>19:00</start><titel>Evening news</titel>
+  </programme>
+</schedule>
+'''
+
+LISTINGS = {
+    'quiz': '<schedule><programme><start>2026-03-02T19:30</start><title>This&lt;/title&gt;That</title>'
+            '<people><person>Ann Ode</person><person>Bo Ng</person></people></programme></schedule>',
+    'nothing': '<schedule><programme><start>20:15</start><title></title></programme>'
+               '<programme><start>21:00</start><title></title></programme>'
+               '<programme><start>22:00</start><title>(no title)</title><people></people></programme></schedule>',
+}
+
+SCHEDULES = {
+    'quiz': QUIZ,
+    'nothing': NOTHING,
+    'half': QUIZ[:QUIZ.index('lt;/title')],                       # the file ends inside &lt;
+    'damaged': DAMAGED,
+    'twice': QUIZ.replace('<people>', '<title>Or that</title><people>'),
+    'after': LISTINGS['nothing'] + '\n<schedule/>\n',
+}
+
+HOLDS = 'production 1 <programme> holds [1 <start>] then [2 <title>]* then [3 <people>]* then [4 <description>]*; this is after the %s.\n'
+
+# Number, the bytes that are refused, and what is said of the open elements.
+REFUSALS = {
+    'half': (27, '&', 'Open there, from the outside in: <schedule> <programme> <title>\n'
+                      'production 3 <title> holds [1 any character]*; this is after the 1st atom (any character).\n'),
+    'damaged': (23, '<titel>', 'Open there, from the outside in: <schedule> <programme>\n' + HOLDS % '1st atom (<start>)'),
+    'twice': (25, '<title>Or', 'Open there, from the outside in: <schedule> <programme>\n' + HOLDS % '2nd atom (<title>)'),
+    'after': (26, '<schedule/>', 'No element is open there; the root of a schedule is <schedule>.\n'),
+}
+
+MEANINGS = {
+    23: 'The sheet does not allow this here. Take it out, put it where it may stand, or put in what has to come before it.',
+    25: "A program of the sheet rejects this. It is spelled as the sheet asks, but the sheet's author ruled it out here; ask what the rule "
+        'is, and mend the schedule or the sheet.',
+    26: "The schedule goes on after its end: something other than white space follows the root's end tag. Take it out, or the end tag that "
+        'came too early.',
+    27: 'The schedule ends too early: inside a tag or a character, or before its root is closed. The file is cut off; fetch it whole and '
+        'convert it again.',
+}
+
+YESTERDAY = "<schedule>yesterday's listing</schedule>"
+UNTOUCHED = 'Nothing was put in place: listing is as it was.\n'
+
+
+def visits(element):
+    """Two for each node of the attributed tree: an element's own, and its expression's brackets with what stands in them."""
+    star = lambda rounds: 2 + sum(2 + v for v in rounds)
+    below = lambda tag: star([visits(e) for e in element if e.tag == tag])
+    if element.tag == 'schedule':
+        return 2 + below('programme')
+    if element.tag == 'people':
+        return 2 + below('person')
+    if element.tag == 'programme':  # three concatenations, the start's atom, three stars
+        return 2 + 3 * 2 + 2 + visits(element.find('start')) + below('title') + below('people') + below('description')
+    return 2 + star([0] * len(element.text or ''))
+
+
+def shown(rest):
+    seen = ''.join(chr(b) if 0x20 <= b <= 0x7E else '\\x%02x' % b for b in rest[:32])
+    return seen + (' ..' if len(rest) > 32 else '')
+
+
+def told(name):
+    """What `wickpollen convert` says of a story, and the listing afterwards."""
+    schedule = SCHEDULES[name]
+    if name in LISTINGS:
+        listing = LISTINGS[name]
+        count = visits(ElementTree.fromstring(schedule))
+        said = '%s.schedule: converted into listing.\nBytes read: %d. Bytes written: %d. Visits: %d.\n' % (
+            name, len(schedule.encode()), len(listing.encode()), count)
+        return said + listing
+    number, what, around = REFUSALS[name]
+    before = schedule[:schedule.rindex(what)]
+    rest = schedule[len(before):].encode()
+    said = '%s.schedule: number %d.\n%s\nRefused after %d bytes, at line %d, column %d. There stands: %s\n' % (
+        name, number, MEANINGS[number], len(before.encode()), before.count('\n') + 1, len(before) - before.rfind('\n'), shown(rest))
+    return said + around + UNTOUCHED + YESTERDAY
+
+
+def stories():
+    """The test's expected output: each story, and at last a sheet with faults, of which the test `reports` has the report."""
+    report = open(os.path.join(ROOT, 'crates', 'reports', 'stdout'), encoding='utf-8').read()
+    start = report.index('faults.sheet: number')
+    faults = report[start:report.index('\n\nplaces.sheet')] + '\n'
+    return '\n\n'.join([told(name) for name in SCHEDULES] + [faults + UNTOUCHED + YESTERDAY]) + '\n\n'
+
+
 def account(rules):
     lines = ['tags: ' + ', '.join('%d <%s>' % pair for pair in enumerate(TAGS))]
     for number, (nonterminal, tag, text) in enumerate(rules):
@@ -39,23 +176,36 @@ def account(rules):
     return '\n'.join(lines)
 
 
+def files():
+    """Every file by its path, and its bytes."""
+    made = {}
+    for name, rules in EXAMPLES.items():
+        made['examples/%s.sheet' % name] = made['crates/reports/data/%s.sheet' % name] = sheet(rules)
+    made['examples/programmes.sheet'] = made['crates/stories/data/programmes.sheet'] = programmes()
+    made['crates/stories/data/faults.sheet'] = made['examples/faults.sheet']
+    for name, text in SCHEDULES.items():
+        made['examples/%s.schedule' % name] = made['crates/stories/data/%s.schedule' % name] = text.encode()
+    for name, text in LISTINGS.items():
+        made['examples/%s.listing' % name] = text.encode()
+    made['crates/stories/stdout'] = stories().encode()
+    return made
+
+
 def main():
     stale = []
-    for name, rules in EXAMPLES.items():
-        made = sheet(rules)
-        for folder in (HERE, os.path.join(ROOT, 'crates', 'reports', 'data')):
-            path = os.path.join(folder, name + '.sheet')
-            if '--check' in sys.argv:
-                with_it = os.path.exists(path) and open(path, 'rb').read() == made
-                stale += [] if with_it else [path]
-            else:
-                os.makedirs(folder, exist_ok=True)
-                open(path, 'wb').write(made)
-        if '--check' not in sys.argv:
-            print('%s.sheet, %d bytes' % (name, len(made)))
+    for name, made in files().items():
+        path = os.path.join(ROOT, name)
+        if '--check' in sys.argv:
+            stale += [] if os.path.exists(path) and open(path, 'rb').read() == made else [name]
+        else:
+            os.makedirs(os.path.dirname(path), exist_ok=True)
+            open(path, 'wb').write(made)
+    if '--check' not in sys.argv:
+        for name, rules in EXAMPLES.items():
+            print('%s.sheet, %d bytes' % (name, len(sheet(rules))))
             print(account(rules) + '\n')
     if stale:
-        sys.exit('not what make.py writes: ' + ', '.join(os.path.relpath(p, ROOT) for p in stale))
+        sys.exit('not what make.py writes: ' + ', '.join(stale))
 
 
 if __name__ == '__main__':

@@ -1,15 +1,44 @@
-/* The sheet checker for hosts in C. Build: `rt staticlib capi`, and link target/staticlib/libcapi.a. */
+/* The sheet checker and the converter for hosts in C. Build: `rt staticlib capi`, and link target/staticlib/libcapi.a.
+
+   The numbers are those of the table in README.md. In every call the lent areas must not overlap, and each must hold as many bytes as
+   its length says; a length of 0 is allowed. Nothing is kept between two calls but what stands in the areas. */
 #ifndef WICKPOLLEN_H
 #define WICKPOLLEN_H
 #include <stddef.h>
 #include <stdint.h>
 
-/* Tests the rule sheet in sheet[0 .. sheet_len). The answer's low byte is the number of the table in README.md, 0 to 10; the rest,
-   answer / 256, is the count of the faults. With 8 and 9 the faults stand at the start of the list, four bytes each, and nothing past
-   them is written; with any other number the list is as lent. 65536 bytes of list always suffice. The two must not overlap. */
+/* Tests the rule sheet in sheet[0 .. sheet_len). The answer's low byte is the number, 0 to 10; the rest, answer / 256, is the count of
+   the faults. With 8 and 9 the faults stand at the start of the list, four bytes each, and nothing past them is written; with any other
+   number the list is as lent. 65536 bytes of list always suffice. */
 uint64_t wickpollen_check(const uint8_t *sheet, size_t sheet_len, uint8_t *list, size_t list_len);
 
 static inline unsigned wickpollen_number(uint64_t answer) { return (unsigned)(answer % 256); }
 static inline uint64_t wickpollen_count(uint64_t answer) { return answer / 256; }
+
+/* The length of a state. */
+#define WICKPOLLEN_STATE 2199
+
+/* Writes a fresh state, with which a stream begins, to state[0 .. 2199) and answers 2199; the bytes of the area past it are as lent.
+   Where the area is shorter it answers 0, and the whole area is as lent. */
+uint64_t wickpollen_fresh(uint8_t *state, size_t state_len);
+
+/* Converts a part of a stream by the sheet and answers the number. `ended` is 0 while more is to come, any other number with the last
+   part (which may be empty).
+
+   counts[0]: how many bytes of the part were taken. Present the others again, in front of what comes next.
+   counts[1]: how many bytes were written, at the start of out. Every byte of out past them is as lent.
+   counts[2]: the visits since the state was fresh.
+
+     0          the stream has ended and was taken whole: its output is complete.
+     16         the part is used up, or only a begun token of it is left: go on with the next part.
+     17         the next token's output is longer than the room left: write out what there is and go on; where counts[1] is 0, lend more.
+     20 to 27, 30   a token was refused: it starts at part[counts[0]]. The output of what came before it stands.
+     1 to 9     the sheet does not pass: see wickpollen_check.
+     28, 29     the stream had ended before; the state is none of this sheet's, or state_len is not what wickpollen_fresh answered.
+
+   state[0 .. state_len) holds the state after the part; with 1 to 9, 28, 29, and where an earlier refusal is only repeated, nothing is
+   taken or written and every byte of the state is as it was. The sheet is tested in every call, so a part of some thousand bytes costs much less than as many small ones. */
+uint64_t wickpollen_run(const uint8_t *sheet, size_t sheet_len, uint8_t *state, size_t state_len, const uint8_t *part, size_t part_len,
+                        uint64_t ended, uint8_t *out, size_t out_len, uint64_t *counts);
 
 #endif

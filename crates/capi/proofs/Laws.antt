@@ -1,9 +1,11 @@
--- The count is small, since the list of a sheet's faults fits 65,536 bytes, so it and the number go into one answer and can be had back
--- from it; and any two allowed answers are equal. Assumes nothing.
-use mathlib.Core.Path.{_≡_, ap, sym, _∙_}
-use mathlib.Core.List.{List}
+-- The checker's count is small, since the list of a sheet's faults fits 65,536 bytes, so it and the number go into one answer and can be had back
+-- from it. A fresh state's bytes fit where the area is long enough. And any two allowed answers are equal.
+-- Assumes nothing.
+use mathlib.Core.Path.{_≡_, refl, ap, sym, _∙_}
+use mathlib.Core.List.{List, _++_}
 use Prim.Native.Nat.{ℕ, _+_, _*_, _/_, _%_, _≤_}
 use native.Mathlib.Omega.{arith}
+use native.Mathlib.Nat.{zero-add}
 use Rattle.expressions.proofs.Room.{any-suffices}
 use Rattle.layout.specs.Layout.{tagCount}
 use Rattle.sheet.specs.Sheet.{grammarOf}
@@ -11,7 +13,14 @@ use Rattle.sheet.proofs.SheetLaws.{numbered-productions, few-productions, few-n
 use Rattle.faults.specs.Checked.{CheckedAs, malformed, well-formed}
 use Rattle.faults.specs.declared.Checked.{Checked}
 use Rattle.faults.proofs.Theorems.{one-answer, numbers}
+use lib.ListN.{length, drop}
+use Rattle.lent.proofs.Laws.{put-all}
+use Rattle.state.specs.Bytes.{Wrote, bytesOf}
+use Rattle.state.specs.Changes.{freshState}
+use Rattle.state.specs.declared.State.{State}
+use Rattle.converter.specs.Bytes.{stateBytes}
 use Rattle.capi.specs.Packed.{PackedAs}
+use Rattle.capi.specs.Started.{StartedAs, too-short, fresh}
 
 pub few-faults : {s lent after : List ℕ} {r : Checked} → CheckedAs s lent after r → r .count ≤ 16384
 few-faults (malformed h d c e) = omega (arith, c)
@@ -29,3 +38,17 @@ pub one-packed : {s lent x y : List ℕ} {v w : ℕ} → PackedAs s lent x v →
 one-packed p q =
     let o = one-answer (p .as-checked) (q .as-checked) in
     (o .0, p .packed ∙ ap (λ (r : Checked). 256 * r .count + r .number) (o .1) ∙ sym (q .packed))
+
+pub started : {lent after : List ℕ} {z : State} {r : ℕ} → stateBytes ≤ length lent → z ≡ freshState → Wrote 2199 lent 0 (bytesOf z) after r →
+    StartedAs lent after r
+started {lent} {after} {z} h e w =
+    fresh h
+    (w .left ∙ put-all lent 0 (bytesOf z) (omega (arith, w .wide, h)) ∙ ap (λ (k : ℕ). bytesOf z ++ drop k lent) (zero-add _ ∙ w .wide) ∙
+    ap (λ (y : State). bytesOf y ++ drop stateBytes lent) e)
+    (w .next)
+
+pub one-start : {lent x y : List ℕ} {v w : ℕ} → StartedAs lent x v → StartedAs lent y w → (x ≡ y) × (v ≡ w)
+one-start (too-short h e) (too-short i f) = (e ∙ sym f, refl)
+one-start (too-short h e) (fresh i f n) = absurd (omega (arith, h, i))
+one-start (fresh h e m) (too-short i f) = absurd (omega (arith, h, i))
+one-start (fresh h e m) (fresh i f n) = (e ∙ sym f, m ∙ sym n)

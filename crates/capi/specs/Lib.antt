@@ -1,1 +1,3 @@
 pub mod Packed
+pub mod Started
+pub mod RunAnswer

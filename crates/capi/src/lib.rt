@@ -1,9 +1,15 @@
-// The checker for hosts in C: include/wickpollen.h.
+// The checker and the converter for hosts in C: include/wickpollen.h.
 ghost use mathlib.Core.Path.{_≡_};
 ghost use Prim.Native.Nat.{_+_, _*_, _≤_};
 ghost use Rattle.capi.specs.Packed.{PackedAs};
+ghost use Rattle.capi.specs.Started.{StartedAs};
+ghost use Rattle.capi.specs.RunAnswer.{RunAs};
+use converter::convert_bytes;
 use faults::Checked;
 use faults::check;
+use state::State;
+use state::bytes::STATE_BYTES;
+use state::bytes::to_bytes;
 
 // Number and count in one answer: the count times 256, and the number.
 fn pack(r: Checked) -> u64
@@ -20,4 +26,34 @@ pub extern "C" fn wickpollen_check(sheet: &[u8], list: &mut [u8]) -> u64
 {
     let r = check(sheet, list);
     pack(r)
+}
+
+// Writes a fresh state at the start of the area and answers how many bytes it has; 0, and nothing is written, where the area is too short.
+#[no_mangle]
+pub extern "C" fn wickpollen_fresh(area: &mut [u8]) -> u64
+    ensures { λ w. ⌜ StartedAs (now (area .entry)) (now (area .exit)) w ⌝ }
+{
+    if area.len() < STATE_BYTES {
+        return 0;
+    }
+    let fresh = State::fresh();
+    let n = to_bytes(fresh, area);
+    n as u64
+}
+
+// Takes a part of a stream, as converter::convert_bytes does. Any number but 0 says that the stream has ended.
+#[no_mangle]
+pub extern "C" fn wickpollen_run(
+    sheet: &[u8],
+    area: &mut [u8],
+    part: &[u8],
+    ended: u64,
+    out: &mut [u8],
+    counts: &mut [u64; 3],
+) -> u64
+    ensures { λ w. ⌜ RunAs (now (sheet .entry)) (now (area .entry)) (now (area .exit)) (now (part .entry)) ended (now (out .entry)) (now (out .exit)) (now (counts .exit)) w ⌝ }
+{
+    let r = convert_bytes(sheet, area, part, ended != 0, out);
+    *counts = [r.taken as u64, r.written as u64, r.visits];
+    r.number as u64
 }

@@ -97,7 +97,7 @@ fn say_tree(s: &[u8], l: Layout, i: usize, left: usize, atom: usize, around: usi
 }
 
 // The whole expression of production q.
-pub fn say_expression(s: &[u8], l: Layout, q: usize)
+pub(crate) fn say_expression(s: &[u8], l: Layout, q: usize)
     requires { ⌜ LaidOut (now s) l ⌝ }
     requires { ⌜ RunsInside (now s) ⌝ }
     requires { ⌜ q < l .productions ⌝ }

@@ -50,7 +50,7 @@ fn say_t_fault(s: &[u8], l: Layout, m: usize, t: usize)
     say(b"): give all but one another tag");
 }
 
-fn say_production(s: &[u8], l: Layout, q: usize)
+pub(crate) fn say_production(s: &[u8], l: Layout, q: usize)
     requires { ⌜ LaidOut (now s) l ⌝ }
     requires { ⌜ q < l .productions ⌝ }
 {
@@ -61,7 +61,7 @@ fn say_production(s: &[u8], l: Layout, q: usize)
 }
 
 // A place of production q.
-fn say_place(s: &[u8], l: Layout, q: usize, p: usize)
+pub(crate) fn say_place(s: &[u8], l: Layout, q: usize, p: usize)
     requires { ⌜ LaidOut (now s) l ⌝ }
     requires { ⌜ RunsInside (now s) ⌝ }
     requires { ⌜ q < l .productions ⌝ }
@@ -220,7 +220,7 @@ fn say_entry(s: &[u8], l: Layout, list: &[u8], i: usize)
 }
 
 // The first `count` entries.
-pub fn say_all(s: &[u8], l: Layout, list: &[u8], count: usize)
+pub(crate) fn say_all(s: &[u8], l: Layout, list: &[u8], count: usize)
     requires { ⌜ LaidOut (now s) l ⌝ }
     requires { ⌜ RunsInside (now s) ⌝ }
 {

@@ -1,7 +1,8 @@
-// What people are told of a rule sheet: whether it passes, and every place to mend.
+// What people are told: of a rule sheet whether it passes and every place to mend, of a number what it means, of a schedule where it was refused.
 mod expression;
 mod faults_told;
 mod numbers;
+mod opened;
 mod symbols;
 mod words;
 
@@ -16,8 +17,9 @@ use layout::first_node_of;
 use layout::kind_of;
 use layout::layout_of;
 use layout::node_count_of;
+pub use numbers::say_meaning;
 pub use numbers::table;
-use words::say;
+pub use words::say;
 use words::say_number;
 
 // A node by its number in the sheet.
@@ -66,7 +68,7 @@ fn head(name: &[u8], number: u8, count: usize) {
         say_number(count);
     }
     say(b".\n");
-    numbers::say_meaning(number);
+    numbers::say_meaning(number as usize);
     say(b"\n");
 }
 
@@ -77,6 +79,16 @@ fn say_faults(sheet: &[u8], list: &[u8], count: usize) {
     }
     let l = layout_of(sheet);
     faults_told::say_all(sheet, l, list, count);
+}
+
+// Says which elements are open, by the numbers of their productions from the outside in, and at which place the innermost stands, in a
+// schedule of a sheet that is well-formed; of any other sheet it says nothing.
+pub fn say_open(sheet: &[u8], productions: &[u8], place: usize) {
+    if sheet::defect(sheet) > 0 {
+        return;
+    }
+    let l = layout_of(sheet);
+    opened::say_around(sheet, l, productions, place);
 }
 
 // Checks a sheet, says on standard output what was found, and answers the number of the table.

@@ -39,7 +39,7 @@ fn say_name_of(s: &[u8], l: Layout, t: usize)
 }
 
 // A start tag.
-pub fn say_tag(s: &[u8], l: Layout, t: usize)
+pub(crate) fn say_tag(s: &[u8], l: Layout, t: usize)
     requires { ⌜ LaidOut (now s) l ⌝ }
 {
     say(b"<");
@@ -50,7 +50,7 @@ pub fn say_tag(s: &[u8], l: Layout, t: usize)
 }
 
 // The next symbol of an entry.
-pub fn say_next(s: &[u8], l: Layout, x: usize)
+pub(crate) fn say_next(s: &[u8], l: Layout, x: usize)
     requires { ⌜ LaidOut (now s) l ⌝ }
 {
     match x {
@@ -61,7 +61,7 @@ pub fn say_next(s: &[u8], l: Layout, x: usize)
 }
 
 // The tags that nonterminal n's productions have.
-fn say_tags_of(s: &[u8], l: Layout, n: usize)
+pub(crate) fn say_tags_of(s: &[u8], l: Layout, n: usize)
     requires { ⌜ LaidOut (now s) l ⌝ }
 {
     let mut some = false;
@@ -79,7 +79,7 @@ fn say_tags_of(s: &[u8], l: Layout, n: usize)
 }
 
 // What the atom that is node i can be.
-pub fn say_atom(s: &[u8], l: Layout, i: usize)
+pub(crate) fn say_atom(s: &[u8], l: Layout, i: usize)
     requires { ⌜ LaidOut (now s) l ⌝ }
     requires { ⌜ i < l .nodes ⌝ }
 {

@@ -5,12 +5,12 @@ pub fn say(text: &[u8]) {
     io::write_all(STDOUT_FILENO, text);
 }
 
-pub fn say_number(n: usize) {
+pub(crate) fn say_number(n: usize) {
     io::print_decimal(STDOUT_FILENO, n as u64);
 }
 
 // 1st, 2nd, 3rd, 4th ..; an expression has at most 32 atoms.
-pub fn say_ordinal(n: usize) {
+pub(crate) fn say_ordinal(n: usize) {
     say_number(n);
     match n {
         1 | 21 | 31 => say(b"st"),

@@ -1,0 +1,17 @@
+-- Any two answers that a run for a host may have are one, but for the bytes of frames and sets that are not in use: so it is of the call over bytes,
+-- and the number and the counts are that call's own. Assumes nothing.
+use mathlib.Core.Path.{_≡_, ap, sym, _∙_}
+use mathlib.Core.List.{List, [], _∷_}
+use Prim.Native.Nat.{ℕ}
+use Rattle.converter.specs.declared.Counts.{Counts}
+use Rattle.converter.proofs.BytesLaws.{SameCounts, one-bytes}
+use Rattle.capi.specs.RunAnswer.{RunAs}
+
+pub one-run : {s b x y part : List ℕ} {ended : ℕ} {lent after after′ c d : List ℕ} {v w : ℕ} (p : RunAs s b x part ended lent after c v)
+    (q : RunAs s b y part ended lent after′ d w) → (v ≡ w) × (c ≡ d) × SameCounts x y after after′ (p .answer) (q .answer)
+one-run p q =
+    let o = one-bytes (p .as-answered) (q .as-answered) in (
+      p .number ∙ ap (λ (r : Counts). r .number) (o .counts) ∙ sym (q .number),
+      p .counted ∙ ap (λ (r : Counts). r .taken ∷ r .written ∷ r .visits ∷ []) (o .counts) ∙ sym (q .counted),
+      o,
+    )

@@ -1,0 +1,13 @@
+-- What a host in C is handed as a fresh state: its bytes at the start of the area, every other byte as lent; or nothing, where they do not fit.
+-- Assumes nothing.
+use mathlib.Core.Path.{_≡_}
+use mathlib.Core.List.{List, _++_}
+use Prim.Native.Nat.{ℕ, _≤_, _<_}
+use lib.ListN.{length, drop}
+use Rattle.state.specs.Bytes.{bytesOf}
+use Rattle.state.specs.Changes.{freshState}
+use Rattle.converter.specs.Bytes.{stateBytes}
+
+pub data StartedAs (lent after : List ℕ) : ℕ → Type 0 where
+  too-short : length lent < stateBytes → after ≡ lent → StartedAs lent after 0
+  fresh : stateBytes ≤ length lent → after ≡ bytesOf freshState ++ drop stateBytes lent → {w : ℕ} → w ≡ stateBytes → StartedAs lent after w

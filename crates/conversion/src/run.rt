@@ -1,0 +1,144 @@
+// A schedule from one descriptor converted to another, part by part, in memory that is lent: so much of the schedule, so much output.
+use crate::place::Place;
+use converter::Reply;
+use converter::convert;
+use libc::STDERR_FILENO;
+use state::State;
+
+// Where a conversion stands between two calls of the converter: the last number, how many bytes at the front of the lent memory are not
+// taken yet, how many bytes were written in all, whether the schedule could not be read or the output not written, and whether it goes on.
+pub struct Standing {
+    pub number: usize,
+    pub held: usize,
+    pub written: u64,
+    pub place: Place,
+    pub unread: bool,
+    pub unwritten: bool,
+    pub going: bool,
+    pub state: State,
+}
+
+// More is to come.
+const MORE: usize = 16;
+
+// The room is full.
+const FULL: usize = 17;
+
+// So many bytes between two lines of progress.
+const STEP: u64 = 8388608;
+
+impl Standing {
+    fn fresh() -> Standing {
+        let place = Place::start();
+        let state = State::fresh();
+        Standing {
+            number: MORE,
+            held: 0,
+            written: 0,
+            place: place,
+            unread: false,
+            unwritten: false,
+            going: true,
+            state: state,
+        }
+    }
+
+    // A file could not be read or written: nothing more is done.
+    fn stopped(self, unread: bool) -> Standing {
+        let mut next = self;
+        next.unread = unread;
+        next.unwritten = !unread;
+        next.going = false;
+        next
+    }
+
+    // After a call whose output was written out: the place past what was taken, and how many bytes are left.
+    fn answered(self, r: Reply, place: Place, held: usize) -> Standing {
+        let state = r.state;
+        let number = r.number;
+        let written = r.written;
+        Standing {
+            number: number,
+            held: held,
+            written: std::num::wrapping_add_u64(self.written, written as u64),
+            place: place,
+            unread: false,
+            unwritten: false,
+            going: (number == MORE) | ((number == FULL) & (written > 0)),
+            state: state,
+        }
+    }
+}
+
+// After a call whose output was written out: what was taken is passed, and what was not is moved to the front.
+fn go_on(part: &mut [u8], held: usize, s: Standing, r: Reply) -> Standing {
+    let taken = files::within(r.taken, part);
+    let place = s.place;
+    let past = place.after(&part[..taken]);
+    let left = files::move_to_front(part, taken, held);
+    s.answered(r, past, left)
+}
+
+// One call of the converter: reads on behind what is held, converts, writes the output out, and moves what was not taken to the front.
+// That is a begun token as a rule, and more only where the room was too short for the output of all.
+fn turn(
+    sheet: &[u8],
+    from: i32,
+    to: i32,
+    part: &mut [u8],
+    out: &mut [u8],
+    s: Standing,
+) -> Standing {
+    let filled = files::fill(from, part, s.held);
+    if filled.failed {
+        return s.stopped(true);
+    }
+    let held = filled.held;
+    let state = s.state;
+    let r = convert(sheet, state, &part[..held], filled.ended, out);
+    let written = files::within(r.written, out);
+    if !io::write_all(to, &out[..written]) {
+        return s.stopped(false);
+    }
+    go_on(part, held, s, r)
+}
+
+// Says how far it is, at every step, to whoever watches.
+fn tell_progress(watched: bool, before: u64, now: u64) {
+    if !watched | (now / STEP == before / STEP) {
+        return;
+    }
+    io::write_all(STDERR_FILENO, b"\r");
+    io::print_decimal(STDERR_FILENO, now / 1048576);
+    io::write_all(STDERR_FILENO, b" MB converted");
+}
+
+fn end_progress(watched: bool, now: u64) {
+    if watched & (now >= STEP) {
+        io::write_all(STDERR_FILENO, b"\n");
+    }
+}
+
+// Converts until the converter answers anything but "more is to come" or "the room is full", or a file fails. A proved loop has to end, and
+// nothing says that a file does: so the turns are counted down from a number that no run uses up.
+pub fn run(
+    sheet: &[u8],
+    from: i32,
+    to: i32,
+    part: &mut [u8],
+    out: &mut [u8],
+    watched: bool,
+) -> Standing {
+    let mut s = Standing::fresh();
+    let mut turns = u64::MAX;
+    while turns > 0 && s.going {
+        let before = s.place;
+        s = turn(sheet, from, to, part, out, s);
+        let after = s.place;
+        tell_progress(watched, before.offset, after.offset);
+        turns -= 1;
+    }
+    let last = s.place;
+    end_progress(watched, last.offset);
+    s
+}

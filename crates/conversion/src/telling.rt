@@ -1,0 +1,130 @@
+// What people are told of a conversion: how much was done, or what was refused, where, and inside which open elements.
+ghost use mathlib.Core.Path.{_≡_};
+ghost use lib.ListN.{length};
+use crate::place::Place;
+use crate::run::Standing;
+use libc::STDOUT_FILENO;
+use report::say;
+use state::State;
+
+// The most bytes that are shown of what was refused: as many as a token may have.
+const SHOWN: usize = 32;
+
+fn say_number(n: u64) {
+    io::print_decimal(STDOUT_FILENO, n);
+}
+
+// A byte as it is where it can be seen, else by its number.
+fn say_byte(b: u8) {
+    if (b < 0x20) | (b > 0x7E) {
+        say(b"\\x");
+        io::print_hex(STDOUT_FILENO, b as u64, 2);
+        return;
+    }
+    let one = [b];
+    say(&one);
+}
+
+fn say_bytes(bytes: &[u8]) {
+    let mut i = 0;
+    while i < bytes.len() {
+        say_byte(bytes[i]);
+        i += 1;
+    }
+}
+
+// The first bytes of what is left of the schedule.
+fn say_front(bytes: &[u8]) {
+    if bytes.len() == 0 {
+        say(b"The file ends there.\n");
+        return;
+    }
+    say(b"There stands: ");
+    let n = files::within(SHOWN, bytes);
+    say_bytes(&bytes[..n]);
+    if n < bytes.len() {
+        say(b" ..");
+    }
+    say(b"\n");
+}
+
+fn say_place(place: Place) {
+    say(b"Refused after ");
+    say_number(place.offset);
+    say(b" bytes, at line ");
+    say_number(place.line);
+    say(b", column ");
+    say_number(place.column);
+    say(b". ");
+}
+
+// The productions of the open elements, from the outside in.
+fn productions_of(z: State) -> [u8; State::DEPTH]
+    ensures { λ r. ⌜ 32 ≡ length r ⌝ }
+{
+    let frames = z.frames;
+    let mut productions = [0u8; State::DEPTH];
+    let mut i = 0;
+    while i < State::DEPTH {
+        let frame = frames[i];
+        productions[i] = frame.production;
+        i += 1;
+    }
+    productions
+}
+
+fn say_open_elements(sheet: &[u8], z: State) {
+    let productions = productions_of(z);
+    let depth = files::within(z.depth, &productions);
+    let top = z.top();
+    report::say_open(sheet, &productions[..depth], top.place as usize);
+}
+
+// A token's output that the whole room does not hold: what the table's words for hosts leave open.
+fn say_of_room(number: usize) {
+    if number == 17 {
+        say(
+            b"Here the room is 65536 bytes, and all of it was free: the sheet prints more than that at one token. Let it print less there.\n",
+        );
+    }
+}
+
+// A schedule that was refused, with the bytes left from the refused token on.
+pub fn tell_refusal(sheet: &[u8], schedule: &[u8], s: Standing, left: &[u8]) {
+    let number = s.number;
+    let place = s.place;
+    let state = s.state;
+    say(schedule);
+    say(b": number ");
+    say_number(number as u64);
+    say(b".\n");
+    report::say_meaning(number);
+    say(b"\n");
+    say_of_room(number);
+    say_place(place);
+    say_front(left);
+    say_open_elements(sheet, state);
+}
+
+// A schedule that was converted.
+pub fn tell_done(schedule: &[u8], listing: &[u8], s: Standing) {
+    let place = s.place;
+    let state = s.state;
+    say(schedule);
+    say(b": converted into ");
+    say(listing);
+    say(b".\nBytes read: ");
+    say_number(place.offset);
+    say(b". Bytes written: ");
+    say_number(s.written);
+    say(b". Visits: ");
+    say_number(state.count);
+    say(b".\n");
+}
+
+// After whatever went wrong.
+pub fn tell_untouched(listing: &[u8]) {
+    say(b"Nothing was put in place: ");
+    say(listing);
+    say(b" is as it was.\n");
+}

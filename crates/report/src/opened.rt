@@ -1,0 +1,65 @@
+// Where in a schedule something was refused: the elements open there, and what the innermost of them may hold.
+ghost use Rattle.layout.specs.LaidOut.{LaidOut};
+ghost use Rattle.trees.specs.Parsed.{RunsInside};
+use crate::expression::say_expression;
+use crate::faults_told::say_place;
+use crate::faults_told::say_production;
+use crate::symbols::say_tag;
+use crate::symbols::say_tags_of;
+use crate::words::say;
+use layout::Layout;
+use layout::byte_at;
+use layout::tag_number_of;
+
+// The tag of production q.
+fn say_element(s: &[u8], l: Layout, q: usize)
+    requires { ⌜ LaidOut (now s) l ⌝ }
+{
+    if q < l.productions {
+        say_tag(s, l, tag_number_of(s, l, q));
+    }
+}
+
+// What production q may hold, and the place in it that was reached.
+fn say_content(s: &[u8], l: Layout, q: usize, place: usize)
+    requires { ⌜ LaidOut (now s) l ⌝ }
+    requires { ⌜ RunsInside (now s) ⌝ }
+{
+    if q >= l.productions {
+        return;
+    }
+    say_production(s, l, q);
+    say(b" holds ");
+    say_expression(s, l, q);
+    say(b"; this is ");
+    say_place(s, l, q, place);
+    say(b".\n");
+}
+
+fn say_elements(s: &[u8], l: Layout, productions: &[u8])
+    requires { ⌜ LaidOut (now s) l ⌝ }
+{
+    say(b"Open there, from the outside in:");
+    let mut i = 0;
+    while i < productions.len() {
+        say(b" ");
+        say_element(s, l, byte_at(productions, i));
+        i += 1;
+    }
+    say(b"\n");
+}
+
+// The elements, and where the innermost stands; or, where none is open, which the root is.
+pub(crate) fn say_around(s: &[u8], l: Layout, productions: &[u8], place: usize)
+    requires { ⌜ LaidOut (now s) l ⌝ }
+    requires { ⌜ RunsInside (now s) ⌝ }
+{
+    if productions.len() == 0 {
+        say(b"No element is open there; the root of a schedule is ");
+        say_tags_of(s, l, l.start);
+        say(b".\n");
+        return;
+    }
+    say_elements(s, l, productions);
+    say_content(s, l, byte_at(productions, productions.len() - 1), place);
+}
