@@ -394,10 +394,10 @@ impl Run {
             state: before,
         };
         let dry = first.token(s, l, part, e, out, false);
+        let after = dry.state;
         if dry.number != 0 {
             return self.refuse(dry.number);
         }
-        let after = dry.state;
         if MOST_VISITS < after.count {
             return self.refuse(30);
         }

@@ -16,15 +16,15 @@ token-requires c κs =
 returns : tie.Need-returns
 returns c =
     let at-if1 = c .before in
-    let at-token = at-if1 .before .before .before .before in
+    let at-token = at-if1 .before .before .before .before .before in
     let start = at-token .before .before .before .before .before .before in
     take-refused (start .pre .1 .1 .1 .0) (start .pre .1 .1 .1 .1) _ _ (at-token .token .ensures) (at-if1 .if1 .taken) _ (c .refuse .ensures)
 
 returns-2 : tie.Need-returns-2
 returns-2 c =
     let at-if2 = c .before in
-    let at-if1 = at-if2 .before .before .before in
-    let at-token = at-if1 .before .before .before .before in
+    let at-if1 = at-if2 .before .before in
+    let at-token = at-if1 .before .before .before .before .before in
     let start = at-token .before .before .before .before .before .before in
     take-counted (start .pre .1 .1 .1 .0) (start .pre .1 .1 .1 .1) _ _ (at-token .token .ensures) (at-if1 .if1 .left) (omega (arith, at-if2 .if2 .taken)) _ (c .refuse2 .ensures)
 
@@ -38,8 +38,8 @@ returns-3 : tie.Need-returns-3
 returns-3 c =
     let at-if3 = c .before in
     let at-if2 = at-if3 .before .before in
-    let at-if1 = at-if2 .before .before .before in
-    let at-token = at-if1 .before .before .before .before in
+    let at-if1 = at-if2 .before .before in
+    let at-token = at-if1 .before .before .before .before .before in
     let start = at-token .before .before .before .before .before .before in
     take-full (start .pre .1 .1 .1 .0) (start .pre .1 .1 .1 .1) _ _ (at-token .token .ensures) (at-if1 .if1 .left) (omega (arith, at-if2 .if2 .left)) (omega (arith, at-if3 .if3 .taken, (start .pre .1 .1 .1 .0), ap length ((at-token .token .ensures) .dry refl))) _ (c .refuse3 .ensures)
 
@@ -72,8 +72,8 @@ returns-4 c =
     let at-token2 = c .before .before .before in
     let at-if3 = at-token2 .before .before in
     let at-if2 = at-if3 .before .before in
-    let at-if1 = at-if2 .before .before .before in
-    let at-token = at-if1 .before .before .before .before in
+    let at-if1 = at-if2 .before .before in
+    let at-token = at-if1 .before .before .before .before .before in
     let start = at-token .before .before .before .before .before .before in
     take-done (start .pre .1 .1 .1 .0) (start .pre .1 .1 .1 .1) _ _ (at-token .token .ensures) (at-if1 .if1 .left) (omega (arith, at-if2 .if2 .left)) (omega (arith, at-if3 .if3 .left, (start .pre .1 .1 .1 .0), ap length ((at-token .token .ensures) .dry refl))) _ _ (at-token2 .token2 .ensures) _ refl
 
