@@ -12,9 +12,9 @@ use lib.Dec.{eqb, ltb}
 use Rattle.lent.specs.Put.{PutAs}
 use Rattle.programs.specs.Limits.{second}
 use Rattle.sheet.specs.Sheet.{Sheet, IsSheet}
-use Rattle.lent.proofs.Laws.{put-dry}
+use Rattle.lent.proofs.Laws.{put-dry, nothing-put}
 use Rattle.output.specs.Escape.{Piece, start, end, character, escaped, render}
-use Rattle.output.proofs.Writing.{put-then, same-bytes}
+use Rattle.output.proofs.Writing.{put-then, same-bytes, render-append}
 use Rattle.runs.specs.Options.{bind}
 use Rattle.runs.specs.Execute.{Effect}
 use Rattle.runs.specs.Visits.{programsOf, performed, tagName, whileOn, Env as Running, Saved as Kept, saved, visited, echoed, returned}
@@ -33,11 +33,10 @@ use Rattle.visits.specs.Ran.{Comes as Came}
 use Rattle.visits.specs.Performed.{PerformedAs}
 use Rattle.visits.specs.declared.Performed.{Performed}
 use Rattle.visits.proofs.Printing.{escaped-short}
-use Rattle.visits.proofs.Running.{pen-at, render-append}
+use Rattle.visits.proofs.Running.{pen-at}
 use Rattle.visits.proofs.Theorems.{first-visit-recalls-nothing}
 use Rattle.acts.specs.declared.Acted.{Acted}
 use Rattle.acts.specs.Acted.{Done, Comes, EntersAs, LeavesAs, ReadsAs}
-use Rattle.acts.proofs.Echoing.{nothing-put}
 use Rattle.acts.specs.Visited.{programFor, recalledIn, FieldFound, VisitedAs, EchoedAs}
 
 -- ---- a visit: its program performed

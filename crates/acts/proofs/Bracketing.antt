@@ -14,10 +14,11 @@ use lib.Dec.{eqb, ltb}
 use lib.ListN.{length, getD, drop, replicate}
 use lib.Seq.{getD-set-same, drop-length}
 use Rattle.lent.specs.Put.{PutAs}
+use Rattle.lent.proofs.Laws.{nothing-put}
 use Rattle.expressions.specs.Words.{Bracket, opening, closing}
 use Rattle.sheet.specs.Sheet.{Sheet, IsSheet}
 use Rattle.output.specs.Escape.{Piece, render}
-use Rattle.output.proofs.Writing.{put-then, same-bytes}
+use Rattle.output.proofs.Writing.{put-then, same-bytes, render-append}
 use Rattle.runs.specs.Options.{bind}
 use Rattle.runs.specs.Execute.{Effect}
 use Rattle.runs.specs.Visits.{programsOf, performed, Env as Running, saved, visited, returned}
@@ -34,13 +35,12 @@ use Rattle.state.specs.declared.State.{State}
 use Rattle.state.proofs.Meant.{inside-open, meaning-saved, meaning-restored, shaped-env, shaped-saved}
 use Rattle.visits.specs.Written.{Pen}
 use Rattle.visits.specs.Ran.{Comes as Came}
-use Rattle.visits.proofs.Running.{pen-at, render-append}
+use Rattle.visits.proofs.Running.{pen-at}
 use Rattle.ways.specs.Held.{codeOf, codes, LineIs}
 use Rattle.ways.specs.declared.Line.{Line}
 use Rattle.acts.specs.declared.Acted.{Acted}
 use Rattle.acts.specs.Acted.{Done, Comes, visitReach, BracketsAs}
 use Rattle.acts.specs.Visited.{VisitedAs, Room, setsAfter, NodeAs, BracketAs}
-use Rattle.acts.proofs.Echoing.{nothing-put}
 use Rattle.acts.proofs.Acting.{after, state-after, back, back-env, back-shaped, recalls}
 
 -- ---- an opening bracket

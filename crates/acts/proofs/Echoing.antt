@@ -7,14 +7,15 @@ use Prim.Native.Nat.{ℕ, _+_, _≤_, _<_}
 use native.Mathlib.Omega.{arith}
 use lib.ListN.{length, length-append}
 use Rattle.lent.specs.Put.{PutAs}
-use Rattle.lent.proofs.Laws.{put-none}
+use Rattle.lent.proofs.Laws.{nothing-put}
 use Rattle.layout.specs.Layout.{tagCount}
 use Rattle.layout.specs.Records.{tagNumberOf}
 use Rattle.layout.specs.LaidOut.{LaidOut}
 use Rattle.layout.specs.declared.Layout.{Layout}
 use Rattle.sheet.specs.Defect.{WellFormed}
+use Rattle.sheet.specs.Tags.{TagAt}
 use Rattle.sheet.specs.Sheet.{Sheet, IsSheet}
-use Rattle.sheet.proofs.SheetLaws.{is-sheet}
+use Rattle.sheet.proofs.SheetLaws.{is-sheet, from-counted}
 use Rattle.output.specs.Escape.{render, startTag, endTag}
 use Rattle.output.proofs.Writing.{same-bytes}
 use Rattle.runs.specs.Execute.{nameOf}
@@ -23,12 +24,8 @@ use Rattle.runs.specs.Visits.{grammar, tagName, whileOn}
 use Rattle.visits.specs.Written.{Pen, Written, tagText, NameAt, TagOf}
 use Rattle.visits.specs.Ran.{mostPrinted}
 use Rattle.visits.proofs.Performing.{sources}
-use Rattle.runs.proofs.SheetFits.{names-counted}
 use Rattle.acts.specs.Visited.{tagPiece, EchoedAs}
 use Rattle.acts.proofs.Fields.{rule-of}
-
-pub nothing-put : (write : Bool) (lent : List ℕ) (at : ℕ) → PutAs write lent at [] lent at
-nothing-put write lent at = record { next = omega arith; left = sym (put-none write lent at) }
 
 tag-short : (ending : Bool) (n : List ℕ) → length n ≤ 15 → length (tagText ending n) ≤ 64
 tag-short false n h = omega (arith, length-append n (62 ∷ []))
@@ -43,7 +40,7 @@ module _ (s : List ℕ) (l : Layout) (L : LaidOut s l) (q : ℕ) (h : q < l .pro
   name-there a y t e =
       let u = rule-of s l L q h a y in
       let same : tagOf (grammar a) q ≡ t = u .tag-is ∙ u .at .production-is .tag-is ∙ sym e in
-      let few : t < length (a .names) = omega (arith, y .well-formed .productions .each q (omega (arith, L .layout-is .productions-is .is)) .tag, names-counted s 0 (tagCount s) (a .names) (y .names-are), e) in
+      let few : t < length (a .names) = omega (arith, y .well-formed .productions .each q (omega (arith, L .layout-is .productions-is .is)) .tag, from-counted (TagAt s) 0 (tagCount s) (a .names) (y .names-are), e) in
       subst (λ (k : ℕ). NameAt s t (nameOf (a .names) k)) (sym same) (sources s l L a y .names-are t few)
 
   pub tag-echoed : WellFormed s → on ≡ true → (t : ℕ) → t ≡ tagNumberOf s q → (r : ℕ) (d : List ℕ) → Written mostPrinted (TagOf s t ending) p r d → EchoedAs s q ending on p r d

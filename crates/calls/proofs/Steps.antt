@@ -16,7 +16,8 @@ use Rattle.tokens.specs.declared.Answer.the-variants.{Token, Begun, Bad, Long}
 use Rattle.tokens.specs.Tokens.{front, Means}
 use Rattle.tokens.specs.Stream.{Reads}
 use Rattle.tokens.proofs.Reading.{begun-none}
-use Rattle.output.specs.Escape.{Piece, written, render}
+use Rattle.output.specs.Escape.{Piece, render}
+use Rattle.output.proofs.Writing.{render-append}
 use Rattle.sheet.specs.Sheet.{Sheet}
 use Rattle.runs.specs.Machine.{Control, before, inside, after, State, took, refused}
 use Rattle.runs.specs.Spells.{stepToken, TokenOutcome, through, onward-token, runTokens}
@@ -32,10 +33,6 @@ RunToken = Rattle.runs.specs.Spells.Token
 
 abbrev pub RunAnswer : Type 0
 RunAnswer = Rattle.runs.specs.Machine.Answer
-
-render-append : (p q : List Piece) → render (p ++ q) ≡ render p ++ render q
-render-append [] q = refl
-render-append (x ∷ p) q = ap (λ (l : List ℕ). written x ++ l) (render-append p q) ∙ sym (append-assoc (written x) (render p) (render q))
 
 abbrev pub outOf : State → List Piece
 outOf z = z .store .env .out

@@ -16,7 +16,7 @@ fn goes_on(b: u8) -> bool {
 
 impl Place {
     // Before the first byte.
-    pub fn start() -> Place {
+    pub(crate) fn start() -> Place {
         Place {
             offset: 0,
             line: 1,
@@ -49,7 +49,7 @@ impl Place {
     }
 
     // Past some bytes.
-    pub fn after(self, bytes: &[u8]) -> Place {
+    pub(crate) fn after(self, bytes: &[u8]) -> Place {
         let mut place = self;
         let mut i = 0;
         while i < bytes.len() {

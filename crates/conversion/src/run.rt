@@ -121,7 +121,7 @@ fn end_progress(watched: bool, now: u64) {
 
 // Converts until the converter answers anything but "more is to come" or "the room is full", or a file fails. A proved loop has to end, and
 // nothing says that a file does: so the turns are counted down from a number that no run uses up.
-pub fn run(
+pub(crate) fn run(
     sheet: &[u8],
     from: i32,
     to: i32,

@@ -90,7 +90,7 @@ fn say_of_room(number: usize) {
 }
 
 // A schedule that was refused, with the bytes left from the refused token on.
-pub fn tell_refusal(sheet: &[u8], schedule: &[u8], s: Standing, left: &[u8]) {
+pub(crate) fn tell_refusal(sheet: &[u8], schedule: &[u8], s: Standing, left: &[u8]) {
     let number = s.number;
     let place = s.place;
     let state = s.state;
@@ -107,7 +107,7 @@ pub fn tell_refusal(sheet: &[u8], schedule: &[u8], s: Standing, left: &[u8]) {
 }
 
 // A schedule that was converted.
-pub fn tell_done(schedule: &[u8], listing: &[u8], s: Standing) {
+pub(crate) fn tell_done(schedule: &[u8], listing: &[u8], s: Standing) {
     let place = s.place;
     let state = s.state;
     say(schedule);
@@ -123,7 +123,7 @@ pub fn tell_done(schedule: &[u8], listing: &[u8], s: Standing) {
 }
 
 // After whatever went wrong.
-pub fn tell_untouched(listing: &[u8]) {
+pub(crate) fn tell_untouched(listing: &[u8]) {
     say(b"Nothing was put in place: ");
     say(listing);
     say(b" is as it was.\n");

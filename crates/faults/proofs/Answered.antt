@@ -20,7 +20,6 @@ use Rattle.lent.specs.Put.{put}
 use Rattle.lent.proofs.Laws.{put-dry, put-all}
 use Rattle.layout.specs.Layout.{tagCount}
 use Rattle.trees.specs.GrammarAt.{GrammarIs}
-use Rattle.sheet.specs.Defect.{WellFormed, DefectIs, well-formed, its-size, its-sections, a-tag, a-production, a-tree, a-program, not-grounded}
 use Rattle.sheet.specs.Sheet.{Sheet, grammarOf, IsSheet}
 use Rattle.sheet.proofs.SheetLaws.{numbered-productions, sheet-grammar}
 use Rattle.faults.specs.Part.{AllPut, NumberBy, some-T, only-S, neither}
@@ -121,14 +120,3 @@ module _ {s lent mid : List ℕ} {e : Ends} {a : Sheet} (i : IsSheet s a) (dry :
     answer-8-or-9 (some-T z) q = let b = a-t-fault z in answer (t-fault {b = b .0} (b .1) fits written)
     answer-8-or-9 (only-S t z) q = answer (s-faults-only (some-listed z) (keeps-t t) fits written)
     answer-8-or-9 (neither t z) q = absurd (q refl)
-
--- a sheet of number 0 is well-formed
-pub no-defect : {s : List ℕ} {d : ℕ} → DefectIs s d → d ≡ 0 → WellFormed s
-no-defect (well-formed w) e = w
-no-defect (its-size h) e = absurd (omega (arith, e))
-no-defect (its-sections z h) e = absurd (omega (arith, e))
-no-defect (a-tag z y h) e = absurd (omega (arith, e))
-no-defect (a-production z y x h) e = absurd (omega (arith, e))
-no-defect (a-tree z y x v h) e = absurd (omega (arith, e))
-no-defect (a-program z y x v u h) e = absurd (omega (arith, e))
-no-defect (not-grounded z y x v u t h) e = absurd (omega (arith, e))

@@ -3,21 +3,21 @@
 use mathlib.Core.Path.{_≡_, refl, sym, ap, subst, _∙_}
 use mathlib.Core.Bool.{Bool, true, false}
 use mathlib.Core.List.{List, [], _∷_, _++_}
-use Prim.Native.Nat.{ℕ, zero, suc, _+_, _-_, _*_, _≤_, _<_}
+use Prim.Native.Nat.{ℕ, suc, _+_, _-_, _*_, _≤_, _<_}
 use native.Mathlib.Nat.{add-zero, zero-add, mul-suc}
 use native.Mathlib.Omega.{arith}
 use native.Mathlib.Numerals.{add-one}
 use lib.Dec.{leb}
 use lib.ListN.{length, length-append}
 use borrow.Author.Tests.{le-leb, lt-leb}
-use Rattle.expressions.specs.Grammar.{Production, Nth, onlyIf, tagsOf}
+use Rattle.expressions.specs.Grammar.{Production, contentOf, onlyIf, tagsOf}
 use Rattle.expressions.specs.Expr.{Content, places, atomsOf}
 use Rattle.expressions.specs.Decide.{count}
 use Rattle.expressions.specs.FaultList.{listBytes}
 use Rattle.expressions.specs.Listed.{gather, alike, isMany, sFaultsOf, sFaultsFrom}
 use Rattle.expressions.proofs.Room.{bytes-append}
 use Rattle.lent.specs.Put.{put, PutAs}
-use Rattle.lent.proofs.Laws.{put-append, put-none}
+use Rattle.lent.proofs.Laws.{put-append, put-none, nothing-put}
 use Rattle.layout.specs.Layout.{productionCount}
 use Rattle.layout.specs.LaidOut.{LaidOut}
 use Rattle.layout.specs.declared.Layout.{Layout}
@@ -25,8 +25,7 @@ use Rattle.trees.specs.GrammarAt.{GrammarIs}
 use Rattle.trees.specs.Answers.{AlikeIs, ManyIs, AtomsIs}
 use Rattle.trees.specs.Symbol.{nextOf}
 use Rattle.trees.specs.declared.Symbol.{Symbol}
-use Rattle.trees.proofs.Grammars.{length-grammar, nth-there, alike-of-grammar}
-use Rattle.expressions.specs.Grammar.{contentOf}
+use Rattle.trees.proofs.Grammars.{length-grammar, nth-there, content-nth, alike-of-grammar}
 use Rattle.faults.specs.Part.{PartPut}
 
 -- a part whose entries a test lets in or not
@@ -35,7 +34,7 @@ module _ {s : List ℕ} {write : Bool} {lent : List ℕ} {at : ℕ} where
   no-entry test e h = record {
     low = omega arith;
     high = omega arith;
-    is = λ g i. subst (λ (b : Bool). PutAs write lent at (listBytes (onlyIf b e)) lent at) (sym (h g i)) (record { next = omega arith; left = sym (put-none write lent at) });
+    is = λ g i. subst (λ (b : Bool). PutAs write lent at (listBytes (onlyIf b e)) lent at) (sym (h g i)) (nothing-put write lent at);
   }
 
   pub an-entry : {after : List ℕ} {r : ℕ} (test : List Production → Bool) (a b c d : ℕ) → ((g : List Production) → GrammarIs s g → test g ≡ true) →
@@ -119,11 +118,6 @@ module _ {s : List ℕ} {m t r : ℕ} (a : AlikeIs s m t r) where
 -- the productions by number
 pub there : {s : List ℕ} {l : Layout} {q : ℕ} → LaidOut s l → q < l .productions → q < productionCount s
 there d h = omega (arith, d .layout-is .productions-is .is)
-
-content-nth : (g : List Production) (q : ℕ) (d : Production) → Nth g q d → contentOf g q ≡ d .content
-content-nth [] q d n = absurd n
-content-nth (c ∷ g) zero d n = ap (λ (z : Production). z .content) (sym n)
-content-nth (c ∷ g) (suc q) d n = content-nth g q d n
 
 module _ {s : List ℕ} {q : ℕ} (there : q < productionCount s) where
   pub many-in : {p : ℕ} {x : Symbol} {r : Bool} → ManyIs s q p x r → (g : List Production) → GrammarIs s g → r ≡ isMany (count (tagsOf g) (contentOf g q) p (nextOf x))

@@ -11,6 +11,7 @@ use Rattle.expressions.specs.Expr.{Content}
 use Rattle.expressions.specs.Words.{Bracket}
 use Rattle.expressions.specs.Grammar.{Production, Next, tagsOf, contentOf}
 use Rattle.expressions.proofs.Rule.{Rest}
+use Rattle.trees.proofs.Grammars.{content-at}
 use Rattle.sheet.specs.Sheet.{Sheet, IsSheet}
 use Rattle.sheet.proofs.SheetLaws.{sheet-grammar}
 use Rattle.runs.specs.Lookup.{produces}
@@ -21,7 +22,7 @@ use Rattle.runs.specs.Machine.{Open, inside}
 use Rattle.runs.proofs.Ways.{GoesTo, found-atom, found-end}
 use Rattle.runs.proofs.Nodes.{atom-nodes, end-nodes, through-more}
 use Rattle.fit.specs.RunFits.{Chain}
-use Rattle.fit.proofs.Frames.{deep, content-there, produces-inv}
+use Rattle.fit.proofs.Frames.{deep, produces-inv}
 
 -- the innermost open element is of some nonterminal
 pub of-nonterminal : (g : List Production) (n : ℕ) (o : Open) (os : List Open) → Chain g n o os → (m : ℕ) × T (produces g m (o .production))
@@ -41,7 +42,7 @@ module _ {s : List ℕ} {a : Sheet} (i : IsSheet s a) (o : Open) (os : List Open
 
   module _ (kss : List (List Saved)) (k : KeptAt g (inside o os) kss) (n : ℕ) (p : T (produces g n (o .production))) where
     shallow : deepest C ≤ 12
-    shallow = deep s (o .production) C (content-there s g (sheet-grammar i) (o .production) (produces-inv s g (sheet-grammar i) (o .production) n p .0))
+    shallow = deep s (o .production) C (content-at s g (sheet-grammar i) (o .production) (produces-inv s g (sheet-grammar i) (o .production) n p .0))
 
     pub way-balanced : (x : Next) (w : Way) → atomWay (tagsOf g) C (o .place) x ≡ some w →
         (ns : List ℕ) × (ns′ : List ℕ) × (through-nodes 12 (w .string) ns ≡ some ns′) × (length (getD kss 0 []) ≡ suc (length ns))

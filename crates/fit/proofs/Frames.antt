@@ -21,7 +21,7 @@ use Rattle.layout.specs.Layout.{productionCount, start}
 use Rattle.layout.specs.Records.{nonterminalOf, nodeCountOf, firstNodeOf}
 use Rattle.trees.specs.Trees.{TreeAt, ContentAt, Trees}
 use Rattle.trees.specs.GrammarAt.{GrammarFrom, GrammarIs}
-use Rattle.trees.proofs.Grammars.{length-grammar}
+use Rattle.trees.proofs.Grammars.{length-grammar, content-at}
 use Rattle.trees.proofs.Unique.{nodes-pos}
 use Rattle.runs.specs.Lookup.{produces}
 use Rattle.runs.specs.Nodes.{openNodes, deepest}
@@ -42,27 +42,21 @@ produces-below (d ∷ g) n zero h = omega arith
 produces-below (d ∷ g) n (suc q) h = omega (arith, produces-below g n q h)
 
 module _ (s : List ℕ) where
-  by-record : (q : ℕ) (g : List Production) → GrammarFrom s q g → (i k : ℕ) → k ≡ q + i → k < productionCount s →
-      ContentAt s k (contentOf g i) × ((n : ℕ) → produces g n i ≡ eqb n (nonterminalOf s k))
-  by-record q [] h i k e b = absurd (omega arith)
-  by-record q (d ∷ g) h zero k e b =
-      let z : q ≡ k = omega arith in (
-        subst (λ (y : ℕ). ContentAt s y (d .content)) z (h .0 .content-is),
-        λ n. ap (eqb n) (h .0 .nonterminal-is ∙ ap (nonterminalOf s) z),
-      )
-  by-record q (d ∷ g) h (suc i) k e b = by-record (suc q) g (h .1) i k (omega arith) b
+  by-record : (n q : ℕ) (g : List Production) → GrammarFrom s q g → (i k : ℕ) → k ≡ q + i → k < productionCount s → produces g n i ≡ eqb n (nonterminalOf s k)
+  by-record n q [] h i k e b = absurd (omega arith)
+  by-record n q (d ∷ g) h zero k e b =
+      let z : q ≡ k = omega arith in
+      ap (eqb n) (h .0 .nonterminal-is ∙ ap (nonterminalOf s) z)
+  by-record n q (d ∷ g) h (suc i) k e b = by-record n (suc q) g (h .1) i k (omega arith) b
 
   module _ (g : List Production) (γ : GrammarIs s g) (q : ℕ) where
-    pub content-there : q < productionCount s → ContentAt s q (contentOf g q)
-    content-there b = by-record 0 g γ q q (omega arith) b .0
-
     pub produces-there : q < productionCount s → (n : ℕ) → n ≡ nonterminalOf s q → T (produces g n q)
-    produces-there b n e = subst T (sym (by-record 0 g γ q q (omega arith) b .1 n ∙ eq-eqb n (nonterminalOf s q) e)) tt
+    produces-there b n e = subst T (sym (by-record n 0 g γ q q (omega arith) b ∙ eq-eqb n (nonterminalOf s q) e)) tt
 
     pub produces-inv : (n : ℕ) → T (produces g n q) → (q < productionCount s) × (n ≡ nonterminalOf s q)
     produces-inv n h =
         let b : q < productionCount s = omega (arith, produces-below g n q h, length-grammar s g γ) in
-        (b, eqb-true n (nonterminalOf s q) (T-true (eqb n (nonterminalOf s q)) (subst T (by-record 0 g γ q q (omega arith) b .1 n) h)))
+        (b, eqb-true n (nonterminalOf s q) (T-true (eqb n (nonterminalOf s q)) (subst T (by-record n 0 g γ q q (omega arith) b) h)))
       where
         T-true : (b : Bool) → T b → b ≡ true
         T-true true h = refl
@@ -84,7 +78,7 @@ module _ (s : List ℕ) where
   spot-is w q p r b f =
       record {
         few = spot-few (w .each q b .0) p q r (w .each q b .1) (f (w .each q b .0) (w .each q b .1));
-        is = λ g γ. f (contentOf g q) (content-there g γ q b);
+        is = λ g γ. f (contentOf g q) (content-at s g γ q b);
       }
 
   module _ (w : Trees s) (q p : ℕ) (b : q < productionCount s) where

@@ -6,4 +6,3 @@ pub mod Reached
 pub mod Steps
 pub mod RunsFit
 pub mod Balanced
-pub mod Sizes

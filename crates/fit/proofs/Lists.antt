@@ -8,7 +8,7 @@ use lib.ListN.{length, getD, take, drop}
 use lib.Seq.{getD-take}
 use Rattle.programs.specs.Limits.{Value}
 use Rattle.state.specs.Meaning.{All, none, more}
-use Rattle.state.proofs.Written.{all-more}
+use Rattle.state.proofs.Laws.{all-more}
 
 pub all-at : {X : Type 0} {P : X → Type 0} (l : List X) (i : ℕ) (d : X) → i < length l → All P l → P (getD l i d)
 all-at [] i d h a = absurd (omega arith)

@@ -15,7 +15,7 @@ use Rattle.tells.specs.Tells.{Tells}
 use Rattle.tells.proofs.Laws.{one-telling}
 use Rattle.trees.specs.Trees.{Trees}
 use Rattle.trees.specs.GrammarAt.{GrammarIs}
-use Rattle.trees.proofs.Grammars.{grammar-is}
+use Rattle.trees.proofs.Grammars.{grammar-is, content-at}
 use Rattle.sheet.specs.Sheet.{Sheet, IsSheet, grammarOf}
 use Rattle.sheet.proofs.SheetLaws.{sheet-grammar}
 use Rattle.runs.specs.Lookup.{produces}
@@ -31,7 +31,7 @@ use Rattle.fit.specs.Fit.{childAt, SetFits, FrameFits, FramesFit, Fit}
 use Rattle.fit.specs.Tests.{FitTold}
 use Rattle.fit.specs.InUse.{SameFrame, SameFrames, neither, both, SameUse}
 use Rattle.fit.proofs.Lists.{all-take}
-use Rattle.fit.proofs.Frames.{deep, content-there, produces-inv}
+use Rattle.fit.proofs.Frames.{deep, produces-inv}
 
 -- there is one answer
 pub one-fitting : (s : List ℕ) → Trees s → (z : State) (a b : Bool) → FitTold s z a → FitTold s z b → a ≡ b
@@ -60,7 +60,7 @@ module _ (s : List ℕ) (g : List Production) (γ : GrammarIs s g) where
   frame-room : (may : Option ℕ) (f : Frame) → FrameFits g may f → f .«open» ≤ 13
   frame-room may f k =
       let i = produces-inv s g γ (f .production) (k .nonterm) (k .production) in
-      omega (arith, k .sets, open-few (contentOf g (f .production)) (f .place) (k .nodes) (k .place), deep s (f .production) (contentOf g (f .production)) (content-there s g γ (f .production) (i .0)))
+      omega (arith, k .sets, open-few (contentOf g (f .production)) (f .place) (k .nodes) (k .place), deep s (f .production) (contentOf g (f .production)) (content-at s g γ (f .production) (i .0)))
 
   frames-room : (may : Option ℕ) (fs : List Frame) → FramesFit g may fs → All SizedFrame fs → All Fits fs
   frames-room may [] k a = none

@@ -1,6 +1,6 @@
 -- Laws of writing into lent memory. Writing goes on where it stopped (put-append); so a loop is stated by what is left to write, and
 -- no side condition on room stands in the way: only put-all, for a public promise, asks that it fits.
-use mathlib.Core.Path.{_≡_, refl, _∙_}
+use mathlib.Core.Path.{_≡_, refl, sym, _∙_}
 use mathlib.Core.List.{List, [], _∷_, _++_}
 use mathlib.Core.Bool.{Bool, true, false}
 use Prim.Native.Nat.{ℕ, suc, _+_, _≤_, _<_}
@@ -9,7 +9,7 @@ use native.Mathlib.Omega.{arith}
 use native.Mathlib.Numerals.{add-one}
 use lib.ListN.{length, take, drop, getD, set}
 use lib.Seq.{sets, length-sets, sets-eq, drop-cons}
-use Rattle.lent.specs.Put.{put}
+use Rattle.lent.specs.Put.{put, PutAs}
 
 sets-append : (d : List ℕ) (at : ℕ) (xs ys : List ℕ) → sets (sets d at xs) (at + length xs) ys ≡ sets d at (xs ++ ys)
 sets-append d at [] ys = rw add-zero
@@ -25,6 +25,9 @@ pub put-none : (w : Bool) (d : List ℕ) (at : ℕ) → put w d at [] ≡ d
 unfolding put
 put-none true d at = refl
 put-none false d at = refl
+
+pub nothing-put : (w : Bool) (d : List ℕ) (at : ℕ) → PutAs w d at [] d at
+nothing-put w d at = record { next = omega arith; left = sym (put-none w d at) }
 
 pub put-length : (w : Bool) (d : List ℕ) (at : ℕ) (xs : List ℕ) → length (put w d at xs) ≡ length d
 unfolding put

@@ -1,20 +1,19 @@
 -- A tree has a character atom where one of its nodes is of kind 2: by induction on the tree, whose nodes follow one another.
 -- Assumes nothing.
-use mathlib.Core.Path.{_≡_, refl, sym, ap, ap₂, subst, _∙_}
+use mathlib.Core.Path.{_≡_, refl, sym, ap, ap₂, _∙_}
 use mathlib.Core.Bool.{Bool, true, false, _&&_, and-false}
 use mathlib.Core.Logic.{_⊎_, inl, inr, ⊎-elim}
-use mathlib.Core.List.{List, [], _∷_}
-use Prim.Native.Nat.{ℕ, zero, suc, _+_, _≤_, _<_}
+use mathlib.Core.List.{List}
+use Prim.Native.Nat.{ℕ, suc, _+_, _≤_, _<_}
 use native.Mathlib.Omega.{arith}
 use lib.Dec.{ltb}
 use borrow.Author.Tests.{ltb-true, ltb-false}
 use Rattle.expressions.specs.Expr.{Exp, atom, cat, alt, star, empty, nonterminal, anychar, nodes, Content, nothing, tree}
-use Rattle.expressions.specs.Grammar.{Production, Nth, contentOf}
+use Rattle.expressions.specs.Grammar.{contentOf}
 use Rattle.layout.specs.Layout.{productionCount}
 use Rattle.layout.specs.Records.{kindOf, firstNodeOf, nodeCountOf}
 use Rattle.trees.specs.Trees.{TreeAt, ContentAt}
-use Rattle.trees.specs.GrammarAt.{GrammarIs}
-use Rattle.trees.proofs.Grammars.{nth-is, nth-there}
+use Rattle.trees.proofs.Grammars.{content-at}
 use Rattle.sheet.proofs.SheetLaws.{sheet-grammar}
 use Rattle.runs.specs.Visits.{grammar}
 use Rattle.runs.specs.Spells.{noCharacter, blanksPass}
@@ -67,14 +66,6 @@ module _ (s : List ℕ) where
       (part-of i (nodes e) 0 j u (omega arith))
   one-in i empty h j u v k = absurd h
 
-  content-at : (g : List Production) → GrammarIs s g → (q : ℕ) → q < productionCount s → ContentAt s q (contentOf g q)
-  content-at g γ q b = let d = nth-there s g γ q b in subst (ContentAt s q) (sym (content-nth g q (d .0) (d .1))) (nth-is s g γ q (d .0) (d .1) .content-is)
-    where
-      content-nth : (g : List Production) (q : ℕ) (d : Production) → Nth g q d → contentOf g q ≡ d .content
-      content-nth [] q d n = absurd n
-      content-nth (c ∷ g) zero d n = ap (λ (z : Production). z .content) (sym n)
-      content-nth (c ∷ g) (suc q) d n = content-nth g q d n
-
   module _ (q : ℕ) (there : q < productionCount s) (i k : ℕ) (first : i ≡ firstNodeOf s q) (past : k ≡ i + nodeCountOf s q) where
     none-of : (n : ℕ) → k ≤ n → NoneOfKind2 i n → (c : Content) → ContentAt s q c → true ≡ blanksPass c
     none-of n b f nothing h = refl
@@ -85,7 +76,7 @@ module _ (s : List ℕ) where
     one-of (tree e) h j u v z = one-in (firstNodeOf s q) e (h .0) j (omega arith) (omega (arith, h .1)) z
 
     pub blanks-pass : (n : ℕ) → k ≤ n → NoneOfKind2 i n → BlanksTold s q true
-    blanks-pass n b f = record { is = λ a z. none-of n b f (contentOf (grammar a) q) (content-at (grammar a) (sheet-grammar z) q there) }
+    blanks-pass n b f = record { is = λ a z. none-of n b f (contentOf (grammar a) q) (content-at s (grammar a) (sheet-grammar z) q there) }
 
     pub blanks-count : (j : ℕ) → i ≤ j → j < k → kindOf s j ≡ 2 → BlanksTold s q false
-    blanks-count j u v e = record { is = λ a z. one-of (contentOf (grammar a) q) (content-at (grammar a) (sheet-grammar z) q there) j u v e }
+    blanks-count j u v e = record { is = λ a z. one-of (contentOf (grammar a) q) (content-at s (grammar a) (sheet-grammar z) q there) j u v e }

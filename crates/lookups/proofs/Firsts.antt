@@ -7,7 +7,7 @@ use mathlib.Core.Option.{Option, none, some}
 use Prim.Native.Nat.{ℕ, zero, suc, _+_, _-_, _*_, _≤_, _<_}
 use native.Mathlib.Omega.{arith}
 use lib.Dec.{eqb}
-use lib.ListN.{length, take, drop}
+use lib.ListN.{take, drop}
 use Rattle.layout.specs.Layout.{tagCount, productionCount}
 use Rattle.layout.specs.LaidOut.{LaidOut}
 use Rattle.layout.specs.declared.Layout.{Layout}
@@ -15,6 +15,7 @@ use Rattle.layout.specs.Records.{nonterminalOf, tagNumberOf}
 use Rattle.trees.specs.GrammarAt.{ProductionIs}
 use Rattle.sheet.specs.Tags.{TagAt}
 use Rattle.sheet.specs.Sheet.{Rule, grammarOf, From, RuleAt}
+use Rattle.sheet.proofs.SheetLaws.{from-counted}
 use Rattle.sheet.proofs.TagLaws.{tag-part}
 use Rattle.runs.specs.Lookup.{orLater, find}
 use Rattle.calls.specs.Names.{sameName, tagNamed}
@@ -27,13 +28,9 @@ module _ {A : Type 0} (passes : A → Bool) where
   firstOf (x ∷ xs) = orLater (passes x) (firstOf xs)
 
   module _ (P : ℕ → A → Type 0) where
-    counted : (i k : ℕ) (xs : List A) → From P i k xs → i + length xs ≡ k
-    counted i k [] h = omega arith
-    counted i k (x ∷ xs) h = omega (arith, counted (suc i) k xs (h .1))
-
     none-passes : (i k : ℕ) (xs : List A) → From P i k xs → ((j : ℕ) → j < k → (x : A) → P j x → passes x ≡ false) → firstOf xs ≡ none
     none-passes i k [] h f = refl
-    none-passes i k (x ∷ xs) h f = ap₂ orLater (f i (omega (arith, counted (suc i) k xs (h .1))) x (h .0)) (none-passes (suc i) k xs (h .1) f)
+    none-passes i k (x ∷ xs) h f = ap₂ orLater (f i (omega (arith, from-counted P (suc i) k xs (h .1))) x (h .0)) (none-passes (suc i) k xs (h .1) f)
 
     first-passes : (t i k : ℕ) (xs : List A) → From P i k xs → i + t < k → ((j : ℕ) → j < i + t → (x : A) → P j x → passes x ≡ false) → ((j : ℕ) → j ≡ i + t → (x : A) → P j x → passes x ≡ true) →
         firstOf xs ≡ some t

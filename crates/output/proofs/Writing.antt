@@ -1,8 +1,9 @@
--- Writing one text after the other, that any two outcomes of a write are equal, and a character's bytes by the test that it passes.
+-- Writing one text after the other, the bytes of pieces one after the other, that any two outcomes of a write are equal, and a character's bytes by the
+-- test that it passes.
 -- Assumes nothing.
-use mathlib.Core.Path.{_≡_, sym, ap, _∙_, subst}
+use mathlib.Core.Path.{_≡_, refl, sym, ap, _∙_, subst}
 use mathlib.Core.Bool.{Bool}
-use mathlib.Core.List.{List, _++_}
+use mathlib.Core.List.{List, [], _∷_, _++_, append-assoc}
 use Prim.Native.Nat.{ℕ}
 use native.Mathlib.Omega.{arith}
 use lib.ListN.{length-append}
@@ -11,7 +12,7 @@ use Rattle.lent.specs.Put.{put, PutAs}
 use Rattle.lent.proofs.Laws.{put-append}
 use Rattle.text.specs.Chars.{utf8}
 use Rattle.tokens.specs.Tokens.{spelled, amp, lt, gt}
-use Rattle.output.specs.Escape.{escaped}
+use Rattle.output.specs.Escape.{escaped, Piece, written, render}
 
 -- one text after the other is the two together
 pub put-then : (w : Bool) (d : List ℕ) (at : ℕ) (xs ys d₁ d₂ : List ℕ) (r₁ r₂ : ℕ) → PutAs w d at xs d₁ r₁ → PutAs w d₁ r₁ ys d₂ r₂ → PutAs w d at (xs ++ ys) d₂ r₂
@@ -23,6 +24,10 @@ put-then w d at xs ys d₁ d₂ r₁ r₂ P Q =
 
 pub same-bytes : (w : Bool) (d : List ℕ) (at : ℕ) (xs ys d′ : List ℕ) (r : ℕ) → xs ≡ ys → PutAs w d at xs d′ r → PutAs w d at ys d′ r
 same-bytes w d at xs ys d′ r e h = subst (λ (l : List ℕ). PutAs w d at l d′ r) e h
+
+pub render-append : (o q : List Piece) → render (o ++ q) ≡ render o ++ render q
+render-append [] q = refl
+render-append (x ∷ o) q = ap (λ (l : List ℕ). written x ++ l) (render-append o q) ∙ sym (append-assoc (written x) (render o) (render q))
 
 -- Any two outcomes of a write are equal.
 pub put-one-outcome : (w : Bool) (d : List ℕ) (at : ℕ) (xs d₁ d₂ : List ℕ) (r₁ r₂ : ℕ) → PutAs w d at xs d₁ r₁ → PutAs w d at xs d₂ r₂ → (d₁ ≡ d₂) × (r₁ ≡ r₂)

@@ -135,9 +135,6 @@ module _ (s : List ℕ) (i : ℕ) (h : i < length s) where
 pub one-of-two : (k n : ℕ) → k ≤ n → n < k + 2 → (n ≡ k) ⊎ (n ≡ k + 1)
 one-of-two k n a b = ⊎-elim (λ e. inl (sym e)) (λ l. inr (omega arith)) (eq-or-lt-of-le a)
 
-pub past-four : (n : ℕ) → 1 ≤ n → (n ≡ 1 → ⊥) → (n ≡ 2 → ⊥) → (n ≡ 3 → ⊥) → (n ≡ 4 → ⊥) → 5 ≤ n
-past-four n h a b c d = omega arith
-
 pub ten-apart : (n : ℕ) → 10 ≤ n → (n ≡ 10 → ⊥) → 10 < n
 ten-apart n a b = omega arith
 

@@ -193,9 +193,9 @@ fn text_range(s: &[u8], i: usize, strings: &[u8]) -> bool
     printable(strings, low + 256 * high, n)
 }
 
-// A statement other than a branch.
-fn plain(s: &[u8], i: usize, tags: usize, strings: &[u8]) -> Parsed
-    requires { ⌜ (i < length (now s)) × (getD (now s) i 0 ≡ 10 → ⊥) ⌝ }
+// A statement that assigns, 1 to 3.
+fn assignment(s: &[u8], i: usize, tags: usize, strings: &[u8]) -> Parsed
+    requires { ⌜ (i < length (now s)) × (getD (now s) i 0 < 4) ⌝ }
     ensures { λ r. ⌜ PlainAt tags (now (strings .entry)) (now (s .entry)) i r ⌝ }
 {
     let k = s[i];
@@ -221,6 +221,20 @@ fn plain(s: &[u8], i: usize, tags: usize, strings: &[u8]) -> Parsed
                 Parsed::Bad
             }
         }
+        _ => Parsed::Bad,
+    }
+}
+
+// A statement other than a branch.
+fn plain(s: &[u8], i: usize, tags: usize, strings: &[u8]) -> Parsed
+    requires { ⌜ (i < length (now s)) × (getD (now s) i 0 ≡ 10 → ⊥) ⌝ }
+    ensures { λ r. ⌜ PlainAt tags (now (strings .entry)) (now (s .entry)) i r ⌝ }
+{
+    let k = s[i];
+    if k < 4 {
+        return assignment(s, i, tags, strings);
+    }
+    match k {
         4 => Parsed::Whole(i + 1, true, true),
         5 | 6 => {
             if tag_number(s, i, tags) {

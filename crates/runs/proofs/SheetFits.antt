@@ -14,18 +14,14 @@ use Rattle.programs.specs.Section.{AllPrograms, Fill, FieldIs, names}
 use Rattle.sheet.specs.Tags.{TagAt}
 use Rattle.sheet.specs.Fields.{Visits, FieldsAre}
 use Rattle.sheet.specs.Sheet.{Rule, Sheet, From, NodeIs, RuleAt, IsSheet}
-use Rattle.sheet.proofs.SheetLaws.{numbered-productions, sheet-grammar}
+use Rattle.sheet.proofs.SheetLaws.{from-counted, numbered-productions, sheet-grammar}
 use Rattle.runs.specs.Lookup.{tagOf}
 use Rattle.runs.specs.Visits.{grammar, ofNode, ofRule, programsOf}
 use Rattle.runs.specs.Fits.{NamesFit, ProgramFits, SheetFits}
 
 -- the names are the tags'
-pub names-counted : (s : List ℕ) (i k : ℕ) (ns : List (List ℕ)) → From (TagAt s) i k ns → i + length ns ≡ k
-names-counted s i k [] f = omega (arith, f)
-names-counted s i k (n ∷ ns) f = omega (arith, names-counted s (suc i) k ns (f .1))
-
 named-tags : (s : List ℕ) (k : ℕ) (ns : List (List ℕ)) → From (TagAt s) 0 k ns → length ns ≡ k
-named-tags s k ns f = omega (arith, names-counted s 0 k ns f)
+named-tags s k ns f = omega (arith, from-counted (TagAt s) 0 k ns f)
 
 named : (s : List ℕ) (i k : ℕ) (ns : List (List ℕ)) → From (TagAt s) i k ns → NamesFit ns
 named s i k [] f = tt

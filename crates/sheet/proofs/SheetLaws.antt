@@ -22,9 +22,9 @@ use Rattle.sheet.specs.Sheet.{Rule, Sheet, grammarOf, From, NodeIs, Rule
 use Rattle.sheet.proofs.DefectLaws.{runs-inside}
 
 module _ {A : Type 0} (P : ℕ → A → Type 0) where
-  from-most : (i k : ℕ) (xs : List A) → From P i k xs → i ≤ k
-  from-most i k [] h = omega arith
-  from-most i k (x ∷ xs) h = omega (arith, from-most (suc i) k xs (h .1))
+  pub from-counted : (i k : ℕ) (xs : List A) → From P i k xs → i + length xs ≡ k
+  from-counted i k [] h = omega arith
+  from-counted i k (x ∷ xs) h = omega (arith, from-counted (suc i) k xs (h .1))
 
   from-there : (n i k : ℕ) → i + n ≡ k → ((j : ℕ) → i ≤ j → j < k → (x : A) × P j x) → (xs : List A) × From P i k xs
   from-there zero i k e h = ([], omega arith)
@@ -35,8 +35,8 @@ module _ {A : Type 0} (P : ℕ → A → Type 0) where
 
   one-from : ((j : ℕ) (x y : A) → P j x → P j y → x ≡ y) → (i k : ℕ) (xs ys : List A) → From P i k xs → From P i k ys → xs ≡ ys
   one-from one i k [] [] h g = refl
-  one-from one i k [] (y ∷ ys) h g = absurd (omega (arith, from-most (suc i) k ys (g .1)))
-  one-from one i k (x ∷ xs) [] h g = absurd (omega (arith, from-most (suc i) k xs (h .1)))
+  one-from one i k [] (y ∷ ys) h g = absurd (omega (arith, from-counted (suc i) k ys (g .1)))
+  one-from one i k (x ∷ xs) [] h g = absurd (omega (arith, from-counted (suc i) k xs (h .1)))
   one-from one i k (x ∷ xs) (y ∷ ys) h g =
       let e = one i x y (h .0) (g .0) in
       let r = one-from one (suc i) k xs ys (h .1) (g .1) in

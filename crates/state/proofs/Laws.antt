@@ -1,10 +1,10 @@
 -- Laws of the last of the first n of a list, and of what is put in its place. They follow the two definitions: by cases of n.
-use mathlib.Core.Path.{_≡_, refl, sym, ap, _∙_}
+use mathlib.Core.Path.{_≡_, refl, sym, ap, subst, _∙_}
 use mathlib.Core.List.{List, [], _∷_, _++_, map, reverse, reverse-append}
 use Prim.Native.Nat.{ℕ, zero, suc, _+_, _-_, _<_, _≤_}
 use native.Mathlib.Omega.{arith}
 use native.Mathlib.Numerals.{sub-one, add-one}
-use lib.Seq.{set-out, take-suc, take-suc-set}
+use lib.Seq.{set-out, take-suc, take-suc-set, take-all}
 use lib.ListN.{length, length-map, length-set, getD, set, take, List·getD-eq-default}
 use Rattle.state.specs.Meaning.{All, none, more}
 use Rattle.state.specs.Changes.{lastOf, putLast}
@@ -68,6 +68,12 @@ first-push l n x h = reverse-snoc (take (n + 1) (set l n x)) (take n l) x (take-
 pub all-snoc : {X : Type 0} {P : X → Type 0} {l : List X} {x : X} → All P l → P x → All P (l ++ (x ∷ []))
 all-snoc none p = more p none
 all-snoc (more q a) p = more q (all-snoc a p)
+
+pub all-more : {X : Type 0} (P : X → Type 0) (l : List X) (i : ℕ) (z : X) → i < length l → All P (take i l) → P (getD l i z) → All P (take (i + 1) l)
+all-more P l i z h a p = rw (add-one, take-suc l i z h) (all-snoc a p)
+
+pub all-whole : {X : Type 0} (P : X → Type 0) (l : List X) (n i : ℕ) → length l ≡ n → i ≡ n → All P (take i l) → All P l
+all-whole P l n i e g a = let h : take i l ≡ l = take-all i l (omega arith) in subst (All P) h a
 
 pub all-front : {X : Type 0} {P : X → Type 0} (l : List X) (x : X) → All P (l ++ (x ∷ [])) → All P l
 all-front [] x a = none

@@ -3,3 +3,4 @@ pub mod Meant
 pub mod Written
 pub mod Gathered
 pub mod Back
+pub mod Sizes

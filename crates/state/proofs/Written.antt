@@ -1,7 +1,7 @@
 -- Laws of writing a state. What is written goes on where it stopped (wrote-then), so each function's answer is its parts' joined; a loop over
 -- sets or frames is stated by what it has written (wrote-more), one over a number by what is left (put-number).
 use mathlib.Core.Bool.{true}
-use mathlib.Core.Path.{_≡_, refl, sym, ap, subst, _∙_}
+use mathlib.Core.Path.{_≡_, refl, sym, ap, _∙_}
 use mathlib.Core.List.{List, [], _∷_, _++_, append-nil, append-assoc}
 use Prim.Native.Nat.{ℕ, zero, suc, _+_, _-_, _*_, _/_, _%_, _<_, _≤_}
 use native.Mathlib.Nat.{mul-suc, mul-zero}
@@ -11,10 +11,7 @@ use lib.ListN.{length, length-append, getD, take}
 use lib.Seq.{take-suc, take-all}
 use Rattle.lent.specs.Put.{put, PutAs}
 use Rattle.lent.proofs.Laws.{put-append, put-none}
-use Rattle.state.specs.Bytes.{flag, numberBytes, joined, savedBytes, Wrote, SizedSet}
-use Rattle.state.specs.Meaning.{All}
-use Rattle.state.specs.declared.Saved.{Saved}
-use Rattle.state.proofs.Laws.{all-snoc}
+use Rattle.state.specs.Bytes.{numberBytes, joined, Wrote}
 
 pub wrote-none : (d : List ℕ) (at : ℕ) → Wrote 0 d at [] d at
 wrote-none d at = record { next = omega arith; wide = refl; left = sym (put-none true d at) }
@@ -68,17 +65,6 @@ pub number-wide : (k n : ℕ) → length (numberBytes k n) ≡ k
 unfolding numberBytes
 number-wide zero n = refl
 number-wide (suc k) n = ap suc (number-wide k (n / 256))
-
--- what is wide enough has its arrays whole; so has each of a list, one more at a time
-pub sized-saved : {k : Saved} {d : List ℕ} {at : ℕ} {d₁ : List ℕ} {m : ℕ} → Wrote 5 d at (savedBytes k) d₁ m → SizedSet k
-unfolding savedBytes
-sized-saved {k = k} p = record { values = omega (arith, length-append (k .values) (flag (k .echo) ∷ []), p .wide) }
-
-pub all-more : {X : Type 0} (P : X → Type 0) (l : List X) (i : ℕ) (z : X) → i < length l → All P (take i l) → P (getD l i z) → All P (take (i + 1) l)
-all-more P l i z h a p = rw (add-one, take-suc l i z h) (all-snoc a p)
-
-pub all-whole : {X : Type 0} (P : X → Type 0) (l : List X) (n i : ℕ) → length l ≡ n → i ≡ n → All P (take i l) → All P l
-all-whole P l n i e g a = let h : take i l ≡ l = take-all i l (omega arith) in subst (All P) h a
 
 -- one answer: what is left and what is answered
 pub wrote-one : {w : ℕ} {d : List ℕ} {at : ℕ} {xs d₁ d₂ : List ℕ} {n m : ℕ} → Wrote w d at xs d₁ n → Wrote w d at xs d₂ m → (d₁ ≡ d₂) × (n ≡ m)

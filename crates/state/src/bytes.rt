@@ -5,8 +5,7 @@ use super::State;
 ghost use mathlib.Core.Path.{_≡_};
 ghost use mathlib.Core.List.{[], _∷_};
 ghost use Prim.Native.Nat.{_+_, _<_, _^_};
-ghost use Rattle.state.specs.Bytes.{flag, numberBytes, savedBytes, joined, frameBytes, bytesOf, Wrote, SizedSet, SizedFrame};
-ghost use Rattle.state.specs.Meaning.{All};
+ghost use Rattle.state.specs.Bytes.{flag, numberBytes, savedBytes, joined, frameBytes, bytesOf, Wrote};
 ghost use Rattle.state.specs.Bytes.{byteAt, onAt, bytesAt, numberAt, savedAt, frameAt, gathered, stateFrom};
 
 pub const STATE_BYTES: usize = 2199;
@@ -67,7 +66,6 @@ fn put_saved(memory: &mut [u8], at: usize, kept: Saved) -> usize
 fn put_sets(memory: &mut [u8], at: usize, sets: [Saved; 13]) -> usize
     requires { ⌜ at + 65 < 2 ^ 64 ⌝ }
     ensures { λ r. ⌜ Wrote 65 (now (memory .entry)) at (joined savedBytes sets) (now (memory .exit)) r ⌝ }
-    ensures { λ _. ⌜ All SizedSet sets ⌝ }
 {
     let mut next = at;
     let mut i = 0;
@@ -82,7 +80,6 @@ fn put_sets(memory: &mut [u8], at: usize, sets: [Saved; 13]) -> usize
 fn put_frame(memory: &mut [u8], at: usize, f: Frame) -> usize
     requires { ⌜ at + 68 < 2 ^ 64 ⌝ }
     ensures { λ r. ⌜ Wrote 68 (now (memory .entry)) at (frameBytes f) (now (memory .exit)) r ⌝ }
-    ensures { λ _. ⌜ SizedFrame f ⌝ }
 {
     let head = [f.production, f.place, f.open];
     let next = lent::put_bytes(memory, at, &head, true);
@@ -93,7 +90,6 @@ fn put_frame(memory: &mut [u8], at: usize, f: Frame) -> usize
 fn put_frames(memory: &mut [u8], at: usize, frames: [Frame; 32]) -> usize
     requires { ⌜ at + 2176 < 2 ^ 64 ⌝ }
     ensures { λ r. ⌜ Wrote 2176 (now (memory .entry)) at (joined frameBytes frames) (now (memory .exit)) r ⌝ }
-    ensures { λ _. ⌜ All SizedFrame frames ⌝ }
 {
     let mut next = at;
     let mut i = 0;

@@ -18,7 +18,7 @@ use Rattle.runs.proofs.Frame.{acts-frame}
 use Rattle.calls.specs.Limits.{silent}
 use Rattle.calls.proofs.Frame.{answer-behind, step-frame}
 use Rattle.calls.proofs.Steps.{outOf, behind-silent}
-use Rattle.visits.proofs.Running.{render-append}
+use Rattle.output.proofs.Writing.{render-append}
 use Rattle.state.specs.Meaning.{meaningOf}
 use Rattle.state.specs.declared.State.{State}
 use Rattle.acts.specs.Acted.{Done, Comes}

@@ -20,7 +20,9 @@ use Rattle.runs.specs.Events.{Event, starts, ends, letter}
 use Rattle.runs.specs.Fits.{EventsFit}
 use Rattle.runs.specs.Machine.{before, after, State as Standing, Answer, took, refused, step, finished, onward, answered, run}
 use Rattle.runs.specs.Spells.{literal, empty-token, passesAt, unless-blank, stepToken}
-use Rattle.runs.proofs.SheetFits.{names-counted, sheet-fits}
+use Rattle.runs.proofs.SheetFits.{sheet-fits}
+use Rattle.sheet.specs.Tags.{TagAt}
+use Rattle.sheet.proofs.SheetLaws.{from-counted}
 use Rattle.calls.specs.Names.{tagNamed}
 use Rattle.calls.proofs.Names.{named-is}
 use Rattle.calls.proofs.Frame.{step-number}
@@ -61,7 +63,7 @@ tag-named {s} {a} i {name} {t} T = by (tagNamed (a .names) name) refl (T .is a i
     by : (o : Option ℕ) → tagNamed (a .names) name ≡ o → t ≡ orMissing o → tagIn t ≡ o
     by none e k = ap tagIn k
     by (some u) e k =
-        let h : u < 256 = omega (arith, named-is (a .names) name u e .0, names-counted s 0 _ (a .names) (i .names-are), i .well-formed .sections .few-tags) in
+        let h : u < 256 = omega (arith, named-is (a .names) name u e .0, from-counted (TagAt s) 0 _ (a .names) (i .names-are), i .well-formed .sections .few-tags) in
         ap tagIn k ∙ rw (lt-ltb u 256 h)
 
 tag-there : {s : List ℕ} {a : Sheet} → IsSheet s a → (part : List ℕ) (from len : ℕ) {name : List ℕ} → name ≡ take len (drop from part) → {t : ℕ} → TagFound s name t →

@@ -20,7 +20,7 @@ use Rattle.layout.specs.Records.{nonterminalOf, tagNumberOf, nodeCountOf}
 use Rattle.trees.specs.declared.Symbol.{Symbol}
 use Rattle.trees.specs.Symbol.{nextOf}
 use Rattle.trees.specs.GrammarAt.{GrammarIs}
-use Rattle.trees.proofs.Grammars.{is-nth, nodes-of-content}
+use Rattle.trees.proofs.Grammars.{is-nth, nodes-of-content, content-at}
 use Rattle.trees.proofs.Tallies.{few-atoms}
 use Rattle.trees.specs.Parsed.{RunsInside}
 use Rattle.sheet.specs.Defect.{WellFormed}
@@ -40,7 +40,7 @@ use Rattle.runs.proofs.Find.{find-sound}
 use Rattle.runs.proofs.Ways.{GoesTo, found-atom}
 use Rattle.runs.proofs.Nodes.{atom-nodes, open-iff}
 use Rattle.fit.specs.RunFits.{RunFits, ChainAt}
-use Rattle.fit.proofs.Frames.{content-there, produces-inv}
+use Rattle.fit.proofs.Frames.{produces-inv}
 use Rattle.fit.proofs.Balanced.{of-nonterminal, way-balanced, end-balanced}
 use Rattle.runs.specs.Nodes.{through-nodes, KeptAt}
 use Rattle.runs.specs.Visits.{Saved}
@@ -73,7 +73,7 @@ module _ {s : List ℕ} {a : Sheet} (i : IsSheet s a) where
     own = record { nonterm = nonterminalOf s q; tagno = tagNumberOf s q; content = contentOf (grammar a) q }
 
     own-nth : Nth (grammar a) q own
-    own-nth = is-nth s (grammar a) γ q b own (record { nonterminal-is = refl; tag-is = refl; content-is = content-there s (grammar a) γ q b })
+    own-nth = is-nth s (grammar a) γ q b own (record { nonterminal-is = refl; tag-is = refl; content-is = content-at s (grammar a) γ q b })
 
     pub tag-is : tagOf (grammar a) q ≡ tagNumberOf s q
     tag-is = nth-tag (grammar a) q own own-nth
@@ -145,7 +145,7 @@ module _ {s : List ℕ} {a : Sheet} (i : IsSheet s a) where
         let G : GoesTo (tagsOf (grammar a)) x (Rest C (topOf z .place)) v = found-atom (tagsOf (grammar a)) x C (topOf z .place) v e in
         let N = atom-nodes C (topOf z .place) (v .string) (v .place) (v .kind) (G .0) (G .2) (kept-there .0 .0) (kept-there .0 .1) in
         let P : v .place < places C = open-iff C (v .place) .0 (N .0, N .1) in
-        omega (arith, P, few-places C, nodes-of-content s (topOf z .production) C (content-there s (grammar a) γ (topOf z .production) top-below), few-nodes top-below)
+        omega (arith, P, few-places C, nodes-of-content s (topOf z .production) C (content-at s (grammar a) γ (topOf z .production) top-below), few-nodes top-below)
 
 -- the same of a run that is ready, where f is its innermost element
 module _ {s : List ℕ} {z : State} (y : Ready s z) where

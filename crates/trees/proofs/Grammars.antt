@@ -10,7 +10,7 @@ use lib.Dec.{eqb, ltb}
 use lib.ListN.{length}
 use borrow.Author.Tests.{lt-ltb}
 use Rattle.expressions.specs.Expr.{nodes, Content, nothing, tree, nodesOf}
-use Rattle.expressions.specs.Grammar.{Production, Nth, Numbered, Small, nodesIn, onlyIf, tagsOf, memb}
+use Rattle.expressions.specs.Grammar.{Production, Nth, contentOf, Numbered, Small, nodesIn, onlyIf, tagsOf, memb}
 use Rattle.expressions.specs.Listed.{alike}
 use Rattle.layout.specs.Layout.{productionCount, tagCount, Sections}
 use Rattle.layout.specs.Records.{nonterminalOf, tagNumberOf, nodeCountOf, nodesBefore}
@@ -22,6 +22,11 @@ use Rattle.trees.proofs.Unique.{from-most, one-production}
 pub nodes-of-content : (s : List ℕ) (q : ℕ) (e : Content) → ContentAt s q e → nodesOf e ≡ nodeCountOf s q
 nodes-of-content s q nothing h = sym h
 nodes-of-content s q (tree e) h = h .1
+
+pub content-nth : (g : List Production) (q : ℕ) (d : Production) → Nth g q d → contentOf g q ≡ d .content
+content-nth [] q d n = absurd n
+content-nth (c ∷ g) zero d n = ap (λ (z : Production). z .content) (sym n)
+content-nth (c ∷ g) (suc q) d n = content-nth g q d n
 
 module _ (s : List ℕ) where
   build : Trees s → (n q : ℕ) → q + n ≡ productionCount s → (g : List Production) × GrammarFrom s q g
@@ -57,6 +62,9 @@ module _ (s : List ℕ) where
 
   pub nth-there : (g : List Production) → GrammarIs s g → (q : ℕ) → q < productionCount s → (d : Production) × Nth g q d
   nth-there g h q b = there-from 0 g h q (omega arith)
+
+  pub content-at : (g : List Production) → GrammarIs s g → (q : ℕ) → q < productionCount s → ContentAt s q (contentOf g q)
+  content-at g h q b = let d = nth-there g h q b in subst (ContentAt s q) (sym (content-nth g q (d .0) (d .1))) (nth-is g h q (d .0) (d .1) .content-is)
 
   pub is-nth : (g : List Production) → GrammarIs s g → (q : ℕ) → q < productionCount s → (d : Production) → ProductionIs s q d → Nth g q d
   is-nth g h q b d p =

@@ -17,9 +17,10 @@ use Rattle.layout.specs.LaidOut.{LaidOut}
 use Rattle.layout.specs.declared.Layout.{Layout}
 use Rattle.sheet.specs.Tags.{tagRecord, TagAt}
 use Rattle.sheet.specs.Sheet.{Sheet, From, IsSheet}
+use Rattle.sheet.proofs.SheetLaws.{from-counted}
 use Rattle.runs.specs.Execute.{Effect, nameOf}
 use Rattle.runs.specs.Visits.{performed}
-use Rattle.runs.proofs.SheetFits.{names-counted, one-of-all}
+use Rattle.runs.proofs.SheetFits.{one-of-all}
 use Rattle.visits.specs.Evaluated.{LiesAt}
 use Rattle.visits.specs.Written.{Pen, NameAt, Sources}
 use Rattle.visits.specs.Ran.{mostPrinted, Comes, RanAs, lists}
@@ -95,7 +96,7 @@ module _ (s : List ℕ) (l : Layout) (L : LaidOut s l) where
 
     filled : Fill (length (a .names)) strings-of section-of (z .well-formed .programs .programs)
     filled =
-        let n : tagCount s ≡ length (a .names) = omega (arith, names-counted s 0 (tagCount s) (a .names) (z .names-are)) in
+        let n : tagCount s ≡ length (a .names) = omega (arith, from-counted (TagAt s) 0 (tagCount s) (a .names) (z .names-are)) in
         let F = z .well-formed .programs .fill in
         subst (λ (m : ℕ). Fill m strings-of section-of (z .well-formed .programs .programs)) n
         (subst (λ (w : List ℕ). Fill (tagCount s) w section-of (z .well-formed .programs .programs)) (sym strings-are)

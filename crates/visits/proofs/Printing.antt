@@ -11,7 +11,7 @@ use lib.ListN.{length, getD, take, drop, length-append, length-drop, length-take
 use lib.Seq.{take-append-seam}
 use lib.Dec.{eqb}
 use Rattle.lent.specs.Put.{put, PutAs}
-use Rattle.lent.proofs.Laws.{put-append, put-none, put-dry}
+use Rattle.lent.proofs.Laws.{put-append, put-none, nothing-put, put-dry}
 use Rattle.text.specs.Chars.{pick, utf8, Starts, DecodedIs}
 use Rattle.text.specs.Characters.{utf8s, WholeCharacters}
 use Rattle.text.specs.declared.Decoded.the-variants.{Whole}
@@ -94,10 +94,7 @@ all-written write m m₀ n at f g w e none len due =
 module _ (most : ℕ) (Due : List ℕ → Type 0) (p : Pen) where
   -- nothing was, and nothing is due
   pub nothing-due : ((w : List ℕ) → Due w → w ≡ []) → Written most Due p (p .at) (p .lent)
-  nothing-due f = record { reach = omega arith; dry = λ z. refl; right = λ w u. subst (λ (l : List ℕ). PutAs (p .write) (p .lent) (p .at) l (p .lent) (p .at)) (sym (f w u)) empty }
-    where
-      empty : PutAs (p .write) (p .lent) (p .at) [] (p .lent) (p .at)
-      empty = record { next = omega arith; left = sym (put-none (p .write) (p .lent) (p .at)) }
+  nothing-due f = record { reach = omega arith; dry = λ z. refl; right = λ w u. subst (λ (l : List ℕ). PutAs (p .write) (p .lent) (p .at) l (p .lent) (p .at)) (sym (f w u)) (nothing-put (p .write) (p .lent) (p .at)) }
 
   pub just : (w : List ℕ) (r : ℕ) (d : List ℕ) → PutAs (p .write) (p .lent) (p .at) w d r → length w ≤ most → ((v : List ℕ) → Due v → v ≡ w) → Written most Due p r d
   just w r d P short f =

@@ -2,21 +2,21 @@
 -- Assumes nothing.
 use mathlib.Core.Path.{_≡_, refl, sym, ap, _∙_, subst}
 use mathlib.Core.Bool.{Bool, true, false, not, _&&_, true≢false}
-use mathlib.Core.List.{List, [], _∷_, _++_, append-nil, append-assoc}
+use mathlib.Core.List.{List, [], _∷_, _++_, append-nil}
 use mathlib.Core.Option.{Option, none, some}
 use Prim.Native.Nat.{ℕ, _+_, _-_, _≤_, _<_}
 use native.Mathlib.Omega.{arith}
 use lib.ListN.{length, getD, drop, length-append, length-drop}
 use Rattle.lent.specs.Put.{PutAs}
-use Rattle.lent.proofs.Laws.{put-none}
+use Rattle.lent.proofs.Laws.{nothing-put}
 use Rattle.text.specs.Chars.{Starts}
 use Rattle.programs.specs.Program.{Condition, conditionBytes, Statement, become, copy, recall, reject, print-start, print-end, print-text, echo, branch, statementBytes, Program, done, step, programBytes}
 use Rattle.programs.specs.Limits.{StatementFits, StatementsFit}
 use Rattle.programs.proofs.Agree.{program-some}
 use Rattle.programs.proofs.Reading.{first-byte, starts-length}
 use Rattle.sheet.specs.Sheet.{Sheet}
-use Rattle.output.specs.Escape.{Piece, written, render}
-use Rattle.output.proofs.Writing.{put-then, same-bytes}
+use Rattle.output.specs.Escape.{Piece, render}
+use Rattle.output.proofs.Writing.{put-then, same-bytes, render-append}
 use Rattle.runs.specs.Options.{bind}
 use Rattle.runs.specs.Execute.{Effect, holds, chosen, after-print, executeOne, execute}
 use Rattle.visits.specs.Evaluated.{LiesAt, JudgedAs, SettledAs, PastIs}
@@ -37,10 +37,6 @@ on true e = refl
 on false e = sym e
 
 -- ---- outcomes
-pub render-append : (o q : List Piece) → render (o ++ q) ≡ render o ++ render q
-render-append [] q = refl
-render-append (x ∷ o) q = ap (λ (l : List ℕ). written x ++ l) (render-append o q) ∙ sym (append-assoc (written x) (render o) (render q))
-
 abbrev pub pen-at : Pen → List ℕ → ℕ → Pen
 pen-at p d n = record { write = p .write; lent = d; at = n }
 
@@ -49,7 +45,7 @@ abbrev unchanged : Env → Effect
 unchanged e = record { values = e .values; echo = e .echo; printed = [] }
 
 pub still : (p : Pen) (e : Env) → Comes (some (unchanged e)) p true (p .at) e (p .lent)
-still p e = (refl, refl, refl, record { next = omega arith; left = sym (put-none (p .write) (p .lent) (p .at)) })
+still p e = (refl, refl, refl, nothing-put (p .write) (p .lent) (p .at))
 
 idle : (live : Bool) (p : Pen) (e : Env) → Comes (lived live (some (unchanged e)) e) p true (p .at) e (p .lent)
 idle true p e = still p e

@@ -324,13 +324,11 @@ fn plain(
             env: env,
         };
     }
-    let changed = settled(s, i, kept, env);
-    let to = print(s, i, tags, strings, out, at, write);
     Ran {
         ok: true,
         next: next,
-        at: to,
-        env: changed,
+        at: print(s, i, tags, strings, out, at, write),
+        env: settled(s, i, kept, env),
     }
 }
 
@@ -402,9 +400,8 @@ fn list(
     let l = statement(s, tags, strings, i, kept, env, live, out, at, write);
     let next = l.next;
     let after = l.env;
-    let to = l.at;
     if l.ok {
-        return list(s, tags, strings, next, kept, after, live, out, to, write);
+        return list(s, tags, strings, next, kept, after, live, out, l.at, write);
     }
     l
 }

@@ -4,7 +4,7 @@ use native.Mathlib.Omega.{arith}
 use mathlib.Core.Path.{refl}
 use Rattle.layout.proofs.Laws.{laid-out}
 use Rattle.faults.specs.Checked.{malformed}
-use Rattle.faults.proofs.Answered.{no-defect}
+use Rattle.sheet.proofs.DefectLaws.{no-defect}
 use Rattle.faults.proofs.check.Statement.{statement}
 use Rattle.faults.proofs.check.Tie as tie
 use Rattle.faults.proofs.check.Reads as reads

@@ -4,7 +4,8 @@ use native.Mathlib.Omega.{arith}
 use Rattle.layout.proofs.Laws.{laid-out}
 use Rattle.sheet.proofs.SheetLaws.{is-sheet}
 use Rattle.faults.specs.Verdict.{malformed}
-use Rattle.faults.proofs.Answered.{no-defect, verdict-by}
+use Rattle.sheet.proofs.DefectLaws.{no-defect}
+use Rattle.faults.proofs.Answered.{verdict-by}
 use Rattle.faults.proofs.verdict.Statement.{statement}
 use Rattle.faults.proofs.verdict.Tie as tie
 

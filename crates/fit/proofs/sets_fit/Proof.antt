@@ -8,8 +8,7 @@ use borrow.Author.Needs.{needs}
 use Rattle.tells.specs.Tells.{holds, fails}
 use Rattle.tells.proofs.Laws.{held, failed}
 use Rattle.state.specs.Meaning.{All, none}
-use Rattle.state.proofs.Laws.{length-mapped}
-use Rattle.state.proofs.Written.{all-more}
+use Rattle.state.proofs.Laws.{length-mapped, all-more}
 use Rattle.fit.specs.Fit.{SetFits}
 use Rattle.fit.proofs.Lists.{all-first}
 use Rattle.fit.proofs.sets_fit.Statement.{statement}

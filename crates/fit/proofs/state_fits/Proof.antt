@@ -5,7 +5,7 @@ use borrow.Author.Needs.{needs}
 use Rattle.tells.specs.Tells.{fails}
 use Rattle.tells.proofs.Laws.{held, failed, as-told}
 use Rattle.sheet.proofs.DefectLaws.{runs-inside}
-use Rattle.fit.proofs.Sizes.{state-sized}
+use Rattle.state.proofs.Sizes.{state-sized}
 use Rattle.fit.proofs.state_fits.Statement.{statement}
 use Rattle.fit.proofs.state_fits.Tie as tie
 

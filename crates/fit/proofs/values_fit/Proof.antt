@@ -7,7 +7,7 @@ use borrow.Author.Needs.{needs}
 use Rattle.tells.specs.Tells.{holds, fails}
 use Rattle.programs.specs.Limits.{Value}
 use Rattle.state.specs.Meaning.{All, none}
-use Rattle.state.proofs.Written.{all-whole}
+use Rattle.state.proofs.Laws.{all-whole}
 use Rattle.fit.proofs.Lists.{value-over, value-more}
 use Rattle.fit.proofs.values_fit.Statement.{statement}
 use Rattle.fit.proofs.values_fit.Tie as tie

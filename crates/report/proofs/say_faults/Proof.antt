@@ -1,8 +1,7 @@
 -- Without a defect the sheet is laid out, and its productions' nodes are its nodes.
 use native.Mathlib.Omega.{arith}
 use Rattle.layout.proofs.Laws.{laid-out}
-use Rattle.sheet.proofs.DefectLaws.{runs-inside}
-use Rattle.faults.proofs.Answered.{no-defect}
+use Rattle.sheet.proofs.DefectLaws.{runs-inside, no-defect}
 use borrow.Author.Needs.{needs}
 use Rattle.report.proofs.say_faults.Statement.{statement}
 use Rattle.report.proofs.say_faults.Tie as tie

@@ -13,7 +13,7 @@ returns-2 c = let a = c .before .before .before .before .before .before .before 
 returns-3 : tie.Need-returns-3
 returns-3 c =
     let a = c .before .before .before .before .before .before .before .before .before .before .before .before .before in
-    goes (record { section = a .args .s .now; tags = a .args .tags .now; strings = a .args .strings .now }) (a .args .i) (a .args .kept) (a .args .env) (a .args .live) (record { write = a .args .write; lent = a .args .out .now; at = a .args .at }) (a .pre .0) _ (c .before .before .before .before .before .before .before .before .past .ensures) (on (a .args .live) (c .before .before .before .before .before .before .before .if1 .left)) (c .before .before .before .before .before .if2 .left) (a .pre .2) _ (c .before .before .before .before .settled .ensures) _ _ (c .before .before .print .ensures)
+    goes (record { section = a .args .s .now; tags = a .args .tags .now; strings = a .args .strings .now }) (a .args .i) (a .args .kept) (a .args .env) (a .args .live) (record { write = a .args .write; lent = a .args .out .now; at = a .args .at }) (a .pre .0) _ (c .before .before .before .before .before .before .before .before .past .ensures) (on (a .args .live) (c .before .before .before .before .before .before .before .if1 .left)) (c .before .before .before .before .before .if2 .left) (a .pre .2) _ (c .settled .ensures) _ _ (c .before .before .before .print .ensures)
 
 pub plain-spec : {M : Type 1} → statement M
 plain-spec =

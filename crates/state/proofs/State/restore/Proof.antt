@@ -10,7 +10,7 @@ use Rattle.state.proofs.State.top.Reads as top-reads
 use Rattle.state.proofs.State.with_top.Reads as with-top-reads
 
 returns : tie.Need-returns
-returns c = cc
+returns c = rw (c .with-top .ensures, c .before .without-last .ensures, c .before .before .last .ensures, c .before .before .before .top .ensures)
 
 pub restore-spec : {M : Type 1} → statement M
 restore-spec =

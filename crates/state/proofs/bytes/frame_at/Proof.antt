@@ -10,7 +10,7 @@ use Rattle.state.proofs.bytes.sets_at.Reads as sets-at-reads
 
 returns : tie.Need-returns
 unfolding frameAt
-returns c = cc
+returns c = rw (c .byte-at3 .ensures, c .before .byte-at2 .ensures, c .before .before .byte-at .ensures, c .before .before .before .sets-at .ensures)
 
 pub frame-at-spec : {M : Type 1} → statement M
 frame-at-spec =

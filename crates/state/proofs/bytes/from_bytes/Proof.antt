@@ -13,7 +13,7 @@ use Rattle.state.proofs.bytes.values_at.Reads as values-at-reads
 
 returns : tie.Need-returns
 unfolding stateFrom
-returns c = cc
+returns c = rw (c .number-at2 .ensures, c .before .byte-at .ensures, c .before .before .on-at2 .ensures, c .before .before .before .number-at .ensures, c .before .before .before .before .on-at .ensures, c .before .before .before .before .before .frames-at .ensures, c .before .before .before .before .before .before .values-at .ensures)
 
 pub from-bytes-spec : {M : Type 1} → statement M
 from-bytes-spec =

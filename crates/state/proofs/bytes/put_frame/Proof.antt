@@ -1,7 +1,5 @@
 -- The head of three bytes, then the sets.
-use mathlib.Core.Path.{_≡_, refl}
-use lib.ListN.{length}
-use Rattle.state.proofs.Laws.{length-mapped}
+use mathlib.Core.Path.{refl}
 use Rattle.state.specs.Bytes.{frameBytes}
 use Rattle.state.proofs.Written.{wrote-put, wrote-then}
 use borrow.Author.Needs.{needs}
@@ -14,12 +12,7 @@ use Rattle.state.proofs.bytes.put_sets.Reads as put-sets-reads
 
 returns : tie.Need-returns
 unfolding frameBytes
-returns c =
-    let s = c .before .before .before .before .before .before .before .before .before .before .before .args .f in
-    let n : length (s .saved) ≡ 13 = search (length-mapped, needs) in (
-      wrote-then (wrote-put 3 refl (c .before .before .before .before .before .before .before .put-bytes .ensures)) (c .before .before .put-sets .ensures .0),
-      record { saved = n; sets = c .before .before .put-sets .ensures .1 },
-    )
+returns c = wrote-then (wrote-put 3 refl (c .before .before .before .before .before .before .before .put-bytes .ensures)) (c .before .before .put-sets .ensures)
 
 pub put-frame-spec : {M : Type 1} → statement M
 put-frame-spec =

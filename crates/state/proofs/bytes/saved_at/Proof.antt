@@ -10,7 +10,7 @@ use Rattle.state.proofs.bytes.values_at.Reads as values-at-reads
 
 returns : tie.Need-returns
 unfolding savedAt
-returns c = cc
+returns c = rw (c .on-at .ensures, c .before .values-at .ensures)
 
 pub saved-at-spec : {M : Type 1} → statement M
 saved-at-spec = tie.close (tie.spec (λ c κs. search needs) (λ c. search needs) (λ c κs. search needs) returns)

@@ -1,11 +1,8 @@
--- Field by field, one after another (wrote-then). The bytes read back since every array is whole: the calls say so of the parts, and of the
--- state itself its own fields do.
+-- Field by field, one after another (wrote-then). The bytes read back since every array is as long as its type says (state-sized).
 use Rattle.state.specs.Bytes.{bytesOf}
 use Rattle.state.proofs.Written.{wrote-then}
-use mathlib.Core.Path.{_≡_}
-use lib.ListN.{length}
-use Rattle.state.proofs.Laws.{length-mapped}
 use Rattle.state.proofs.Back.{state-back}
+use Rattle.state.proofs.Sizes.{state-sized}
 use borrow.Author.Needs.{needs}
 use Rattle.state.proofs.bytes.to_bytes.Statement.{statement}
 use Rattle.state.proofs.bytes.to_bytes.Tie as tie
@@ -26,12 +23,10 @@ returns c = let depth = c .before .before .before .before .before .before .befor
     let echo = count .before .before .before .before in
     let values = echo .before .before .before .before in
     let start = values .before .before .before .before in
-    let s = start .args .state in
-    let fields = start .good .0 .1 .1 in
-    let n : length (s .frames) ≡ 32 = length-mapped _ (s .frames) 32 (fields .1 .1 .1 .1 .1 .1 .0 .1 .0 .1) in (
+    let s = start .args .state in (
       wrote-then (values .put-values .ensures) (wrote-then (echo .put-flag .ensures) (wrote-then (count .put-number .ensures)
-          (wrote-then (rooted .put-flag2 .ensures) (wrote-then (closed .put-one .ensures) (wrote-then (depth .put-number2 .ensures) (c .before .before .put-frames .ensures .0)))))),
-      state-back s (record { values = values .put-values .ensures .wide; count = fields .1 .1 .0 .1; depth = fields .1 .1 .1 .1 .1 .0 .1; frames = n; each = c .before .before .put-frames .ensures .1 }),
+          (wrote-then (rooted .put-flag2 .ensures) (wrote-then (closed .put-one .ensures) (wrote-then (depth .put-number2 .ensures) (c .before .before .put-frames .ensures)))))),
+      state-back s (state-sized s _ (start .good .0)),
     )
 
 pub to-bytes-spec : {M : Type 1} → statement M

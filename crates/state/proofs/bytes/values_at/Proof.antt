@@ -8,7 +8,7 @@ use Rattle.state.proofs.bytes.values_at.Lts as lts
 use Rattle.state.proofs.bytes.byte_at.Reads as byte-at-reads
 
 returns : tie.Need-returns
-returns c = let a = c .before .before .before .before .before .args in cc (bytes-four (a .bytes .now) (a .at))
+returns c = let a = c .before .before .before .before .before .args in rw (c .byte-at4 .ensures, c .before .byte-at3 .ensures, c .before .before .byte-at2 .ensures, c .before .before .before .byte-at .ensures, bytes-four (a .bytes .now) (a .at))
 
 pub values-at-spec : {M : Type 1} → statement M
 values-at-spec =
