@@ -80,6 +80,23 @@ module _ {s : List ℕ} {a : Sheet} (i : IsSheet s a) (ok : Passed a) where
       (subst (λ (m : ℕ). Feeds a (not ended) (drop (r .taken) (part ++ later)) (length lent + extra - m) (heldOf (r .state)) x) (written-first w .0)
       (fed-feeds d (handed-back-fit i ok f w)))
 
+  -- so a stream from the fresh state, fed in whatever parts and rooms, is answered with 0 in the end exactly when it is accepted and its output has room
+  -- in all that is lent; and then all is as the tree says
+  module _ {whole : List ℕ} {room : ℕ} {x : Result} (d : Fed s true whole room freshState x) where
+    fed-called : Called a whole false room fresh-held x
+    fed-called =
+        subst (λ (h : Held). Called a whole false room h x) held-fresh (feeds-as-one a false (fed-feeds d (fresh-fit (grammar a) (a .start-nonterminal))))
+
+    pub fed-converted : (v : Env) → Accepted a whole v → length (render (v .out)) ≤ room → x ≡ accepted whole v
+    fed-converted v y f =
+        call-one a whole false room fresh-held x (accepted whole v) fed-called (accepted-iff a ok whole room (accepted whole v) .1 (v, (y, f, refl)) .0)
+
+    pub fed-accepted : (x .number ≡ 0) ↔ ((v : Env) × (Accepted a whole v × (length (render (v .out)) ≤ room)))
+    fed-accepted = (
+      (λ e. let (v, (y, f, q)) = accepted-iff a ok whole room x .0 (fed-called, e) in (v, (y, f))),
+      (λ h. ap (λ (y : Result). y .number) (fed-converted (h .0) (h .1 .0) (h .1 .1))),
+    )
+
   -- a stream in parts gives what one call gives
   pub parts-as-one : {ended : Bool} {whole lent after : List ℕ} {z : State} {x : Result} {r : Reply} → FitsSheet a z → Fed s ended whole (length lent) z x →
       AnsweredAs s z whole ended lent after r → x ≡ resultOf after r

@@ -2,13 +2,13 @@
 -- Assumes nothing.
 use mathlib.Core.Path.{_≡_, refl, sym, ap, ap₂, _∙_, subst}
 use mathlib.Core.Bool.{Bool, true, false}
-use mathlib.Core.List.{List, _++_, append-nil}
+use mathlib.Core.List.{List, [], _++_, append-nil}
 use Prim.Native.Nat.{ℕ, _+_, _-_, _≤_, _<_}
 use native.Mathlib.Nat.{zero-add}
 use native.Mathlib.Omega.{arith}
 use borrow.Author.Tests.{le-leb, lt-leb}
 use lib.Dec.{leb}
-use lib.ListN.{length, take, drop, length-drop, drop-of-length-le}
+use lib.ListN.{length, take, drop, length-drop, drop-of-length-le, take-append-drop}
 use lib.Seq.{take-all, drop-drop}
 use Rattle.lent.proofs.Laws.{put-all}
 use Rattle.output.proofs.Writing.{put-one-outcome}
@@ -103,6 +103,33 @@ module _ {s part : List ℕ} {e : Read} {z : State} {lent : List ℕ} {at : ℕ}
           (sym (by-limits a i h f true false (le-leb (countOf (w .0)) mostVisits (omega (arith, count-after (w .2), counted))) (lt-leb (length (outputOf (w .0))) Room (omega (arith, w .2 .written .next, k)))))
           (record { number = refl; state = refl; next = refl; left = refl }))
           d (D .dry refl)
+
+      -- where there is no output the memory is as it was, with nothing written into it
+      pub take-silent : y .at ≡ 0 → (r : Stepped) → r ≡ record { number = 0; at = at; state = y .state } → TakenAs s part e z lent at r d
+      take-silent k r q =
+          subst (λ (w : List ℕ). TakenAs s part e z lent at r w) (sym (D .dry refl))
+          (subst (λ (w : Stepped). TakenAs s part e z lent at w lent) (sym q)
+          (record {
+            inside = inside;
+            count = counted;
+            right = λ a i h f.
+                let w = dry-took a i h f zero in
+                let m : Standing = w .0 in
+                let l : length (outputOf m) ≡ 0 = omega (arith, w .2 .written .next, k) in
+                let none : length (outputOf m) ≤ 0 = omega (arith, l) in
+                let o : outputOf m ≡ [] = drop-of-length-le (outputOf m) none in
+                let n : at + length (outputOf m) ≡ at = omega (arith, l) in
+                subst (λ (t : Taking). Takes t z lent at (record { number = 0; at = at; state = y .state }) lent)
+                (sym (by-limits a i h f true true (le-leb (countOf m) mostVisits (omega (arith, count-after (w .2), counted))) (le-leb (length (outputOf m)) Room (omega (arith, l)))))
+                (record {
+                  number = refl;
+                  means = w .2 .means;
+                  shaped = w .2 .shaped;
+                  closed = w .2 .closed;
+                  next = omega (arith, l);
+                  left = sym (ap₂ (λ (u : List ℕ) (n : ℕ). take at lent ++ (u ++ drop n lent)) o n ∙ take-append-drop at lent);
+                });
+          }))
 
       written-out : y .at ≤ Room → (x : Stepped) (d′ : List ℕ) → TokenAs s part e z (wetPen lent at) x d′ → (r : Stepped) → r ≡ record { number = 0; at = at + y .at; state = y .state } →
           TakenAs s part e z lent at r (take at lent ++ d′)

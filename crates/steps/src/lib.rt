@@ -378,7 +378,8 @@ impl Run {
         }
     }
 
-    // A token of the part: first dry, and then, where nothing speaks against it, with its output.
+    // A token of the part: first dry, and then, where nothing speaks against it, with its output. Where it has none, a second run would only
+    // copy.
     pub fn take(self, s: &[u8], l: Layout, part: &[u8], e: Event, out: &mut [u8]) -> Stepped
         requires { ⌜ LaidOut (now s) l ⌝ }
         requires { ⌜ Ready (now s) (self .state) ⌝ }
@@ -403,6 +404,13 @@ impl Run {
         }
         if out.len() - at < dry.at {
             return self.refuse(17);
+        }
+        if dry.at == 0 {
+            return Stepped {
+                number: 0,
+                at: at,
+                state: after,
+            };
         }
         first.token(s, l, part, e, &mut out[at..], true);
         Stepped {
