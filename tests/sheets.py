@@ -836,25 +836,33 @@ def order():
     case(1, '1 and 2: 23 bytes', bytes(23))
 
 
-def drawn():
-    """Sheets by a small generator of its own, so that they stay the same whatever runs it."""
-    heading('Drawn by lot: expressions over r, a, b and characters, some tags shared')
-    state = [20011]
+def lot(seed):
+    """Numbers below n by a small generator of its own, so that they stay the same whatever runs it."""
+    state = [seed]
 
     def below(n):
         state[0] = (state[0] * 1103515245 + 12345) % 2 ** 31
         return (state[0] >> 8) % n
 
-    def text(size):
-        if size == 1:
-            return ('n0', 'n1', 'n2', 'n2', 'CHAR')[below(5)]
-        if below(3) == 0:
-            return '(' + text(size - 1) + ')*'
-        left = 1 + below(size - 1)
-        return '(' + text(left) + '.|.'[below(3)] + text(size - left) + ')'
+    return below
 
+
+def drawn_expression(below, atoms, size):
+    if size == 1:
+        return atoms[below(len(atoms))]
+    if below(3) == 0:
+        return '(' + drawn_expression(below, atoms, size - 1) + ')*'
+    left = 1 + below(size - 1)
+    return '(' + drawn_expression(below, atoms, left) + '.|.'[below(3)] + drawn_expression(below, atoms, size - left) + ')'
+
+
+def drawn():
+    """Sheets by lot."""
+    heading('Drawn by lot: expressions over r, a, b and characters, some tags shared')
+    below = lot(20011)
+    atoms = ('n0', 'n1', 'n2', 'n2', 'CHAR')
     for _ in range(20):
-        rules = [(n, below(3), text(1 + below(7))) for n in (0, 1, 2)] + [(below(3), below(3), '')]
+        rules = [(n, below(3), drawn_expression(below, atoms, 1 + below(7))) for n in (0, 1, 2)] + [(below(3), below(3), '')]
         sheet = Sheet(['r', 'a', 'b'], rules)
         case(check(sheet.bytes(), 1 << 16)[0], ', '.join('n%d %s %s' % (n, 'rab'[t], e or 'empty') for n, t, e in rules), sheet)
 

@@ -1106,21 +1106,12 @@ def damaged():
 
 
 def drawn():
-    """Sheets, programs and streams by a small generator of its own, so that they stay the same whatever runs it."""
+    """Sheets, programs and streams by lot."""
     heading('drawn: sheets, programs and streams by lot')
-    state = [40961]
-
-    def below(n):
-        state[0] = (state[0] * 1103515245 + 12345) % 2 ** 31
-        return (state[0] >> 8) % n
+    below = sheets.lot(40961)
 
     def text(size):
-        if size == 1:
-            return ('n0', 'n1', 'n2', 'CHAR')[below(4)]
-        if below(3) == 0:
-            return '(' + text(size - 1) + ')*'
-        left = 1 + below(size - 1)
-        return '(' + text(left) + '.|.'[below(3)] + text(size - left) + ')'
+        return sheets.drawn_expression(below, ('n0', 'n1', 'n2', 'CHAR'), size)
 
     def condition(visit, around):
         if around < 3 and below(3) == 0:
