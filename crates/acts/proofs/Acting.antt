@@ -35,7 +35,7 @@ use Rattle.visits.specs.declared.Performed.{Performed}
 use Rattle.visits.proofs.Printing.{escaped-short}
 use Rattle.visits.proofs.Running.{pen-at}
 use Rattle.visits.proofs.Theorems.{first-visit-recalls-nothing}
-use Rattle.acts.specs.declared.Acted.{Acted}
+use Rattle.acts.specs.Seen.{Outcome as Acted}
 use Rattle.acts.specs.Acted.{Done, Comes, EntersAs, LeavesAs, ReadsAs}
 use Rattle.acts.specs.Visited.{programFor, recalledIn, FieldFound, VisitedAs, EchoedAs}
 
@@ -182,22 +182,6 @@ left-means z x o os n h e p =
     meaning-popped (back z x) (back-shaped z x h deep) o os (back-inside z x o os h e p)
     ∙ ap₂ (λ (kss : List (List Kept)) (v : Running). record { control = outer os; store = record { kept = kss; env = v } }) (back-kept z x h deep p) (back-env z x h deep p)
 
-popped-count : (z : State) → popped z .count ≡ z .count
-unfolding popped
-popped-count z = by (eqb (z .depth) 0) refl
-  where
-    by : (b : Bool) → eqb (z .depth) 0 ≡ b → popped z .count ≡ z .count
-    by true e = rw e refl
-    by false e = rw e refl
-
-popped-closed : (z : State) → popped z .closed ≡ z .closed
-unfolding popped
-popped-closed z = by (eqb (z .depth) 0) refl
-  where
-    by : (b : Bool) → eqb (z .depth) 0 ≡ b → popped z .closed ≡ z .closed
-    by true e = rw e refl
-    by false e = rw e refl
-
 -- the values that a second visit recalls are those kept of the innermost open node
 pub recalls : (s : List ℕ) (q i : ℕ) (z : State) (p : Pen) (v : Acted) (d : List ℕ) → VisitedAs s q i true (restored z .saved .values) (restored z .state) p v d → (a : Sheet) → IsSheet s a →
     Shaped z → (o : Open) (os : List Open) → meaningOf z .control ≡ inside o os → 0 < topOf z .«open» →
@@ -227,9 +211,10 @@ module _ (s : List ℕ) (q : ℕ) (z : State) (p : Pen) (v : Acted) (d : List �
       go a os (some x) c = absurd (true≢false (sym (c .0) ∙ f))
 
   module _ (r : Acted) (d₂ : List ℕ) (E : EchoedAs s q true (v .state .echo) (pen-at p d (v .at)) (r .at) d₂) where
-    pub left : v .ok ≡ true → r .ok ≡ true → r .state ≡ popped (withEnv (v .state) (v .state .values) (restored z .saved .echo) (v .state .count)) → LeavesAs s q z p r d₂
+    pub left : v .ok ≡ true → r .ok ≡ true → (X : State) → X ≡ withEnv (v .state) (v .state .values) (restored z .saved .echo) (v .state .count) → r .state .count ≡ X .count → r .state .closed ≡ X .closed →
+        (0 < X .depth → meaningOf (r .state) ≡ meaningOf (popped X)) → (0 < X .depth → Shaped X → Shaped (r .state)) → LeavesAs s q z p r d₂
     unfolding meaningOf
-    left on ok st =
+    left on ok X st as-many as-closed M S =
         record {
           reach = omega (arith, G .reach, E .reach);
           count = few;
@@ -238,19 +223,20 @@ module _ (s : List ℕ) (q : ℕ) (z : State) (p : Pen) (v : Acted) (d : List �
         }
       where
         few : r .state .count ≤ z .count + 1
-        few = omega (arith, ap (λ (k : State). k .count) st, popped-count (withEnv (v .state) (v .state .values) (restored z .saved .echo) (v .state .count)), G .count)
+        few = omega (arith, as-many, ap (λ (k : State). k .count) st, G .count)
 
         done : (a : Sheet) → IsSheet s a → Shaped z → (o : Open) (os : List Open) → meaningOf z .control ≡ inside o os → 0 < topOf z .«open» →
             (x : Effect) → v .state .values ≡ x .values → v .state .echo ≡ x .echo → PutAs (p .write) (p .lent) (p .at) (render (x .printed)) d (v .at) →
             Comes (leaving a (some x)) (outer os) z p r d₂
         done a y h o os e n x vs on P =
             let deep = inside-open z o os e in
-            let same : r .state ≡ popped (back z x) = st ∙ ap (λ (u : State). popped (withEnv u (u .values) (restored z .saved .echo) (u .count))) (state-after s q 0 true (restored z .saved .values) (restored z .state) p v d G x vs on) in
+            let same : X ≡ back z x = st ∙ ap (λ (u : State). (withEnv u (u .values) (restored z .saved .echo) (u .count))) (state-after s q 0 true (restored z .saved .values) (restored z .state) p v d G x vs on) in
+            let there : 0 < X .depth = omega (arith, ap (λ (u : State). u .depth) same, deep) in
             record {
               ok = ok;
-              means = ap meaningOf same ∙ left-means z x o os (end (tagName a q)) h e n;
-              shaped = subst Shaped (sym same) (shaped-popped (back z x) (back-shaped z x h deep) deep);
-              closed = ap (λ (u : State). u .closed) same ∙ popped-closed (back z x);
+              means = M there ∙ ap (λ (u : State). meaningOf (popped u)) same ∙ left-means z x o os (end (tagName a q)) h e n;
+              shaped = S there (subst Shaped (sym same) (back-shaped z x h deep));
+              closed = as-closed ∙ ap (λ (u : State). u .closed) same;
               written = out-empty z x (whileOn (x .echo) (end (tagName a q))) p d₂ (r .at) (put-both p x (whileOn (x .echo) (end (tagName a q))) d d₂ (v .at) (r .at) P (subst (λ (b : Bool). PutAs (p .write) d (v .at) (render (whileOn b (end (tagName a q)))) d₂ (r .at)) on (E .right a y)));
             }
 

@@ -38,7 +38,7 @@ use Rattle.visits.specs.Ran.{Comes as Came}
 use Rattle.visits.proofs.Running.{pen-at}
 use Rattle.ways.specs.Held.{codeOf, codes, LineIs}
 use Rattle.ways.specs.declared.Line.{Line}
-use Rattle.acts.specs.declared.Acted.{Acted}
+use Rattle.acts.specs.Seen.{Outcome as Acted}
 use Rattle.acts.specs.Acted.{Done, Comes, visitReach, BracketsAs}
 use Rattle.acts.specs.Visited.{VisitedAs, Room, setsAfter, NodeAs, BracketAs}
 use Rattle.acts.proofs.Acting.{after, state-after, back, back-env, back-shaped, recalls}
@@ -81,6 +81,7 @@ module _ (s : List ℕ) (q i : ℕ) (kept : List ℕ) (z : State) (p : Pen) (v :
       record {
         reach = omega (arith, G .reach);
         count = omega (arith, G .count);
+        deep = ap (λ (u : State). u .depth) (G .state-is);
         dry = G .dry;
         sets = λ h deep n ok. absurd (true≢false (sym ok ∙ f));
         right = λ a y h o os e n. go (performed a [] (programsOf (a .rules) q i .first-visit) (z .values) (z .echo)) (G .right a y);
@@ -96,6 +97,7 @@ module _ (s : List ℕ) (q i : ℕ) (kept : List ℕ) (z : State) (p : Pen) (v :
       record {
         reach = omega (arith, G .reach);
         count = omega (arith, ap (λ (u : State). u .count) is, G .count);
+        deep = ap (λ (u : State). u .depth) is ∙ ap (λ (u : State). u .depth) (G .state-is);
         dry = G .dry;
         sets = λ h deep n ok. sets-are h deep n;
         right = λ a y h o os e n. go h o os e n (performed a [] (programsOf (a .rules) q i .first-visit) (z .values) (z .echo)) (G .right a y);
@@ -148,6 +150,7 @@ module _ (s : List ℕ) (q i : ℕ) (z : State) (p : Pen) (v : Acted) (d : List 
       record {
         reach = omega (arith, G .reach);
         count = omega (arith, G .count);
+        deep = ap (λ (u : State). u .depth) (G .state-is);
         dry = G .dry;
         sets = λ h deep n ok. absurd (true≢false (sym ok ∙ f));
         right = λ a y h o os e n. go (performed a (innermost (meaningOf z .store .kept) .values) (programsOf (a .rules) q i .second-visit) (z .values) (z .echo)) (recalls s q i z p v d G a y h o os e n);
@@ -163,6 +166,7 @@ module _ (s : List ℕ) (q i : ℕ) (z : State) (p : Pen) (v : Acted) (d : List 
       record {
         reach = omega (arith, G .reach);
         count = omega (arith, ap (λ (u : State). u .count) is, G .count);
+        deep = ap (λ (u : State). u .depth) is ∙ ap (λ (u : State). u .depth) (G .state-is);
         dry = G .dry;
         sets = λ h deep n ok. ap (λ (u : State). topOf u .«open») (is ∙ ap (λ (u : State). withEnv u (v .state .values) (restored z .saved .echo) (v .state .count)) (G .state-is)) ∙ restored-sets z h deep;
         right = λ a y h o os e n. go h o os e n (performed a (innermost (meaningOf z .store .kept) .values) (programsOf (a .rules) q i .second-visit) (z .values) (z .echo)) (recalls s q i z p v d G a y h o os e n);
@@ -188,14 +192,14 @@ module _ (s : List ℕ) (q i : ℕ) (z : State) (p : Pen) (v : Acted) (d : List 
 -- ---- the bracket of a byte
 module _ (s : List ℕ) (q c : ℕ) (z : State) (p : Pen) (r : Acted) (d : List ℕ) where
   pub even-bracket : c % 2 ≡ 0 → NodeAs s q (opening (c / 2)) z p r d → BracketAs s q c z p r d
-  even-bracket even N = record { reach = N .reach; count = N .count; dry = N .dry; right = go }
+  even-bracket even N = record { reach = N .reach; count = N .count; deep = N .deep; dry = N .dry; right = go }
     where
       go : (b : Bracket) → c ≡ codeOf b → NodeAs s q b z p r d
       go (opening j) e = let same : c / 2 ≡ j = omega (arith, e) in subst (λ (k : ℕ). NodeAs s q (opening k) z p r d) same N
       go (closing j) e = absurd (omega (arith, e, even))
 
   pub odd-bracket : (c % 2 ≡ 0 → ⊥) → NodeAs s q (closing (c / 2)) z p r d → BracketAs s q c z p r d
-  odd-bracket odd N = record { reach = N .reach; count = N .count; dry = N .dry; right = go }
+  odd-bracket odd N = record { reach = N .reach; count = N .count; deep = N .deep; dry = N .dry; right = go }
     where
       go : (b : Bracket) → c ≡ codeOf b → NodeAs s q b z p r d
       go (opening j) e = let even : c % 2 ≡ 0 = omega (arith, e) in absurd (odd even)
@@ -330,6 +334,7 @@ pub record LeftIn (s : List ℕ) (q : ℕ) (line : Line) (i : ℕ) (z₀ : State
   pub few : i ≤ line .length
   pub reach : at ≤ p .at + visitReach * i
   pub count : z .count ≤ z₀ .count + i
+  pub deep : z .depth ≡ z₀ .depth
   pub dry : p .write ≡ false → d ≡ p .lent
   pub left-of : (a : Sheet) → IsSheet s a → (α : List Bracket) → LineIs (some α) line → Shaped z₀ → (o : Open) (os : List Open) → meaningOf z₀ .control ≡ inside o os →
       (ns ns′ : List ℕ) → through-nodes 12 α ns ≡ some ns′ → topOf z₀ .«open» ≡ suc (length ns) → LeftOf a q α (drop i α) ns′ z₀ z p at d
@@ -339,7 +344,7 @@ none-behind α i e = ap (λ (k : ℕ). drop k α) e ∙ drop-length α
 
 module _ (s : List ℕ) (q : ℕ) (line : Line) (z₀ : State) (p : Pen) where
   pub all-left : LeftIn s q line 0 z₀ p z₀ (p .at) (p .lent)
-  all-left = record { few = omega arith; reach = omega arith; count = omega arith; dry = λ u. refl; left-of = λ a y α l h o os e ns ns′ t n. left-all a q α ns ns′ z₀ p h t n }
+  all-left = record { few = omega arith; reach = omega arith; count = omega arith; deep = refl; dry = λ u. refl; left-of = λ a y α l h o os e ns ns′ t n. left-all a q α ns ns′ z₀ p h t n }
 
   module _ (i : ℕ) (z : State) (at : ℕ) (d : List ℕ) (L : LeftIn s q line i z₀ p z at d) where
     -- the string has ended
@@ -348,6 +353,7 @@ module _ (s : List ℕ) (q : ℕ) (line : Line) (z₀ : State) (p : Pen) where
         record {
           reach = omega (arith, L .few, L .reach);
           count = omega (arith, L .few, L .count);
+          deep = L .deep;
           dry = L .dry;
           right = λ a y α l h o os e ns ns′ t n.
               left-none s a y q α ns′ z₀ z p at d o os e (subst (λ (β : List Bracket). LeftOf a q α β ns′ z₀ z p at d) (none-behind α i (omega (arith, l .length-is, past, L .few))) (L .left-of a y α l h o os e ns ns′ t n));
@@ -370,6 +376,7 @@ module _ (s : List ℕ) (q : ℕ) (line : Line) (z₀ : State) (p : Pen) where
           record {
             reach = omega (arith, here, L .reach, B .reach);
             count = omega (arith, here, L .count, B .count);
+            deep = B .deep ∙ L .deep;
             dry = λ u. B .dry u ∙ L .dry u;
             right = λ a y α l h o os e ns ns′ t n.
                 left-stops s a y q α ns′ z₀ z p at d o os e (it α l .it) (drop (suc i) α) (at-it a y α l h o os e ns ns′ t n) v d₁ (its-node α l) f;
@@ -381,6 +388,7 @@ module _ (s : List ℕ) (q : ℕ) (line : Line) (z₀ : State) (p : Pen) where
             few = omega arith;
             reach = omega (arith, L .reach, B .reach);
             count = omega (arith, L .count, B .count);
+            deep = B .deep ∙ L .deep;
             dry = λ u. B .dry u ∙ L .dry u;
             left-of = λ a y α l h o os e ns ns′ t n.
                 subst (λ (k : ℕ). LeftOf a q α (drop k α) ns′ z₀ (v .state) p (v .at) d₁) (sym (add-one i))

@@ -21,7 +21,7 @@ use Rattle.state.specs.declared.State.{State}
 use Rattle.visits.specs.Written.{Pen}
 use Rattle.ways.specs.Held.{LineIs}
 use Rattle.ways.specs.declared.Line.{Line}
-use Rattle.acts.specs.declared.Acted.{Acted}
+use Rattle.acts.specs.Seen.{Outcome as Acted}
 use Rattle.acts.specs.Acted.{Comes, BracketsAs, EntersAs, LeavesAs, ReadsAs}
 
 pub record Agree (p : Pen) (r t : Acted) (d e : List ℕ) : Type 0 where

@@ -21,7 +21,7 @@ use Rattle.calls.specs.Limits.{silent}
 use Rattle.state.specs.Changes.{topOf}
 use Rattle.state.specs.Meaning.{meaningOf, opensOf, Shaped}
 use Rattle.state.specs.declared.State.{State}
-use Rattle.acts.specs.declared.Acted.{Acted}
+use Rattle.acts.specs.Seen.{Outcome as Acted}
 
 -- the acts came to m, and the run then stands at c: the state stands for that, and m's output is what was written from p on
 pub record Done (c : Control) (m : Store) (z : State) (p : Pen) (r : Acted) (d : List ℕ) : Type 0 where
@@ -44,6 +44,7 @@ visitReach = mostPrinted * 16384 + 64
 pub record BracketsAs (s : List ℕ) (q : ℕ) (line : Line) (z : State) (p : Pen) (r : Acted) (d : List ℕ) : Type 0 where
   pub reach : r .at ≤ p .at + 128 * visitReach
   pub count : r .state .count ≤ z .count + 128
+  pub deep : r .state .depth ≡ z .depth
   pub dry : p .write ≡ false → d ≡ p .lent
   pub right : (a : Sheet) → IsSheet s a → (α : List Bracket) → LineIs (some α) line → Shaped z → (o : Open) (os : List Open) → meaningOf z .control ≡ inside o os →
       (ns ns′ : List ℕ) → through-nodes 12 α ns ≡ some ns′ → topOf z .«open» ≡ suc (length ns) →

@@ -22,7 +22,7 @@ use Rattle.runs.specs.Machine.{Open, inside}
 use Rattle.state.specs.Changes.{topOf, withEnv}
 use Rattle.state.specs.Meaning.{meaningOf, Shaped}
 use Rattle.state.specs.declared.State.{State}
-use Rattle.acts.specs.declared.Acted.{Acted}
+use Rattle.acts.specs.Seen.{Outcome as Acted}
 use Rattle.acts.specs.Acted.{Comes, visitReach}
 
 -- of a node's two visits, the second where `again` says so: the visit, its program, and what it can recall
@@ -75,6 +75,7 @@ setsAfter (closing i) n = n - 1
 pub record NodeAs (s : List ℕ) (q : ℕ) (b : Bracket) (z : State) (p : Pen) (r : Acted) (d : List ℕ) : Type 0 where
   pub reach : r .at ≤ p .at + visitReach
   pub count : r .state .count ≤ z .count + 1
+  pub deep : r .state .depth ≡ z .depth
   pub dry : p .write ≡ false → d ≡ p .lent
   pub sets : Shaped z → 0 < z .depth → Room b (topOf z .«open») → r .ok ≡ true → topOf (r .state) .«open» ≡ setsAfter b (topOf z .«open»)
   pub right : (a : Sheet) → IsSheet s a → Shaped z → (o : Open) (os : List Open) → meaningOf z .control ≡ inside o os → Room b (topOf z .«open») →
@@ -84,5 +85,6 @@ pub record NodeAs (s : List ℕ) (q : ℕ) (b : Bracket) (z : State) (p : Pen) (
 pub record BracketAs (s : List ℕ) (q c : ℕ) (z : State) (p : Pen) (r : Acted) (d : List ℕ) : Type 0 where
   pub reach : r .at ≤ p .at + visitReach
   pub count : r .state .count ≤ z .count + 1
+  pub deep : r .state .depth ≡ z .depth
   pub dry : p .write ≡ false → d ≡ p .lent
   pub right : (b : Bracket) → c ≡ codeOf b → NodeAs s q b z p r d

@@ -1,15 +1,20 @@
 // Acts: what brackets, tags and characters do to a state, with output into lent memory or dry.
-ghost use Prim.Native.Nat.{_+_, _≤_, _<_, _^_};
+ghost use mathlib.Core.Path.{_≡_};
+ghost use mathlib.Core.List.{List};
+ghost use lib.ListN.{length};
+ghost use Prim.Native.Nat.{ℕ, _+_, _≤_, _<_, _^_};
 ghost use Rattle.text.specs.Chars.{Char};
 ghost use Rattle.expressions.specs.Words.{opening, closing};
 ghost use Rattle.layout.specs.LaidOut.{LaidOut};
 ghost use Rattle.sheet.specs.Defect.{WellFormed};
+ghost use Rattle.live.specs.Live.{full, SameBelow};
+ghost use Rattle.acts.specs.Seen.{seen};
 ghost use Rattle.acts.specs.Acted.{EntersAs, LeavesAs, ReadsAs, BracketsAs};
 ghost use Rattle.acts.specs.Visited.{FieldFound, VisitedAs, EchoedAs, NodeAs, BracketAs};
 use layout::Layout;
+use live::Live;
 use state::Frame;
 use state::Saved;
-use state::State;
 use ways::Line;
 
 // A field that names no program.
@@ -19,7 +24,7 @@ const NONE: usize = 65535;
 pub struct Acted {
     pub ok: bool,
     pub at: usize,
-    pub state: State,
+    pub live: Live,
 }
 
 // The field of production q's node i for its first visit or its second; the production itself is node 0.
@@ -53,7 +58,7 @@ fn visit(
     i: usize,
     again: bool,
     kept: [u8; 4],
-    z: State,
+    z: Live,
     out: &mut [u8],
     at: usize,
     write: bool,
@@ -63,7 +68,7 @@ fn visit(
     requires { ⌜ at ≤ 2 ^ 60 ⌝ }
     requires { ⌜ z .count + 1 < 2 ^ 64 ⌝ }
     requires { ⌜ WellFormed (now s) ⌝ }
-    ensures { λ r. ⌜ VisitedAs (now (s .entry)) q i again kept z (record { write = write; lent = now (out .entry); at = at }) r (now (out .exit)) ⌝ }
+    ensures { λ r. ⌜ ((b : List ℕ) → VisitedAs (now (s .entry)) q i again kept (full z b) (record { write = write; lent = now (out .entry); at = at }) (seen r b) (now (out .exit))) ⌝ }
 {
     let values = z.values;
     let before = visits::Env {
@@ -77,7 +82,7 @@ fn visit(
     Acted {
         ok: done.ok,
         at: done.at,
-        state: z.with_env(changed, after.echo, z.count + 1),
+        live: z.with_env(changed, after.echo, z.count + 1),
     }
 }
 
@@ -110,7 +115,8 @@ pub fn enter(
     s: &[u8],
     l: Layout,
     q: usize,
-    z: State,
+    z: Live,
+    stack: &mut [u8],
     out: &mut [u8],
     at: usize,
     write: bool,
@@ -120,26 +126,29 @@ pub fn enter(
     requires { ⌜ at ≤ 2 ^ 59 ⌝ }
     requires { ⌜ z .count ≤ 2 ^ 63 ⌝ }
     requires { ⌜ WellFormed (now s) ⌝ }
-    ensures { λ r. ⌜ EntersAs (now (s .entry)) q z (record { write = write; lent = now (out .entry); at = at }) r (now (out .exit)) ⌝ }
+    requires { ⌜ z .depth < 32 ⌝ }
+    requires { ⌜ 2176 ≤ length (now stack) ⌝ }
+    ensures { λ r. ⌜ EntersAs (now (s .entry)) q (full z (now (stack .entry))) (record { write = write; lent = now (out .entry); at = at }) (seen r (now (stack .exit))) (now (out .exit)) ⌝ }
+    ensures { λ _. ⌜ SameBelow z (now (stack .entry)) (now (stack .exit)) ⌝ }
+    ensures { λ _. ⌜ length (now (stack .exit)) ≡ length (now (stack .entry)) ⌝ }
 {
     let nothing = [0u8; 4];
     let visited = visit(s, l, q, 0, false, nothing, z, out, at, write);
     if !visited.ok {
         return visited;
     }
-    let after = visited.state;
+    let after = visited.live;
     let to = echo_tag(s, l, q, false, after.echo, out, visited.at, write);
     let values = after.values;
     let kept = Saved {
         values: values,
         echo: z.echo,
     };
-    let pushed = after.push(Frame::start(q as u8, kept));
-    let inside = pushed.state;
+    let inside = after.push(Frame::start(q as u8, kept), stack);
     Acted {
         ok: true,
         at: to,
-        state: inside,
+        live: inside,
     }
 }
 
@@ -149,7 +158,8 @@ pub fn leave(
     s: &[u8],
     l: Layout,
     q: usize,
-    z: State,
+    z: Live,
+    stack: &[u8],
     out: &mut [u8],
     at: usize,
     write: bool,
@@ -159,44 +169,45 @@ pub fn leave(
     requires { ⌜ at ≤ 2 ^ 59 ⌝ }
     requires { ⌜ z .count ≤ 2 ^ 63 ⌝ }
     requires { ⌜ WellFormed (now s) ⌝ }
-    ensures { λ r. ⌜ LeavesAs (now (s .entry)) q z (record { write = write; lent = now (out .entry); at = at }) r (now (out .exit)) ⌝ }
+    requires { ⌜ z .depth ≤ 32 ⌝ }
+    ensures { λ r. ⌜ LeavesAs (now (s .entry)) q (full z (now (stack .entry))) (record { write = write; lent = now (out .entry); at = at }) (seen r (now (stack .entry))) (now (out .exit)) ⌝ }
 {
     let taken = z.restore();
     let kept = taken.saved;
     let values = kept.values;
-    let visited = visit(s, l, q, 0, true, values, taken.state, out, at, write);
+    let visited = visit(s, l, q, 0, true, values, taken.live, out, at, write);
     if !visited.ok {
         return visited;
     }
-    let after = visited.state;
+    let after = visited.live;
     let to = echo_tag(s, l, q, true, after.echo, out, visited.at, write);
     let changed = after.values;
     let left = after.with_env(changed, kept.echo, after.count);
     Acted {
         ok: true,
         at: to,
-        state: left.pop(),
+        live: left.pop(stack),
     }
 }
 
 // A character, written if echo is on.
-pub fn read_character(c: u32, z: State, out: &mut [u8], at: usize, write: bool) -> Acted
+pub fn read_character(c: u32, z: Live, out: &mut [u8], at: usize, write: bool) -> Acted
     requires { ⌜ at ≤ 2 ^ 59 ⌝ }
     requires { ⌜ Char c ⌝ }
-    ensures { λ r. ⌜ ReadsAs c z (record { write = write; lent = now (out .entry); at = at }) r (now (out .exit)) ⌝ }
+    ensures { λ r. ⌜ ((b : List ℕ) → ReadsAs c (full z b) (record { write = write; lent = now (out .entry); at = at }) (seen r b) (now (out .exit))) ⌝ }
 {
     if z.echo {
         let to = output::put_char(out, at, c, write);
         return Acted {
             ok: true,
             at: to,
-            state: z,
+            live: z,
         };
     }
     Acted {
         ok: true,
         at: at,
-        state: z,
+        live: z,
     }
 }
 
@@ -206,7 +217,7 @@ fn open_node(
     l: Layout,
     q: usize,
     i: usize,
-    z: State,
+    z: Live,
     out: &mut [u8],
     at: usize,
     write: bool,
@@ -216,14 +227,14 @@ fn open_node(
     requires { ⌜ at ≤ 2 ^ 60 ⌝ }
     requires { ⌜ z .count + 1 < 2 ^ 64 ⌝ }
     requires { ⌜ WellFormed (now s) ⌝ }
-    ensures { λ r. ⌜ NodeAs (now (s .entry)) q (opening i) z (record { write = write; lent = now (out .entry); at = at }) r (now (out .exit)) ⌝ }
+    ensures { λ r. ⌜ ((b : List ℕ) → NodeAs (now (s .entry)) q (opening i) (full z b) (record { write = write; lent = now (out .entry); at = at }) (seen r b) (now (out .exit))) ⌝ }
 {
     let nothing = [0u8; 4];
     let visited = visit(s, l, q, i, false, nothing, z, out, at, write);
     if !visited.ok {
         return visited;
     }
-    let after = visited.state;
+    let after = visited.live;
     let given = after.values;
     let kept = Saved {
         values: given,
@@ -232,7 +243,7 @@ fn open_node(
     Acted {
         ok: true,
         at: visited.at,
-        state: after.save(kept),
+        live: after.save(kept),
     }
 }
 
@@ -242,7 +253,7 @@ fn close_node(
     l: Layout,
     q: usize,
     i: usize,
-    z: State,
+    z: Live,
     out: &mut [u8],
     at: usize,
     write: bool,
@@ -252,21 +263,21 @@ fn close_node(
     requires { ⌜ at ≤ 2 ^ 60 ⌝ }
     requires { ⌜ z .count + 1 < 2 ^ 64 ⌝ }
     requires { ⌜ WellFormed (now s) ⌝ }
-    ensures { λ r. ⌜ NodeAs (now (s .entry)) q (closing i) z (record { write = write; lent = now (out .entry); at = at }) r (now (out .exit)) ⌝ }
+    ensures { λ r. ⌜ ((b : List ℕ) → NodeAs (now (s .entry)) q (closing i) (full z b) (record { write = write; lent = now (out .entry); at = at }) (seen r b) (now (out .exit))) ⌝ }
 {
     let taken = z.restore();
     let kept = taken.saved;
     let values = kept.values;
-    let visited = visit(s, l, q, i, true, values, taken.state, out, at, write);
+    let visited = visit(s, l, q, i, true, values, taken.live, out, at, write);
     if !visited.ok {
         return visited;
     }
-    let after = visited.state;
+    let after = visited.live;
     let changed = after.values;
     Acted {
         ok: true,
         at: visited.at,
-        state: after.with_env(changed, kept.echo, after.count),
+        live: after.with_env(changed, kept.echo, after.count),
     }
 }
 
@@ -276,7 +287,7 @@ fn bracket(
     l: Layout,
     q: usize,
     c: u8,
-    z: State,
+    z: Live,
     out: &mut [u8],
     at: usize,
     write: bool,
@@ -286,7 +297,7 @@ fn bracket(
     requires { ⌜ at ≤ 2 ^ 60 ⌝ }
     requires { ⌜ z .count + 1 < 2 ^ 64 ⌝ }
     requires { ⌜ WellFormed (now s) ⌝ }
-    ensures { λ r. ⌜ BracketAs (now (s .entry)) q c z (record { write = write; lent = now (out .entry); at = at }) r (now (out .exit)) ⌝ }
+    ensures { λ r. ⌜ ((b : List ℕ) → BracketAs (now (s .entry)) q c (full z b) (record { write = write; lent = now (out .entry); at = at }) (seen r b) (now (out .exit))) ⌝ }
 {
     let i = (c / 2) as usize;
     if c % 2 == 0 {
@@ -301,7 +312,7 @@ pub fn brackets(
     l: Layout,
     q: usize,
     line: Line,
-    z: State,
+    z: Live,
     out: &mut [u8],
     at: usize,
     write: bool,
@@ -312,24 +323,24 @@ pub fn brackets(
     requires { ⌜ at ≤ 2 ^ 59 ⌝ }
     requires { ⌜ z .count ≤ 2 ^ 63 ⌝ }
     requires { ⌜ WellFormed (now s) ⌝ }
-    ensures { λ r. ⌜ BracketsAs (now (s .entry)) q line z (record { write = write; lent = now (out .entry); at = at }) r (now (out .exit)) ⌝ }
+    ensures { λ r. ⌜ ((b : List ℕ) → BracketsAs (now (s .entry)) q line (full z b) (record { write = write; lent = now (out .entry); at = at }) (seen r b) (now (out .exit))) ⌝ }
 {
     let codes = line.brackets;
     let mut i = 0;
     let mut to = at;
-    let mut state = z;
+    let mut live = z;
     while i < line.length {
-        let next = bracket(s, l, q, codes[i], state, out, to, write);
+        let next = bracket(s, l, q, codes[i], live, out, to, write);
         if !next.ok {
             return next;
         }
         to = next.at;
-        state = next.state;
+        live = next.live;
         i += 1;
     }
     Acted {
         ok: true,
         at: to,
-        state: state,
+        live: live,
     }
 }

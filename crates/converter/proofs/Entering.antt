@@ -20,7 +20,7 @@ use Rattle.faults.specs.Verdict.{VerdictIs, malformed, passes, breaks-T, breaks
 use Rattle.runs.specs.Taken.{Passed}
 use Rattle.runs.specs.Machine.{Control}
 use Rattle.calls.specs.Call.{atEnd, numberAt, again}
-use Rattle.state.specs.Changes.{notClosed, bareFrame, closedWith}
+use Rattle.state.specs.Changes.{notClosed, bareFrame}
 use Rattle.state.specs.Meaning.{standing, meaningOf, Shaped}
 use Rattle.state.specs.Bytes.{stateFrom, Sized, Wrote}
 use Rattle.state.specs.declared.Frame.{Frame}
@@ -30,8 +30,9 @@ use Rattle.fit.specs.Tests.{FitTold}
 use Rattle.fit.proofs.Theorems.{fits-sheet, fit-shaped}
 use Rattle.fit.proofs.RunsFit.{fit-run}
 use Rattle.converter.specs.Answered.{FitsSheet, GivenBack, sheet-fails, unfit, closed}
+use Rattle.live.specs.declared.Live.{Live}
 use Rattle.converter.specs.Bytes.{stateBytes, stateIn}
-use Rattle.converter.specs.Inner.{MayRun, Entered, may-run, given-back, leftWith}
+use Rattle.converter.specs.Inner.{MayRun, Entered, may-run, given-back, closedLive, leftLive}
 use Rattle.converter.proofs.Replies.{some-inj}
 
 -- a sheet that is answered with 0 passes
@@ -160,10 +161,10 @@ pub begun-closed : (more : Bool) (left : ℕ) (z : State) → more ≡ false →
 begun-closed more left z e h d = begun-end more left (meaningOf z .control) e h ∙ ap some (none-open z d)
 
 -- what is handed back with a number
-pub left-open : (n : ℕ) (z : State) → (n ≡ 16) ⊎ (n ≡ 17) → z ≡ leftWith n z
-left-open n z (inl e) = ap (λ (b : Bool). cond (b || eqb n 17) z (closedWith z n)) (sym (eq-eqb n 16 e))
-left-open n z (inr e) =
-    ap₂ (λ (b b′ : Bool). cond (b || b′) z (closedWith z n)) (sym (ne-eqb n 16 (λ q. omega (arith, e, q)))) (sym (eq-eqb n 17 e))
+pub left-open : (n : ℕ) (h : Live) → (n ≡ 16) ⊎ (n ≡ 17) → h ≡ leftLive n h
+left-open n h (inl e) = ap (λ (b : Bool). cond (b || eqb n 17) h (closedLive h n)) (sym (eq-eqb n 16 e))
+left-open n h (inr e) =
+    ap₂ (λ (b b′ : Bool). cond (b || b′) h (closedLive h n)) (sym (ne-eqb n 16 (λ q. omega (arith, e, q)))) (sym (eq-eqb n 17 e))
 
-pub left-closed : (n : ℕ) (z : State) → (n ≡ 16 → ⊥) → (n ≡ 17 → ⊥) → closedWith z n ≡ leftWith n z
-left-closed n z h k = ap₂ (λ (b b′ : Bool). cond (b || b′) z (closedWith z n)) (sym (ne-eqb n 16 h)) (sym (ne-eqb n 17 k))
+pub left-closed : (n : ℕ) (h : Live) → (n ≡ 16 → ⊥) → (n ≡ 17 → ⊥) → closedLive h n ≡ leftLive n h
+left-closed n h k w = ap₂ (λ (b b′ : Bool). cond (b || b′) h (closedLive h n)) (sym (ne-eqb n 16 k)) (sym (ne-eqb n 17 w))

@@ -1,6 +1,6 @@
 -- How the loop over the tokens goes. What is kept from token to token (`Going`) says what is left: whatever the rest of the part comes to, written behind
 -- what is written so far, is what the whole part comes to. A token that is taken keeps it (`goes-on`); the number of one that is not, or of no token, ends
--- the run there (`stops-at-token`, `stops-at-none`).
+-- the run there (`ends-at-token`, `ends-without`). Over the live part and the stack it is the same run (`may-apart`, `ran-apart`, `stops-seen`).
 -- Assumes nothing.
 use mathlib.Core.Path.{_≡_, refl, sym, ap, ap₂, _∙_, subst}
 use mathlib.Core.Logic.{inl, inr}
@@ -28,24 +28,31 @@ use Rattle.runs.specs.Machine.{Control, State as Standing, answered, run}
 use Rattle.runs.proofs.SheetFits.{sheet-fits}
 use Rattle.calls.specs.Names.{tokenOf}
 use Rattle.calls.specs.Limits.{Taking, taken, refuses, no-room, oneToken}
-use Rattle.calls.specs.Held.{leavesOpen, closingOf, handed, Closing}
-use Rattle.calls.specs.Call.{Result, roomLeft, stopped, after-writing, numberAt, Runs, takes, stops, full, no-token, CalledBy}
+use Rattle.calls.specs.Held.{Held, leavesOpen, closingOf, handed, Closing}
+use Rattle.calls.specs.Call.{Result, roomLeft, stopped, after-writing, numberAt, Runs, takes, stops, full as no-space, no-token, CalledBy, Called}
 use Rattle.calls.proofs.Steps.{takes-one, refuses-over}
 use Rattle.calls.proofs.Exactly.{closing-fits}
-use Rattle.state.specs.Changes.{notClosed, closedWith}
+use Rattle.state.specs.Changes.{notClosed, closedWith, withEnv}
 use Rattle.state.specs.Meaning.{meaningOf, Shaped}
 use Rattle.state.specs.declared.State.{State}
-use Rattle.state.proofs.Meant.{meaning-closed, shaped-closed}
+use Rattle.state.proofs.Meant.{meaning-closed, shaped-closed, shaped-env}
 use Rattle.fit.specs.Fit.{ended, refused as closed-by-refusal, counted, ClosingFits}
 use Rattle.fit.specs.RunFits.{RunFits}
 use Rattle.fit.proofs.RunsFit.{run-fit}
 use Rattle.steps.proofs.Onward.{event-fits, taken-fits}
 use Rattle.steps.specs.Taken.{EventIn, Taken, Takes, TakenAs}
-use Rattle.steps.specs.declared.Stepped.{Stepped}
+use Rattle.steps.specs.Seen.{Whole as Stepped}
+use Rattle.steady.specs.Steady.{counting}
+use Rattle.stretches.specs.declared.Stretch.{Stretch}
+use Rattle.ahead.specs.Ahead.{OnwardAs}
+use Rattle.live.specs.declared.Live.{Live}
+use Rattle.live.specs.Live.{full}
+use Rattle.apart.specs.Apart.{ApartAs}
 use Rattle.converter.specs.declared.Reply.{Reply}
+use Rattle.converter.specs.declared.LiveReply.{LiveReply}
 use Rattle.converter.specs.Answered.{FitsSheet, closingIn, heldOf, Ran}
-use Rattle.converter.specs.Inner.{MayRun, NumberedAs, leftWith, StopsAs}
-use Rattle.converter.proofs.Replies.{InTable, run-number}
+use Rattle.converter.specs.Inner.{MayRun, NumberedAs, leftWith, StopsAs, closedLive, leftLive, StopsLive, seen, RanLive}
+use Rattle.converter.proofs.Replies.{InTable, run-number, fits-here}
 
 -- what the reader answers of a part lies in it
 pub event-in : (part : List ℕ) (at : ℕ) (e : Event) (next : Cursor) → Means (front part at) at (Token e next) → EventIn part e
@@ -162,7 +169,52 @@ module _ {s : List ℕ} {z₀ : State} {part : List ℕ} {more : Bool} {lent d :
         by : (t : Taking) → here ≡ t → Takes t z d put r d′ → Runs sheet part more at left (meaningOf z) (stopped (r .number) at (meaningOf z)) × (d ≡ d′)
         by (taken y u) q k = absurd (w (k .number))
         by (refuses n) q k = (subst (λ (i : ℕ). Runs sheet part more at left (meaningOf z) (stopped i at (meaningOf z))) (sym (k .number)) (stops e next n means q), sym (k .left))
-        by no-room q k = (subst (λ (i : ℕ). Runs sheet part more at left (meaningOf z) (stopped i at (meaningOf z))) (sym (k .number)) (full e next means q), sym (k .left))
+        by no-room q k = (subst (λ (i : ℕ). Runs sheet part more at left (meaningOf z) (stopped i at (meaningOf z))) (sym (k .number)) (no-space e next means q), sym (k .left))
+
+-- the same run at another count
+counted-on : (z : State) (n : ℕ) → meaningOf (withEnv z (z .values) (z .echo) n) ≡ counting (meaningOf z) n
+unfolding meaningOf
+counted-on z n = refl
+
+counting-fits : (a : Sheet) (m : Standing) (n : ℕ) → RunFits a m → RunFits a (counting m n)
+counting-fits a m n f =
+    record { chain = f .chain; kept = f .kept; store = record { values-fit = f .store .values-fit; kept-fit = f .store .kept-fit; output-fits = tt } }
+
+-- a stretch was taken at once
+module _ {s : List ℕ} {z₀ : State} {part : List ℕ} {more : Bool} {lent d : List ℕ} {at put : ℕ} {z : State} (g : Going s z₀ part more lent d at put z) where
+  pub goes-far : (r : Stretch) (d′ : List ℕ) → OnwardAs s part z d at put r d′ → Going s z₀ part more lent d′ (r .at) (r .put) (withEnv z (z .values) (z .echo) (r .count))
+  goes-far r d′ O =
+      let a : Sheet = g .given .sheet in
+      let w : List ℕ = O .written in
+      let n : r .put ≡ put + length w = O .next in
+      let h : put + length w ≤ length lent = omega (arith, n, O .room, g .long) in
+      let e = then-written g w d′ h (O .left) in
+      let m : meaningOf (withEnv z (z .values) (z .echo) (r .count)) ≡ counting (meaningOf z) (r .count) = counted-on z (r .count) in
+      record {
+        within = O .within;
+        room = omega (arith, n, h);
+        long = O .long ∙ g .long;
+        count = O .count;
+        is-open = g .is-open;
+        shaped = shaped-env z (z .values) (z .echo) (r .count) (g .shaped);
+        given = g .given;
+        fits = subst (RunFits a) (sym m) (counting-fits a (meaningOf z) (r .count) (g .fits));
+        written = g .written ++ w;
+        as-long = length-append (g .written) w ∙ omega (arith, n, g .as-long);
+        first = e ∙ ap (λ (i : ℕ). (g .written ++ w) ++ drop i lent) (sym n);
+        rest = λ x c.
+            let here : Runs a part more (r .at) (length d - r .put) (counting (meaningOf z) (r .count)) x =
+            subst (λ (i : Standing). Runs a part more (r .at) (length d - r .put) i x) m
+            (subst (λ (i : ℕ). Runs a part more (r .at) (i - r .put) (meaningOf (withEnv z (z .values) (z .echo) (r .count))) x) (sym (g .long)) c) in
+            let there : Runs a part more at (length lent - put) (meaningOf z) (after-writing w x) =
+            subst (λ (i : ℕ). Runs a part more at (i - put) (meaningOf z) (after-writing w x)) (g .long) (O .rest a (g .given .is-sheet) (g .shaped) (g .fits) more x here) in
+            subst (Runs a part more 0 (length lent) (meaningOf z₀))
+            (ap (λ (l : List ℕ). record { number = x .number; taken = x .taken; output = l; held = x .held }) (sym (append-assoc (g .written) w (x .output))))
+            (g .rest (after-writing w x) there);
+      }
+
+pub at-state : {s : List ℕ} {z₀ : State} {part : List ℕ} {more : Bool} {lent d : List ℕ} {at put : ℕ} {y z : State} → y ≡ z → Going s z₀ part more lent d at put z → Going s z₀ part more lent d at put y
+at-state {s} {z₀} {part} {more} {lent} {d} {at} {put} e g = subst (Going s z₀ part more lent d at put) (sym e) g
 
 -- what is handed back with a number
 closing-is : {n : ℕ} → Closing n → ClosingFits n × (n ≤ 30)
@@ -277,3 +329,69 @@ module _ {s : List ℕ} {z₀ : State} {part : List ℕ} (ended-now : Bool) {len
 -- what the reader answered is the token that was bound
 pub bound : (part : List ℕ) (at : ℕ) (x : Answer) (e : Event) (next : Cursor) → Means (front part at) at x → x ≡ Token e next → Means (front part at) at (Token e next)
 bound part at x e next m q = subst (Means (front part at) at) q m
+
+-- the live part of a state is closed as the state is
+full-left : (n : ℕ) (h : Live) (b : List ℕ) → full (leftLive n h) b ≡ leftWith n (full h b)
+full-left n h b = by (leavesOpen n)
+  where
+    by : (c : Bool) → full (cond c h (closedLive h n)) b ≡ cond c (full h b) (closedWith (full h b) n)
+    by true = refl
+    by false = refl
+
+depth-left : (n : ℕ) (h : Live) → leftLive n h .depth ≡ h .depth
+depth-left n h = by (leavesOpen n)
+  where
+    by : (c : Bool) → cond c h (closedLive h n) .depth ≡ h .depth
+    by true = refl
+    by false = refl
+
+-- what a run stops with, with the whole state
+module _ {n at put : ℕ} {h : Live} {r : LiveReply} (t : StopsLive n at put h r) (b : List ℕ) where
+  pub stops-seen : (z : State) → full h b ≡ z → StopsAs n at put z (seen r b)
+  stops-seen z e =
+      record {
+        number = t .number;
+        taken = t .taken;
+        written = t .written;
+        visits = t .visits;
+        state = ap (λ (l : Live). full l b) (t .live) ∙ full-left n h b ∙ ap (leftWith n) e;
+      }
+
+  pub ran-live : {s : List ℕ} {z : State} {part : List ℕ} {ended-now : Bool} {lent d : List ℕ} → h .depth ≤ 32 → Ran s z part ended-now lent d (seen r b) → RanLive s z part ended-now lent d r b
+  ran-live k w = record { deep = omega (arith, k, ap (λ (l : Live). l .depth) (t .live), depth-left n h); visits = t .visits; ran = w }
+
+-- a state that is taken apart runs as it does whole
+module _ {s : List ℕ} {z : State} {b b′ : List ℕ} {h : Live} (m : MayRun s z) (o : ApartAs z b h b′) where
+  pub may-apart : MayRun s (full h b′)
+  may-apart =
+      let f : RunFits (m .sheet) (meaningOf (full h b′)) = subst (RunFits (m .sheet)) (sym (o .means)) (m .run-fits) in
+      let c : h .closed ≡ notClosed = o .closed ∙ m .is-open in
+      record {
+        sheet = m .sheet;
+        is-sheet = m .is-sheet;
+        passed = m .passed;
+        fits = run-fit (m .sheet) (full h b′) (o .shaped) f (omega (arith, o .count, m .fits .count)) (inl c);
+        is-open = c;
+        shaped = o .shaped;
+        run-fits = f;
+      }
+
+  pub ran-apart : {part : List ℕ} {ended-now : Bool} {lent d : List ℕ} {r : Reply} → Ran s (full h b′) part ended-now lent d r → Ran s z part ended-now lent d r
+  ran-apart {part} {ended-now} {lent} w =
+      let e : heldOf (full h b′) ≡ heldOf z = ap₂ (λ (x : Standing) (c : ℕ). record { run = x; closing = closingIn c }) (o .means) (o .closed) in
+      record {
+        sheet = w .sheet;
+        is-sheet = w .is-sheet;
+        passed = w .passed;
+        fits = fits-here (w .is-sheet) (w .passed) (m .is-sheet) (m .fits);
+        is-open = ap closingIn (m .is-open);
+        answer = w .answer;
+        called = subst (λ (x : Held). Called (w .sheet) part (not ended-now) (length lent) x (w .answer)) e (w .called);
+        number = w .number;
+        taken = w .taken;
+        written = w .written;
+        room = w .room;
+        left = w .left;
+        held = w .held;
+        fits-again = w .fits-again;
+      }

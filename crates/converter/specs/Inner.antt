@@ -16,8 +16,11 @@ use Rattle.state.specs.Changes.{notClosed, closedWith}
 use Rattle.state.specs.Meaning.{meaningOf, Shaped}
 use Rattle.state.specs.declared.State.{State}
 use Rattle.fit.specs.RunFits.{RunFits}
+use Rattle.live.specs.declared.Live.{Live}
+use Rattle.live.specs.Live.{full}
 use Rattle.converter.specs.declared.Reply.{Reply}
-use Rattle.converter.specs.Answered.{FitsSheet, GivenBack}
+use Rattle.converter.specs.declared.LiveReply.{LiveReply}
+use Rattle.converter.specs.Answered.{FitsSheet, GivenBack, Ran}
 
 -- the sheet passes, and the state fits it and is open
 pub record MayRun (s : List ℕ) (z : State) : Type 0 where
@@ -52,3 +55,28 @@ pub record StopsAs (n at put : ℕ) (z : State) (r : Reply) : Type 0 where
   pub written : r .written ≡ put
   pub visits : r .visits ≡ r .state .count
   pub state : r .state ≡ leftWith n z
+
+-- the same of the live part of a state
+abbrev pub closedLive : Live → ℕ → Live
+closedLive h n =
+    record { values = h .values; echo = h .echo; count = h .count; rooted = h .rooted; closed = n; depth = h .depth; top = h .top }
+
+abbrev pub leftLive : ℕ → Live → Live
+leftLive n h = cond (leavesOpen n) h (closedLive h n)
+
+pub record StopsLive (n at put : ℕ) (h : Live) (r : LiveReply) : Type 0 where
+  pub number : r .number ≡ n
+  pub taken : r .taken ≡ at
+  pub written : r .written ≡ put
+  pub visits : r .visits ≡ r .live .count
+  pub live : r .live ≡ leftLive n h
+
+-- a run's reply with the whole state: the live part and the stack's bytes together
+abbrev pub seen : LiveReply → List ℕ → Reply
+seen r b = record { number = r .number; taken = r .taken; written = r .written; visits = r .visits; state = full (r .live) b }
+
+-- a run over the live part and the stack, which are then b
+pub record RanLive (s : List ℕ) (z : State) (part : List ℕ) (ended : Bool) (lent after : List ℕ) (r : LiveReply) (b : List ℕ) : Type 0 where
+  pub deep : r .live .depth ≤ 32
+  pub visits : r .visits ≡ r .live .count
+  pub ran : Ran s z part ended lent after (seen r b)

@@ -2,7 +2,9 @@
 ghost use mathlib.Core.Path.{_≡_};
 ghost use mathlib.Core.Bool.{not};
 ghost use mathlib.Core.Option.{some};
-ghost use Prim.Native.Nat.{_≤_};
+ghost use mathlib.Core.List.{List};
+ghost use Prim.Native.Nat.{ℕ, _≤_};
+ghost use lib.ListN.{length};
 ghost use Rattle.layout.specs.LaidOut.{LaidOut};
 ghost use Rattle.tokens.specs.declared.Answer.the-variants.{Begun};
 ghost use Rattle.calls.specs.Call.{again, numberAt};
@@ -10,11 +12,17 @@ ghost use Rattle.state.specs.Meaning.{meaningOf, Shaped};
 ghost use Rattle.state.specs.Bytes.{stateFrom};
 ghost use Rattle.converter.specs.Answered.{Ran, AnsweredAs};
 ghost use Rattle.converter.specs.Bytes.{stateIn, BytesAnsweredAs};
-ghost use Rattle.converter.specs.Inner.{MayRun, Entered, NumberedAs, leftWith, StopsAs};
+ghost use Rattle.live.specs.Live.{full};
+ghost use Rattle.converter.specs.Inner.{MayRun, Entered, NumberedAs, leftLive, StopsLive, RanLive};
+use ahead::onward;
+use apart::STACK_BYTES;
+use apart::apart;
+use apart::together;
 use faults::verdict;
 use fit::state_fits;
 use layout::Layout;
 use layout::layout_of;
+use live::Live;
 use state::State;
 use state::bytes::STATE_BYTES;
 use state::bytes::from_bytes;
@@ -38,6 +46,15 @@ pub struct Counts {
     pub taken: usize,
     pub written: usize,
     pub visits: u64,
+}
+
+// What a run comes to, with the live part of the state that is left.
+pub struct LiveReply {
+    pub number: usize,
+    pub taken: usize,
+    pub written: usize,
+    pub visits: u64,
+    pub live: Live,
 }
 
 // A closed state answers its number again, and 28 after 0.
@@ -71,9 +88,8 @@ fn given_back(sheet: &[u8], state: State) -> usize
 }
 
 // The number where the next token is only begun, or nothing is left.
-fn number_begun(ended: bool, left: usize, z: State) -> usize
-    requires { ⌜ Shaped z ⌝ }
-    ensures { λ r. ⌜ numberAt (not ended) left (meaningOf z .control) Begun ≡ some r ⌝ }
+fn number_begun(ended: bool, left: usize, z: Live) -> usize
+    ensures { λ r. ⌜ ((b : List ℕ) → Shaped (full z b) → numberAt (not ended) left (meaningOf (full z b) .control) Begun ≡ some r) ⌝ }
 {
     if ended {
         if left > 0 {
@@ -89,9 +105,8 @@ fn number_begun(ended: bool, left: usize, z: State) -> usize
 }
 
 // The number where no whole token comes next.
-fn number_without_token(answer: Answer, ended: bool, left: usize, z: State) -> usize
-    requires { ⌜ Shaped z ⌝ }
-    ensures { λ r. ⌜ NumberedAs (not ended) left (meaningOf z .control) answer r ⌝ }
+fn number_without_token(answer: Answer, ended: bool, left: usize, z: Live) -> usize
+    ensures { λ r. ⌜ ((b : List ℕ) → Shaped (full z b) → NumberedAs (not ended) left (meaningOf (full z b) .control) answer r) ⌝ }
 {
     match answer {
         Answer::Token(_, _) => 0,
@@ -102,9 +117,9 @@ fn number_without_token(answer: Answer, ended: bool, left: usize, z: State) -> u
 }
 
 // 16 and 17 leave the state open, any other number closes it.
-fn left_with(number: usize, z: State) -> State
+fn left_with(number: usize, z: Live) -> Live
     requires { ⌜ number ≤ 30 ⌝ }
-    ensures { λ r. ⌜ r ≡ leftWith number z ⌝ }
+    ensures { λ r. ⌜ r ≡ leftLive number z ⌝ }
 {
     if number == 16 {
         return z;
@@ -112,54 +127,90 @@ fn left_with(number: usize, z: State) -> State
     if number == 17 {
         return z;
     }
-    z.close(number as u8)
+    let mut next = z;
+    next.closed = number as u8;
+    next
 }
 
-fn stop(number: usize, taken: usize, run: Run) -> Reply
+// What a run comes to that stops with a number at a place.
+fn stop(number: usize, taken: usize, run: Run) -> LiveReply
     requires { ⌜ number ≤ 30 ⌝ }
-    ensures { λ r. ⌜ StopsAs number taken (run .at) (run .state) r ⌝ }
+    ensures { λ r. ⌜ StopsLive number taken (run .at) (run .live) r ⌝ }
 {
-    let z = run.state;
+    let z = run.live;
     let left = left_with(number, z);
-    Reply {
+    LiveReply {
         number: number,
         taken: taken,
         written: run.at,
         visits: left.count,
-        state: left,
+        live: left,
     }
 }
 
 // Takes the part's tokens one after another, until one is refused or has no room, or no whole one comes next.
+fn run_live(
+    s: &[u8],
+    l: Layout,
+    live: Live,
+    part: &[u8],
+    ended: bool,
+    stack: &mut [u8],
+    out: &mut [u8],
+) -> LiveReply
+    requires { ⌜ LaidOut (now s) l ⌝ }
+    requires { ⌜ MayRun (now s) (full live (now stack)) ⌝ }
+    requires { ⌜ 2176 ≤ length (now stack) ⌝ }
+    ensures { λ r. ⌜ RanLive (now (s .entry)) (full live (now (stack .entry))) (now (part .entry)) ended (now (out .entry)) (now (out .exit)) r (now (stack .exit)) ⌝ }
+{
+    let mut at = 0;
+    let mut run = Run { at: 0, live: live };
+    loop {
+        let cursor = Cursor { at: at };
+        let answer = cursor.read(part);
+        let Answer::Token(event, next) = answer else {
+            let z = run.live;
+            let number = number_without_token(answer, ended, part.len() - at, z);
+            return stop(number, at, run);
+        };
+        let stepped = run.take(s, l, part, event, stack, out);
+        if stepped.number != 0 {
+            return stop(stepped.number, at, run);
+        }
+        let z = stepped.live;
+        let here = Run {
+            at: stepped.at,
+            live: z,
+        };
+        let far = onward(s, l, here, part, next.at, stack, out);
+        at = far.at;
+        let values = z.values;
+        let y = z.with_env(values, z.echo, far.count);
+        run = Run {
+            at: far.put,
+            live: y,
+        };
+    }
+}
+
+// The same of a whole state: it is taken apart for the run, and what is left is put together again.
 fn run_tokens(s: &[u8], l: Layout, state: State, part: &[u8], ended: bool, out: &mut [u8]) -> Reply
     requires { ⌜ LaidOut (now s) l ⌝ }
     requires { ⌜ MayRun (now s) state ⌝ }
     ensures { λ r. ⌜ Ran (now (s .entry)) state (now (part .entry)) ended (now (out .entry)) (now (out .exit)) r ⌝ }
     ensures { λ r. ⌜ r .visits ≡ r .state .count ⌝ }
 {
-    let mut at = 0;
-    let mut run = Run {
-        at: 0,
-        state: state,
-    };
-    loop {
-        let cursor = Cursor { at: at };
-        let answer = cursor.read(part);
-        let Answer::Token(event, next) = answer else {
-            let z = run.state;
-            let number = number_without_token(answer, ended, part.len() - at, z);
-            return stop(number, at, run);
-        };
-        let stepped = run.take(s, l, part, event, out);
-        if stepped.number != 0 {
-            return stop(stepped.number, at, run);
-        }
-        at = next.at;
-        let z = stepped.state;
-        run = Run {
-            at: stepped.at,
-            state: z,
-        };
+    let mut stack = [0u8; STACK_BYTES];
+    let live = apart(state, &mut stack);
+    let reply = run_live(s, l, live, part, ended, &mut stack, out);
+    let left = reply.live;
+    let whole = together(left, &stack);
+    Reply {
+        number: reply.number,
+        taken: reply.taken,
+        written: reply.written,
+        visits: reply.visits,
+        state: whole,
     }
 }
 

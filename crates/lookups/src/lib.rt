@@ -13,7 +13,7 @@ use layout::Layout;
 const MISSING: usize = 256;
 
 // Names are compared by bytes.
-fn same_name(a: &[u8], b: &[u8]) -> bool
+pub fn same_name(a: &[u8], b: &[u8]) -> bool
     ensures { λ r. ⌜ r ≡ sameName (now (a .entry)) (now (b .entry)) ⌝ }
 {
     if a.len() != b.len() {

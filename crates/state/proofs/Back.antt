@@ -18,9 +18,9 @@ use Rattle.state.proofs.Written.{number-wide}
 use Rattle.state.specs.Bytes.{byteAt, onAt, gathered, bytesAt, savedAt, frameAt, stateFrom, SizedSet, SizedFrame, Sized}
 
 -- the bytes f x, w of them, read by g as x wherever they stand
-record Back {X : Type 0} (f : X → List ℕ) (g : List ℕ → ℕ → X) (w : ℕ) (x : X) : Type 0 where
-  wide : length (f x) ≡ w
-  same : (pre post : List ℕ) (at : ℕ) → length pre ≡ at → g (pre ++ (f x ++ post)) at ≡ x
+pub record Back {X : Type 0} (f : X → List ℕ) (g : List ℕ → ℕ → X) (w : ℕ) (x : X) : Type 0 where
+  pub wide : length (f x) ≡ w
+  pub same : (pre post : List ℕ) (at : ℕ) → length pre ≡ at → g (pre ++ (f x ++ post)) at ≡ x
 
 longer : (pre xs : List ℕ) (at w : ℕ) → length pre ≡ at → length xs ≡ w → length (pre ++ xs) ≡ at + w
 longer pre xs at w p q = length-append pre xs ∙ (cc)
@@ -95,7 +95,7 @@ unfolding joined
 joined-wide f g w [] a = omega arith
 joined-wide f g w (x ∷ l) (more b a) = length-append (f x) (joined f l) ∙ rw (b .wide, joined-wide f g w l a, mul-suc) (omega arith)
 
-frame-back : (f : Frame) → SizedFrame f → Back frameBytes frameAt 68 f
+pub frame-back : (f : Frame) → SizedFrame f → Back frameBytes frameAt 68 f
 unfolding frameBytes frameAt
 frame-back f h =
     let w : length (joined savedBytes (f .saved)) ≡ 65 = joined-wide savedBytes savedAt 5 (f .saved) (each-saved (h .sets)) ∙ rw (h .saved) in

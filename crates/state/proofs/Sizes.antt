@@ -26,7 +26,7 @@ all-held F P h (x ∷ l) (u ∷ us) r = more (h x (u ∷ []) (r .0)) (all-held F
 set-sized : (k : Saved) (vs : List Val) → Is (set-field .row) (set-field .into k) vs → SizedSet k
 set-sized k vs r = record { values = length-mapped _ (k .values) 4 (r .1 .1 .0 .1 .0 .1) }
 
-frame-sized : (f : Frame) (vs : List Val) → Is (frame-field .row) (frame-field .into f) vs → SizedFrame f
+pub frame-sized : (f : Frame) (vs : List Val) → Is (frame-field .row) (frame-field .into f) vs → SizedFrame f
 frame-sized f vs r =
     let sets = r .1 .1 .1 .1 .1 .0 in
     record { saved = length-mapped _ (f .saved) 13 (sets .1 .0 .1); sets = all-held set-field SizedSet set-sized (f .saved) (sets .0) (sets .1 .1) }

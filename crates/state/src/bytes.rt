@@ -12,7 +12,7 @@ pub const STATE_BYTES: usize = 2199;
 
 const SET_BYTES: usize = 5;
 
-const FRAME_BYTES: usize = 68;
+pub const FRAME_BYTES: usize = 68;
 
 fn put_one(memory: &mut [u8], at: usize, b: u8) -> usize
     requires { ⌜ at + 1 < 2 ^ 64 ⌝ }
@@ -77,7 +77,7 @@ fn put_sets(memory: &mut [u8], at: usize, sets: [Saved; 13]) -> usize
     next
 }
 
-fn put_frame(memory: &mut [u8], at: usize, f: Frame) -> usize
+pub fn put_frame(memory: &mut [u8], at: usize, f: Frame) -> usize
     requires { ⌜ at + 68 < 2 ^ 64 ⌝ }
     ensures { λ r. ⌜ Wrote 68 (now (memory .entry)) at (frameBytes f) (now (memory .exit)) r ⌝ }
 {
@@ -188,7 +188,7 @@ fn sets_at(bytes: &[u8], at: usize) -> [Saved; 13]
     sets
 }
 
-fn frame_at(bytes: &[u8], at: usize) -> Frame
+pub fn frame_at(bytes: &[u8], at: usize) -> Frame
     requires { ⌜ at + 68 < 2 ^ 64 ⌝ }
     ensures { λ r. ⌜ r ≡ frameAt (now (bytes .entry)) at ⌝ }
 {

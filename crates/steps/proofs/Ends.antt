@@ -33,8 +33,8 @@ use Rattle.state.specs.Changes.{topOf}
 use Rattle.state.specs.Meaning.{openOf, setsOf, meaningOf, Shaped}
 use Rattle.state.proofs.Meant.{inside-open}
 use Rattle.acts.specs.Acted.{Done, Comes, BracketsAs, LeavesAs, visitReach}
-use Rattle.acts.specs.declared.Acted.{Acted}
-use Rattle.steps.specs.declared.Stepped.{Stepped}
+use Rattle.acts.specs.Seen.{Outcome as Acted}
+use Rattle.steps.specs.Seen.{Whole as Stepped}
 use Rattle.steps.specs.Stepped.{tagIn, SteppedAs}
 use Rattle.steps.specs.Parts.{answering}
 use Rattle.steps.proofs.Joined.{onPen}

@@ -20,7 +20,7 @@ use Rattle路state.specs.Changes.{topOf, placed}
 use Rattle路state.specs.Meaning.{openOf, meaningOf, Shaped}
 use Rattle路state.proofs.Meant.{inside-open, meaning-placed, shaped-placed}
 use Rattle路acts.specs.Acted.{Done, Comes, BracketsAs}
-use Rattle路acts.specs.declared.Acted.{Acted}
+use Rattle路acts.specs.Seen.{Outcome as Acted}
 use Rattle路steps路specs.specs.Parts.{FollowsAs}
 use Rattle路steps路proofs.proofs.Tops.{top-balanced}
 use Rattle路steps路proofs.proofs.Turns.{rejected-is, done-is}
@@ -51,6 +51,7 @@ module _ {s : List 鈩晑 {w : Way} {z : State} {p : Pen} (b : Acted) {d : List 鈩
       record {
         reach = B .reach;
         count = B .count;
+        deep = B .deep;
         dry = B .dry;
         right = 位 a i h f os c x v e W.
             let n = rejected-is (acts a (bracket-acts (topOf z .production) (v .string)) (meaningOf z .store)) (meaningOf z .control) z p b d (came a i h f os c x v e W) k in
@@ -63,6 +64,7 @@ module _ {s : List 鈩晑 {w : Way} {z : State} {p : Pen} (b : Acted) {d : List 鈩
       (record {
         reach = B .reach;
         count = B .count;
+        deep = B .deep;
         dry = B .dry;
         right = 位 a i h f os c x v e W.
             let D = done-is (acts a (bracket-acts (topOf z .production) (v .string)) (meaningOf z .store)) (meaningOf z .control) z p b d (came a i h f os c x v e W) k in

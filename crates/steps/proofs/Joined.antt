@@ -22,8 +22,8 @@ use Rattle.output.proofs.Writing.{render-append}
 use Rattle.state.specs.Meaning.{meaningOf}
 use Rattle.state.specs.declared.State.{State}
 use Rattle.acts.specs.Acted.{Done, Comes}
-use Rattle.acts.specs.declared.Acted.{Acted}
-use Rattle.steps.specs.declared.Stepped.{Stepped}
+use Rattle.acts.specs.Seen.{Outcome as Acted}
+use Rattle.steps.specs.Seen.{Whole as Stepped}
 use Rattle.steps.specs.Stepped.{Took, AnsweredAs}
 use Rattle.steps.specs.Parts.{answering}
 

@@ -23,7 +23,7 @@ use Rattle.state.specs.declared.State.{State}
 use Rattle.state.specs.Changes.{freshState}
 use Rattle.state.specs.Meaning.{meaningOf}
 use Rattle.state.proofs.Meant.{meaning-fresh, shaped-fresh}
-use Rattle.steps.specs.declared.Stepped.{Stepped}
+use Rattle.steps.specs.Seen.{Whole as Stepped}
 use Rattle.steps.specs.Taken.{EventIn, Takes, TakenAs}
 use Rattle.steps.specs.Parts.{Ready}
 

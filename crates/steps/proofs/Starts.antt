@@ -28,8 +28,8 @@ use Rattle.state.specs.declared.State.{State}
 use Rattle.state.specs.Changes.{topOf}
 use Rattle.state.specs.Meaning.{openOf, opensOf, meaningOf}
 use Rattle.acts.specs.Acted.{Comes, EntersAs, visitReach}
-use Rattle.acts.specs.declared.Acted.{Acted}
-use Rattle.steps.specs.declared.Stepped.{Stepped}
+use Rattle.acts.specs.Seen.{Outcome as Acted}
+use Rattle.steps.specs.Seen.{Whole as Stepped}
 use Rattle.steps.specs.Stepped.{AnsweredAs, tagIn, SteppedAs}
 use Rattle.steps.specs.Parts.{answering, FollowsAs}
 use Rattle.steps.proofs.Joined.{onPen, answered-as}

@@ -2,15 +2,16 @@
 -- Assumes nothing.
 use mathlib.Core.Path.{_≡_, refl, sym, ap, ap₂, _∙_, subst}
 use mathlib.Core.Bool.{Bool, true, false}
-use mathlib.Core.List.{List, [], _++_, append-nil}
+use mathlib.Core.List.{List, [], _++_, append-nil, append-assoc}
 use Prim.Native.Nat.{ℕ, _+_, _-_, _≤_, _<_}
 use native.Mathlib.Nat.{zero-add}
 use native.Mathlib.Omega.{arith}
 use borrow.Author.Tests.{le-leb, lt-leb}
 use lib.Dec.{leb}
 use lib.ListN.{length, take, drop, length-drop, drop-of-length-le, take-append-drop}
-use lib.Seq.{take-all, drop-drop}
-use Rattle.lent.proofs.Laws.{put-all}
+use lib.Seq.{take-all, drop-drop, take-append-seam}
+use Rattle.lent.specs.Put.{put, PutAs}
+use Rattle.lent.proofs.Laws.{put-all, put-dry}
 use Rattle.output.proofs.Writing.{put-one-outcome}
 use Rattle.tokens.specs.declared.Event.{Event as Read}
 use Rattle.sheet.specs.Sheet.{Sheet, IsSheet}
@@ -25,10 +26,12 @@ use Rattle.calls.proofs.Frame.{countOf, step-number, token-number}
 use Rattle.fit.specs.RunFits.{RunFits}
 use Rattle.state.specs.declared.State.{State}
 use Rattle.state.specs.Meaning.{meaningOf, Shaped}
-use Rattle.steps.specs.declared.Stepped.{Stepped}
+use Rattle.steps.specs.Seen.{Whole as Stepped}
 use Rattle.steps.specs.Stepped.{Took, AnsweredAs, SteppedAs, TokenAs}
 use Rattle.steps.specs.Taken.{Left, Takes, TakenAs}
-use Rattle.steps.specs.Parts.{Ready}
+use Rattle.steps.specs.Parts.{Ready, ReadyAt}
+use Rattle.live.specs.Live.{full}
+use Rattle.live.specs.declared.Live.{Live}
 
 -- a state's count is its run's
 counts : (z : State) → countOf (meaningOf z) ≡ z .count
@@ -44,6 +47,34 @@ dryPen lent = record { write = false; lent = lent; at = 0 }
 
 abbrev pub wetPen : List ℕ → ℕ → Pen
 wetPen lent at = record { write = true; lent = drop at lent; at = 0 }
+
+-- a stack of which the state reads the same
+pub ready-still : {s : List ℕ} {h : Live} {b b′ : List ℕ} → full h b′ ≡ full h b → length b′ ≡ length b → ReadyAt s h b → ReadyAt s h b′
+ready-still {s} e l r = record { ready = subst (Ready s) (sym e) (r .ready); long = omega (arith, l, r .long) }
+
+-- a token run into memory of its own tells what it would do dry
+abbrev pub ownPen : List ℕ → Pen
+ownPen own = record { write = true; lent = own; at = 0 }
+
+dry-answer : (x : Answer) (z : State) (own own′ lent : List ℕ) (y : Stepped) → AnsweredAs x z (ownPen own) y own′ → AnsweredAs x z (dryPen lent) y lent
+dry-answer (refused n) z own own′ lent y A = A
+dry-answer (took m) z own own′ lent y A =
+    record {
+      number = A .number;
+      means = A .means;
+      shaped = A .shaped;
+      closed = A .closed;
+      written = record { next = A .written .next; left = sym (put-dry false lent 0 (outputOf m) refl) };
+    }
+
+pub as-dry : {s part : List ℕ} {e : Read} {z : State} {own own′ : List ℕ} {y : Stepped} (lent : List ℕ) → TokenAs s part e z (ownPen own) y own′ → TokenAs s part e z (dryPen lent) y lent
+as-dry {s} {part} {e} {z} {own} {own′} {y} lent O =
+    record {
+      reach = O .reach;
+      count = O .count;
+      dry = λ _. refl;
+      right = λ a i h f. dry-answer (stepToken a (meaningOf z) (tokenOf a part e)) z own own′ lent y (O .right a i h f);
+    }
 
 module _ {s part : List ℕ} {e : Read} {z : State} {lent : List ℕ} {at : ℕ} (inside : at ≤ length lent) (few : z .count ≤ mostVisits)
     (y : Stepped) (d : List ℕ) (D : TokenAs s part e z (dryPen lent) y d) where
@@ -157,17 +188,75 @@ module _ {s part : List ℕ} {e : Read} {z : State} {lent : List ℕ} {at : ℕ}
                 });
           })
 
+      -- what was written in memory of its own, copied
+      pub take-copied : y .at ≤ Room → (own own′ : List ℕ) → TokenAs s part e z (ownPen own) y own′ → y .at ≤ length own → (d′ : List ℕ) (to : ℕ) → PutAs true lent at (take (y .at) own′) d′ to →
+          (r : Stepped) → r ≡ record { number = 0; at = at + y .at; state = y .state } → TakenAs s part e z lent at r d′
+      take-copied k own own′ O short d′ to P r q =
+          subst (λ (w : Stepped). TakenAs s part e z lent at w d′) (sym q)
+          (record {
+            inside = omega (arith, inside, k);
+            count = counted;
+            right = λ a i h f.
+                let w = dry-took a i h f zero in
+                let m : Standing = w .0 in
+                let A : Took m z (ownPen own) y own′ = subst (λ (t : Answer). AnsweredAs t z (ownPen own) y own′) (w .1) (O .right a i h f) in
+                let l : y .at ≡ length (outputOf m) = omega (arith, w .2 .written .next) in
+                let there : own′ ≡ outputOf m ++ drop (0 + length (outputOf m)) own = A .written .left ∙ put-all own 0 (outputOf m) (omega (arith, l, short)) in
+                let copied : take (y .at) own′ ≡ outputOf m = ap₂ take l there ∙ take-append-seam (outputOf m) (drop (0 + length (outputOf m)) own) in
+                subst (λ (t : Taking). Takes t z lent at (record { number = 0; at = at + y .at; state = y .state }) d′)
+                (sym (by-limits a i h f true true (le-leb (countOf m) mostVisits (omega (arith, count-after (w .2), counted))) (le-leb (length (outputOf m)) Room (omega (arith, l, k)))))
+                (record {
+                  number = refl;
+                  means = w .2 .means;
+                  shaped = w .2 .shaped;
+                  closed = w .2 .closed;
+                  next = ap (λ (n : ℕ). at + n) l;
+                  left = P .left ∙ ap (put true lent at) copied ∙ put-all lent at (outputOf m) (omega (arith, l, k, inside)) ∙ append-assoc (take at lent) (outputOf m) (drop (at + length (outputOf m)) lent);
+                });
+          })
+
+      -- the second run's own state, which stands for the same
+      same-then : Ready s z → (x : Stepped) (p : Pen) (d′ : List ℕ) → TokenAs s part e z p x d′ → x .state .count ≤ mostVisits
+      same-then k x p d′ W =
+          let w = dry-took (k .sheet) (k .is-sheet) (k .shaped) (k .fits) zero in
+          let A : Took (w .0) z p x d′ = subst (λ (t : Answer). AnsweredAs t z p x d′) (w .1) (W .right (k .sheet) (k .is-sheet) (k .shaped) (k .fits)) in
+          omega (arith, count-after A, count-after (w .2), counted)
+
+      pub take-again : Ready s z → y .at ≤ Room → (x : Stepped) (d′ : List ℕ) → TokenAs s part e z (wetPen lent at) x d′ → (r : Stepped) → r ≡ record { number = 0; at = at + y .at; state = x .state } →
+          TakenAs s part e z lent at r (take at lent ++ d′)
+      take-again ready k x d′ W r q =
+          subst (λ (w : Stepped). TakenAs s part e z lent at w (take at lent ++ d′)) (sym q)
+          (record {
+            inside = omega (arith, inside, k);
+            count = same-then ready x (wetPen lent at) d′ W;
+            right = λ a i h f.
+                let w = dry-took a i h f zero in
+                let m : Standing = w .0 in
+                let A : Took m z (wetPen lent at) x d′ = subst (λ (t : Answer). AnsweredAs t z (wetPen lent at) x d′) (w .1) (W .right a i h f) in
+                let l : y .at ≡ length (outputOf m) = omega (arith, w .2 .written .next) in
+                subst (λ (t : Taking). Takes t z lent at (record { number = 0; at = at + y .at; state = x .state }) (take at lent ++ d′))
+                (sym (by-limits a i h f true true (le-leb (countOf m) mostVisits (omega (arith, count-after (w .2), counted))) (le-leb (length (outputOf m)) Room (omega (arith, l, k)))))
+                (record {
+                  number = refl;
+                  means = A .means;
+                  shaped = A .shaped;
+                  closed = A .closed;
+                  next = ap (λ (n : ℕ). at + n) l;
+                  left = ap (λ (t : List ℕ). take at lent ++ t)
+                      (A .written .left ∙ put-all (drop at lent) 0 (outputOf m) (omega (arith, length-drop at lent, l, k))
+                      ∙ ap (λ (n : ℕ). outputOf m ++ drop n (drop at lent)) (zero-add (length (outputOf m))) ∙ ap (λ (t : List ℕ). outputOf m ++ t) (drop-drop (length (outputOf m)) at lent));
+                });
+          })
+
       -- the part of the memory that is lent to the second run, and the whole with what that left of it
-      pub take-done : y .at ≤ Room → (x : Stepped) (d′ : List ℕ) → TokenAs s part e z (record { write = true; lent = take (length d - at) (drop at d); at = 0 }) x d′ → (r : Stepped) →
-          r ≡ record { number = 0; at = at + y .at; state = y .state } → TakenAs s part e z lent at r (take at d ++ (d′ ++ drop (length d - at) (drop at d)))
-      take-done k x d′ W r q =
-          let same : d ≡ lent = D .dry refl in
-          let l : length (drop at d) ≤ length d - at = omega (arith, length-drop at d) in
-          subst (λ (w : List ℕ). TakenAs s part e z lent at r (take at d ++ (d′ ++ w))) (sym (drop-of-length-le (drop at d) l))
-          (subst (λ (w : List ℕ). TakenAs s part e z lent at r (take at d ++ w)) (sym (append-nil d′))
-          (subst (λ (w : List ℕ). TakenAs s part e z lent at r (take at w ++ d′)) (sym same)
-          (written-out k x d′ (subst (λ (w : List ℕ). TokenAs s part e z (wetPen w at) x d′) same
-          (subst (λ (w : List ℕ). TokenAs s part e z (record { write = true; lent = w; at = 0 }) x d′) (take-all (length d - at) (drop at d) l) W)) r q)))
+      pub take-done : Ready s z → y .at ≤ Room → (z′ : State) → z′ ≡ z → (x : Stepped) (d′ : List ℕ) → TokenAs s part e z′ (record { write = true; lent = take (length lent - at) (drop at lent); at = 0 }) x d′ → (r : Stepped) →
+          r ≡ record { number = 0; at = at + y .at; state = x .state } → TakenAs s part e z lent at r (take at lent ++ (d′ ++ drop (length lent - at) (drop at lent)))
+      take-done ready k z′ same x d′ W r q =
+          let l : length (drop at lent) ≤ length lent - at = omega (arith, length-drop at lent) in
+          subst (λ (w : List ℕ). TakenAs s part e z lent at r (take at lent ++ (d′ ++ w))) (sym (drop-of-length-le (drop at lent) l))
+          (subst (λ (w : List ℕ). TakenAs s part e z lent at r (take at lent ++ w)) (sym (append-nil d′))
+          (take-again ready k x d′ (subst (λ (w : List ℕ). TokenAs s part e z (record { write = true; lent = w; at = 0 }) x d′) (take-all (length lent - at) (drop at lent) l)
+          (subst (λ (v : State). TokenAs s part e v (record { write = true; lent = take (length lent - at) (drop at lent); at = 0 }) x d′) same W)) r q))
 
 -- the answer is one
 pub record Same (r r′ : Stepped) (d d′ : List ℕ) : Type 0 where

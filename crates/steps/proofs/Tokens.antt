@@ -32,7 +32,7 @@ use Rattle.lookups.specs.Found.{orMissing, TagFound, BlanksTold}
 use Rattle.state.specs.declared.State.{State}
 use Rattle.state.specs.Changes.{topOf}
 use Rattle.state.specs.Meaning.{meaningOf, Shaped}
-use Rattle.steps.specs.declared.Stepped.{Stepped}
+use Rattle.steps.specs.Seen.{Whole as Stepped}
 use Rattle.steps.specs.Stepped.{Took, AnsweredAs, tagIn, SteppedAs, TokenAs}
 use Rattle.steps.specs.Parts.{Ready, PassesAs, OneTokenAs}
 use Rattle.steps.proofs.Joined.{onPen, join-events}

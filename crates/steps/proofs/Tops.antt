@@ -46,7 +46,7 @@ use Rattle.runs.specs.Nodes.{through-nodes, KeptAt}
 use Rattle.runs.specs.Visits.{Saved}
 use Rattle.lookups.specs.Found.{orMissing, ProductionFound, BlanksTold}
 use Rattle.acts.specs.Acted.{BracketsAs, LeavesAs}
-use Rattle.acts.specs.declared.Acted.{Acted}
+use Rattle.acts.specs.Seen.{Outcome as Acted}
 use Rattle.state.specs.declared.Frame.{Frame}
 use Rattle.state.specs.declared.State.{State}
 use Rattle.state.specs.Changes.{topOf}

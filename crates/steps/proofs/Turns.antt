@@ -19,8 +19,8 @@ use Rattle.fit.specs.RunFits.{RunFits}
 use Rattle.state.specs.Meaning.{meaningOf, Shaped}
 use Rattle.state.specs.declared.State.{State}
 use Rattle.acts.specs.Acted.{Done, Comes}
-use Rattle.acts.specs.declared.Acted.{Acted}
-use Rattle.steps.specs.declared.Stepped.{Stepped}
+use Rattle.acts.specs.Seen.{Outcome as Acted}
+use Rattle.steps.specs.Seen.{Whole as Stepped}
 use Rattle.steps.specs.Stepped.{AnsweredAs, SteppedAs, eventReach}
 use Rattle.steps.specs.Parts.{answering}
 use Rattle.steps.proofs.Joined.{onPen, join, answered-as}

@@ -1,3 +1,4 @@
+pub mod Seen
 pub mod Stepped
 pub mod Taken
 pub mod Parts

@@ -5,6 +5,7 @@ use mathlib.Core.Bool.{Bool, false, cond}
 use mathlib.Core.List.{List}
 use mathlib.Core.Option.{some}
 use Prim.Native.Nat.{ℕ, _+_, _*_, _≤_}
+use lib.ListN.{length}
 use Rattle.expressions.specs.Grammar.{tagsOf, contentOf, Next}
 use Rattle.sheet.specs.Sheet.{Sheet, IsSheet}
 use Rattle.visits.specs.Written.{Pen}
@@ -20,10 +21,15 @@ use Rattle.state.specs.Changes.{topOf}
 use Rattle.state.specs.Meaning.{openOf, meaningOf, Shaped}
 use Rattle.state.specs.declared.State.{State}
 use Rattle.acts.specs.Acted.{Comes, visitReach}
-use Rattle.acts.specs.declared.Acted.{Acted}
+use Rattle.acts.specs.Seen.{Outcome as Acted}
 use Rattle.steps.specs.declared.Run.{Run}
-use Rattle.steps.specs.declared.Stepped.{Stepped}
-use Rattle.steps.specs.Stepped.{AnsweredAs, eventReach}
+use Rattle.steps.specs.declared.Stepped.{Stepped as LiveStepped}
+use Rattle.acts.specs.declared.Acted.{Acted as LiveActed}
+use Rattle.live.specs.declared.Live.{Live}
+use Rattle.live.specs.Live.{full, SameBelow}
+use Rattle.steps.specs.Seen.{whole}
+use Rattle.steps.specs.Seen.{Whole as Stepped}
+use Rattle.steps.specs.Stepped.{AnsweredAs, SteppedAs, eventReach}
 
 -- the bytes are a sheet, and the state is of a run that fits it
 pub record Ready (s : List ℕ) (z : State) : Type 0 where
@@ -32,11 +38,25 @@ pub record Ready (s : List ℕ) (z : State) : Type 0 where
   pub shaped : Shaped z
   pub fits : RunFits sheet (meaningOf z)
 
+-- the same of the live part of a state and the lent stack, which is long enough
+pub record ReadyAt (s : List ℕ) (h : Live) (b : List ℕ) : Type 0 where
+  pub ready : Ready s (full h b)
+  pub long : 2176 ≤ length b
+
+-- what an event answers where it may push: what the state before it reads of the stack is as it was
+pub record Over (h : Live) (b b′ : List ℕ) (P : Type 0) : Type 0 where
+  pub stepped : P
+  pub below : SameBelow h b b′
+  pub long : length b′ ≡ length b
+
 -- refused with n, the run as it was
-abbrev pub refusing : ℕ → Run → Stepped
-refusing n u = record { number = n; at = u .at; state = u .state }
+abbrev pub refusing : ℕ → Run → LiveStepped
+refusing n u = record { number = n; at = u .at; live = u .live }
 
 -- as the acts came out: a rejection is 25
+abbrev pub answeringLive : LiveActed → LiveStepped
+answeringLive x = record { number = cond (x .ok) 0 25; at = x .at; live = x .live }
+
 abbrev pub answering : Acted → Stepped
 answering x = record { number = cond (x .ok) 0 25; at = x .at; state = x .state }
 
@@ -44,6 +64,7 @@ answering x = record { number = cond (x .ok) 0 25; at = x .at; state = x .state 
 pub record FollowsAs (s : List ℕ) (w : Way) (z : State) (p : Pen) (r : Acted) (d : List ℕ) : Type 0 where
   pub reach : r .at ≤ p .at + 128 * visitReach
   pub count : r .state .count ≤ z .count + 128
+  pub deep : r .state .depth ≡ z .depth
   pub dry : p .write ≡ false → d ≡ p .lent
   pub right : (a : Sheet) → IsSheet s a → Shaped z → RunFits a (meaningOf z) → (os : List Open) → meaningOf z .control ≡ inside (openOf (topOf z)) os →
       (x : Next) (v : Found) → atomWay (tagsOf (grammar a)) (contentOf (grammar a) (topOf z .production)) (topOf z .place) x ≡ some v → WayIs (some v) w →

@@ -20,7 +20,7 @@ use Rattle.fit.specs.RunFits.{RunFits}
 use Rattle.state.specs.Meaning.{meaningOf, Shaped}
 use Rattle.state.specs.declared.State.{State}
 use Rattle.acts.specs.Acted.{visitReach}
-use Rattle.steps.specs.declared.Stepped.{Stepped}
+use Rattle.steps.specs.Seen.{Whole as Stepped}
 
 -- the event was taken, and m is where the run then stands: the state stands for that, and m's output is what was written from p on
 pub record Took (m : Standing) (z : State) (p : Pen) (r : Stepped) (d : List ℕ) : Type 0 where

@@ -16,7 +16,7 @@ use Rattle.runs.specs.Machine.{State as Standing}
 use Rattle.runs.specs.Visits.{mostVisits}
 use Rattle.state.specs.Meaning.{meaningOf, Shaped}
 use Rattle.state.specs.declared.State.{State}
-use Rattle.steps.specs.declared.Stepped.{Stepped}
+use Rattle.steps.specs.Seen.{Whole as Stepped}
 
 -- an event as a reader answers it of the part: a name lies inside, a character is of the Char set
 abbrev pub EventIn : List ℕ → Event → Type 0

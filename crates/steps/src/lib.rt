@@ -6,16 +6,19 @@ ghost use Rattle.layout.specs.LaidOut.{LaidOut};
 ghost use Rattle.text.specs.Chars.{Char};
 ghost use Rattle.text.specs.Names.{blank};
 ghost use Rattle.runs.specs.Events.{starts, ends, letter};
+ghost use Rattle.live.specs.Live.{full};
+ghost use Rattle.acts.specs.Seen.{seen};
+ghost use Rattle.steps.specs.Seen.{whole};
 ghost use Rattle.steps.specs.Stepped.{tagIn, SteppedAs, TokenAs};
 ghost use Rattle.steps.specs.Taken.{EventIn, TakenAs};
-ghost use Rattle.steps.specs.Parts.{Ready, refusing, answering, FollowsAs, PassesAs, OneTokenAs};
+ghost use Rattle.steps.specs.Parts.{refusing, answeringLive, ReadyAt, Over, FollowsAs, PassesAs, OneTokenAs};
 ghost use Rattle.runs.specs.Spells.{empty-token, literal};
 use acts::Acted;
 use layout::Layout;
+use live::Live;
 use lookups::blanks_pass;
 use lookups::production_for;
 use lookups::tag_named;
-use state::State;
 use tokens::Event;
 use trees::Symbol;
 use ways::Way;
@@ -28,35 +31,38 @@ const MISSING: usize = 256;
 // The highest count of visits: 2^62.
 const MOST_VISITS: u64 = 0x4000000000000000;
 
+// The output of nearly every token is no longer than this.
+const SCRATCH: usize = 64;
+
 // A run under way: where the next byte of output goes, and the state.
 pub struct Run {
     pub at: usize,
-    pub state: State,
+    pub live: Live,
 }
 
 // What an event or a token came to: 0, or the number that it is refused with; where the next byte of output goes, and the state.
 pub struct Stepped {
     pub number: usize,
     pub at: usize,
-    pub state: State,
+    pub live: Live,
 }
 
 // As acts came out: a rejection is 25.
 fn answer(done: Acted) -> Stepped
-    ensures { λ r. ⌜ r ≡ answering done ⌝ }
+    ensures { λ r. ⌜ r ≡ answeringLive done ⌝ }
 {
-    let state = done.state;
+    let live = done.live;
     if done.ok {
         return Stepped {
             number: 0,
             at: done.at,
-            state: state,
+            live: live,
         };
     }
     Stepped {
         number: 25,
         at: done.at,
-        state: state,
+        live: live,
     }
 }
 
@@ -71,60 +77,59 @@ impl Run {
     fn refuse(self, number: usize) -> Stepped
         ensures { λ r. ⌜ r ≡ refusing number self ⌝ }
     {
-        let state = self.state;
+        let live = self.live;
         Stepped {
             number: number,
             at: self.at,
-            state: state,
+            live: live,
         }
     }
 
     // The brackets' visits of a way, and then the innermost element at the way's place.
-    fn follow(self, s: &[u8], l: Layout, w: Way, out: &mut [u8], write: bool) -> Acted
+    fn follow(self, s: &[u8], l: Layout, w: Way, stack: &[u8], out: &mut [u8], write: bool) -> Acted
         requires { ⌜ LaidOut (now s) l ⌝ }
-        requires { ⌜ Ready (now s) (self .state) ⌝ }
-        requires { ⌜ 0 < self .state .depth ⌝ }
+        requires { ⌜ ReadyAt (now s) (self .live) (now stack) ⌝ }
+        requires { ⌜ 0 < self .live .depth ⌝ }
         requires { ⌜ w .place < 256 ⌝ }
         requires { ⌜ w .line .length ≤ 128 ⌝ }
         requires { ⌜ self .at ≤ 2 ^ 58 ⌝ }
-        requires { ⌜ self .state .count ≤ 2 ^ 62 + 129 ⌝ }
-        ensures { λ r. ⌜ FollowsAs (now (s .entry)) w (self .state) (record { write = write; lent = now (out .entry); at = self .at }) r (now (out .exit)) ⌝ }
+        requires { ⌜ self .live .count ≤ 2 ^ 62 + 129 ⌝ }
+        ensures { λ r. ⌜ FollowsAs (now (s .entry)) w (full (self .live) (now (stack .entry))) (record { write = write; lent = now (out .entry); at = self .at }) (seen r (now (stack .entry))) (now (out .exit)) ⌝ }
     {
-        let state = self.state;
-        let f = state.top();
+        let live = self.live;
+        let f = live.top();
         let line = w.line;
-        let done = acts::brackets(
-            s,
-            l,
-            f.production as usize,
-            line,
-            state,
-            out,
-            self.at,
-            write,
-        );
+        let done = acts::brackets(s, l, f.production as usize, line, live, out, self.at, write);
         if !done.ok {
             return done;
         }
-        let after = done.state;
+        let after = done.live;
         Acted {
             ok: true,
             at: done.at,
-            state: after.at_place(w.place as u8),
+            live: after.at_place(w.place as u8),
         }
     }
 
     // A start tag where no element is open: the root's, unless the root has been closed.
-    fn start_root(self, s: &[u8], l: Layout, t: usize, out: &mut [u8], write: bool) -> Stepped
+    fn start_root(
+        self,
+        s: &[u8],
+        l: Layout,
+        t: usize,
+        stack: &mut [u8],
+        out: &mut [u8],
+        write: bool,
+    ) -> Stepped
         requires { ⌜ LaidOut (now s) l ⌝ }
-        requires { ⌜ Ready (now s) (self .state) ⌝ }
-        requires { ⌜ self .state .depth ≡ 0 ⌝ }
+        requires { ⌜ ReadyAt (now s) (self .live) (now stack) ⌝ }
+        requires { ⌜ self .live .depth ≡ 0 ⌝ }
         requires { ⌜ self .at ≤ 2 ^ 58 ⌝ }
-        requires { ⌜ self .state .count ≤ 2 ^ 62 + 129 ⌝ }
-        ensures { λ r. ⌜ SteppedAs (now (s .entry)) (starts (tagIn t)) (self .state) (record { write = write; lent = now (out .entry); at = self .at }) r (now (out .exit)) ⌝ }
+        requires { ⌜ self .live .count ≤ 2 ^ 62 + 129 ⌝ }
+        ensures { λ r. ⌜ Over (self .live) (now (stack .entry)) (now (stack .exit)) (SteppedAs (now (s .entry)) (starts (tagIn t)) (full (self .live) (now (stack .entry))) (record { write = write; lent = now (out .entry); at = self .at }) (whole r (now (stack .exit))) (now (out .exit))) ⌝ }
     {
-        let state = self.state;
-        if state.rooted {
+        let live = self.live;
+        if live.rooted {
             return self.refuse(26);
         }
         if 255 < t {
@@ -134,22 +139,30 @@ impl Run {
         if q == MISSING {
             return self.refuse(23);
         }
-        let entered = acts::enter(s, l, q, state, out, self.at, write);
+        let entered = acts::enter(s, l, q, live, stack, out, self.at, write);
         answer(entered)
     }
 
     // A start tag of the sheet inside an element, by the way to an atom that can be it.
-    fn start_inside(self, s: &[u8], l: Layout, t: usize, out: &mut [u8], write: bool) -> Stepped
+    fn start_inside(
+        self,
+        s: &[u8],
+        l: Layout,
+        t: usize,
+        stack: &mut [u8],
+        out: &mut [u8],
+        write: bool,
+    ) -> Stepped
         requires { ⌜ LaidOut (now s) l ⌝ }
-        requires { ⌜ Ready (now s) (self .state) ⌝ }
-        requires { ⌜ 0 < self .state .depth ⌝ }
+        requires { ⌜ ReadyAt (now s) (self .live) (now stack) ⌝ }
+        requires { ⌜ 0 < self .live .depth ⌝ }
         requires { ⌜ t ≤ 255 ⌝ }
         requires { ⌜ self .at ≤ 2 ^ 58 ⌝ }
-        requires { ⌜ self .state .count ≤ 2 ^ 62 + 129 ⌝ }
-        ensures { λ r. ⌜ SteppedAs (now (s .entry)) (starts (tagIn t)) (self .state) (record { write = write; lent = now (out .entry); at = self .at }) r (now (out .exit)) ⌝ }
+        requires { ⌜ self .live .count ≤ 2 ^ 62 + 129 ⌝ }
+        ensures { λ r. ⌜ Over (self .live) (now (stack .entry)) (now (stack .exit)) (SteppedAs (now (s .entry)) (starts (tagIn t)) (full (self .live) (now (stack .entry))) (record { write = write; lent = now (out .entry); at = self .at }) (whole r (now (stack .exit))) (now (out .exit))) ⌝ }
     {
-        let state = self.state;
-        let f = state.top();
+        let live = self.live;
+        let f = live.top();
         let w = way_to_atom(
             s,
             l,
@@ -164,46 +177,62 @@ impl Run {
         if q == MISSING {
             return self.refuse(23);
         }
-        if State::DEPTH <= state.depth {
+        if Live::DEPTH <= live.depth {
             return self.refuse(24);
         }
-        let led = self.follow(s, l, w, out, write);
+        let led = self.follow(s, l, w, stack, out, write);
         if !led.ok {
             return answer(led);
         }
-        let after = led.state;
-        let entered = acts::enter(s, l, q, after, out, led.at, write);
+        let after = led.live;
+        let entered = acts::enter(s, l, q, after, stack, out, led.at, write);
         answer(entered)
     }
 
     // The start tag t.
-    pub fn start(self, s: &[u8], l: Layout, t: usize, out: &mut [u8], write: bool) -> Stepped
+    pub fn start(
+        self,
+        s: &[u8],
+        l: Layout,
+        t: usize,
+        stack: &mut [u8],
+        out: &mut [u8],
+        write: bool,
+    ) -> Stepped
         requires { ⌜ LaidOut (now s) l ⌝ }
-        requires { ⌜ Ready (now s) (self .state) ⌝ }
+        requires { ⌜ ReadyAt (now s) (self .live) (now stack) ⌝ }
         requires { ⌜ self .at ≤ 2 ^ 58 ⌝ }
-        requires { ⌜ self .state .count ≤ 2 ^ 62 + 129 ⌝ }
-        ensures { λ r. ⌜ SteppedAs (now (s .entry)) (starts (tagIn t)) (self .state) (record { write = write; lent = now (out .entry); at = self .at }) r (now (out .exit)) ⌝ }
+        requires { ⌜ self .live .count ≤ 2 ^ 62 + 129 ⌝ }
+        ensures { λ r. ⌜ Over (self .live) (now (stack .entry)) (now (stack .exit)) (SteppedAs (now (s .entry)) (starts (tagIn t)) (full (self .live) (now (stack .entry))) (record { write = write; lent = now (out .entry); at = self .at }) (whole r (now (stack .exit))) (now (out .exit))) ⌝ }
     {
-        if self.state.depth == 0 {
-            return self.start_root(s, l, t, out, write);
+        if self.live.depth == 0 {
+            return self.start_root(s, l, t, stack, out, write);
         }
         if 255 < t {
             return self.refuse(23);
         }
-        self.start_inside(s, l, t, out, write)
+        self.start_inside(s, l, t, stack, out, write)
     }
 
     // An end tag inside an element: its own, where its expression can end.
-    fn end_inside(self, s: &[u8], l: Layout, t: usize, out: &mut [u8], write: bool) -> Stepped
+    fn end_inside(
+        self,
+        s: &[u8],
+        l: Layout,
+        t: usize,
+        stack: &[u8],
+        out: &mut [u8],
+        write: bool,
+    ) -> Stepped
         requires { ⌜ LaidOut (now s) l ⌝ }
-        requires { ⌜ Ready (now s) (self .state) ⌝ }
-        requires { ⌜ 0 < self .state .depth ⌝ }
+        requires { ⌜ ReadyAt (now s) (self .live) (now stack) ⌝ }
+        requires { ⌜ 0 < self .live .depth ⌝ }
         requires { ⌜ self .at ≤ 2 ^ 58 ⌝ }
-        requires { ⌜ self .state .count ≤ 2 ^ 62 + 129 ⌝ }
-        ensures { λ r. ⌜ SteppedAs (now (s .entry)) (ends (tagIn t)) (self .state) (record { write = write; lent = now (out .entry); at = self .at }) r (now (out .exit)) ⌝ }
+        requires { ⌜ self .live .count ≤ 2 ^ 62 + 129 ⌝ }
+        ensures { λ r. ⌜ SteppedAs (now (s .entry)) (ends (tagIn t)) (full (self .live) (now (stack .entry))) (record { write = write; lent = now (out .entry); at = self .at }) (whole r (now (stack .entry))) (now (out .exit)) ⌝ }
     {
-        let state = self.state;
-        let f = state.top();
+        let live = self.live;
+        let f = live.top();
         let q = f.production as usize;
         if layout::tag_number_of(s, l, q) != t {
             return self.refuse(22);
@@ -212,45 +241,61 @@ impl Run {
         if !line.found {
             return self.refuse(23);
         }
-        let done = acts::brackets(s, l, q, line, state, out, self.at, write);
+        let done = acts::brackets(s, l, q, line, live, out, self.at, write);
         if !done.ok {
             return answer(done);
         }
-        let after = done.state;
-        let left = acts::leave(s, l, q, after, out, done.at, write);
+        let after = done.live;
+        let left = acts::leave(s, l, q, after, stack, out, done.at, write);
         answer(left)
     }
 
     // The end tag t.
-    pub fn end(self, s: &[u8], l: Layout, t: usize, out: &mut [u8], write: bool) -> Stepped
+    pub fn end(
+        self,
+        s: &[u8],
+        l: Layout,
+        t: usize,
+        stack: &[u8],
+        out: &mut [u8],
+        write: bool,
+    ) -> Stepped
         requires { ⌜ LaidOut (now s) l ⌝ }
-        requires { ⌜ Ready (now s) (self .state) ⌝ }
+        requires { ⌜ ReadyAt (now s) (self .live) (now stack) ⌝ }
         requires { ⌜ self .at ≤ 2 ^ 58 ⌝ }
-        requires { ⌜ self .state .count ≤ 2 ^ 62 + 129 ⌝ }
-        ensures { λ r. ⌜ SteppedAs (now (s .entry)) (ends (tagIn t)) (self .state) (record { write = write; lent = now (out .entry); at = self .at }) r (now (out .exit)) ⌝ }
+        requires { ⌜ self .live .count ≤ 2 ^ 62 + 129 ⌝ }
+        ensures { λ r. ⌜ SteppedAs (now (s .entry)) (ends (tagIn t)) (full (self .live) (now (stack .entry))) (record { write = write; lent = now (out .entry); at = self .at }) (whole r (now (stack .entry))) (now (out .exit)) ⌝ }
     {
-        let state = self.state;
-        if state.depth == 0 {
-            if state.rooted {
+        let live = self.live;
+        if live.depth == 0 {
+            if live.rooted {
                 return self.refuse(26);
             }
             return self.refuse(22);
         }
-        self.end_inside(s, l, t, out, write)
+        self.end_inside(s, l, t, stack, out, write)
     }
 
     // A character inside an element, by the way to an atom that can be one.
-    fn character_inside(self, s: &[u8], l: Layout, c: u32, out: &mut [u8], write: bool) -> Stepped
+    fn character_inside(
+        self,
+        s: &[u8],
+        l: Layout,
+        c: u32,
+        stack: &[u8],
+        out: &mut [u8],
+        write: bool,
+    ) -> Stepped
         requires { ⌜ LaidOut (now s) l ⌝ }
-        requires { ⌜ Ready (now s) (self .state) ⌝ }
-        requires { ⌜ 0 < self .state .depth ⌝ }
+        requires { ⌜ ReadyAt (now s) (self .live) (now stack) ⌝ }
+        requires { ⌜ 0 < self .live .depth ⌝ }
         requires { ⌜ Char c ⌝ }
         requires { ⌜ self .at ≤ 2 ^ 58 ⌝ }
-        requires { ⌜ self .state .count ≤ 2 ^ 62 + 129 ⌝ }
-        ensures { λ r. ⌜ SteppedAs (now (s .entry)) (letter c) (self .state) (record { write = write; lent = now (out .entry); at = self .at }) r (now (out .exit)) ⌝ }
+        requires { ⌜ self .live .count ≤ 2 ^ 62 + 129 ⌝ }
+        ensures { λ r. ⌜ SteppedAs (now (s .entry)) (letter c) (full (self .live) (now (stack .entry))) (record { write = write; lent = now (out .entry); at = self .at }) (whole r (now (stack .entry))) (now (out .exit)) ⌝ }
     {
-        let state = self.state;
-        let f = state.top();
+        let live = self.live;
+        let f = live.top();
         let w = way_to_atom(
             s,
             l,
@@ -261,84 +306,100 @@ impl Run {
         if !w.line.found {
             return self.refuse(23);
         }
-        let led = self.follow(s, l, w, out, write);
+        let led = self.follow(s, l, w, stack, out, write);
         if !led.ok {
             return answer(led);
         }
-        let after = led.state;
+        let after = led.live;
         let read = acts::read_character(c, after, out, led.at, write);
         answer(read)
     }
 
     // The character c.
-    pub fn character(self, s: &[u8], l: Layout, c: u32, out: &mut [u8], write: bool) -> Stepped
+    pub fn character(
+        self,
+        s: &[u8],
+        l: Layout,
+        c: u32,
+        stack: &[u8],
+        out: &mut [u8],
+        write: bool,
+    ) -> Stepped
         requires { ⌜ LaidOut (now s) l ⌝ }
-        requires { ⌜ Ready (now s) (self .state) ⌝ }
+        requires { ⌜ ReadyAt (now s) (self .live) (now stack) ⌝ }
         requires { ⌜ Char c ⌝ }
         requires { ⌜ self .at ≤ 2 ^ 58 ⌝ }
-        requires { ⌜ self .state .count ≤ 2 ^ 62 + 129 ⌝ }
-        ensures { λ r. ⌜ SteppedAs (now (s .entry)) (letter c) (self .state) (record { write = write; lent = now (out .entry); at = self .at }) r (now (out .exit)) ⌝ }
+        requires { ⌜ self .live .count ≤ 2 ^ 62 + 129 ⌝ }
+        ensures { λ r. ⌜ SteppedAs (now (s .entry)) (letter c) (full (self .live) (now (stack .entry))) (record { write = write; lent = now (out .entry); at = self .at }) (whole r (now (stack .entry))) (now (out .exit)) ⌝ }
     {
-        let state = self.state;
-        if state.depth == 0 {
-            if state.rooted {
+        let live = self.live;
+        if live.depth == 0 {
+            if live.rooted {
                 return self.refuse(26);
             }
             return self.refuse(23);
         }
-        self.character_inside(s, l, c, out, write)
+        self.character_inside(s, l, c, stack, out, write)
     }
 
     // An empty tag: its start and its end, or neither.
-    fn empty(self, s: &[u8], l: Layout, t: usize, out: &mut [u8], write: bool) -> Stepped
+    fn empty(
+        self,
+        s: &[u8],
+        l: Layout,
+        t: usize,
+        stack: &mut [u8],
+        out: &mut [u8],
+        write: bool,
+    ) -> Stepped
         requires { ⌜ LaidOut (now s) l ⌝ }
-        requires { ⌜ Ready (now s) (self .state) ⌝ }
+        requires { ⌜ ReadyAt (now s) (self .live) (now stack) ⌝ }
         requires { ⌜ self .at ≤ 2 ^ 57 ⌝ }
-        requires { ⌜ self .state .count ≤ 2 ^ 62 ⌝ }
-        ensures { λ r. ⌜ OneTokenAs (now (s .entry)) (empty-token (tagIn t)) (self .state) (record { write = write; lent = now (out .entry); at = self .at }) r (now (out .exit)) ⌝ }
+        requires { ⌜ self .live .count ≤ 2 ^ 62 ⌝ }
+        ensures { λ r. ⌜ Over (self .live) (now (stack .entry)) (now (stack .exit)) (OneTokenAs (now (s .entry)) (empty-token (tagIn t)) (full (self .live) (now (stack .entry))) (record { write = write; lent = now (out .entry); at = self .at }) (whole r (now (stack .exit))) (now (out .exit))) ⌝ }
     {
-        let begun = self.start(s, l, t, out, write);
+        let begun = self.start(s, l, t, stack, out, write);
         if begun.number != 0 {
             return begun;
         }
-        let after = begun.state;
+        let after = begun.live;
         let next = Run {
             at: begun.at,
-            state: after,
+            live: after,
         };
-        next.end(s, l, t, out, write)
+        next.end(s, l, t, stack, out, write)
     }
 
     // Whether white space is no event where the run stands.
-    fn passes(self, s: &[u8], l: Layout) -> bool
+    pub fn passes(self, s: &[u8], l: Layout, stack: &[u8]) -> bool
         requires { ⌜ LaidOut (now s) l ⌝ }
-        requires { ⌜ Ready (now s) (self .state) ⌝ }
-        ensures { λ r. ⌜ PassesAs (now (s .entry)) (self .state) r ⌝ }
+        requires { ⌜ ReadyAt (now s) (self .live) (now stack) ⌝ }
+        ensures { λ r. ⌜ PassesAs (now (s .entry)) (full (self .live) (now (stack .entry))) r ⌝ }
     {
-        let state = self.state;
-        if state.depth == 0 {
+        let live = self.live;
+        if live.depth == 0 {
             return true;
         }
-        let f = state.top();
+        let f = live.top();
         blanks_pass(s, l, f.production as usize)
     }
 
     // A character, which is no event where it is white space that passes.
-    fn text(self, s: &[u8], l: Layout, c: u32, out: &mut [u8], write: bool) -> Stepped
+    fn text(self, s: &[u8], l: Layout, c: u32, stack: &[u8], out: &mut [u8], write: bool) -> Stepped
         requires { ⌜ LaidOut (now s) l ⌝ }
-        requires { ⌜ Ready (now s) (self .state) ⌝ }
+        requires { ⌜ ReadyAt (now s) (self .live) (now stack) ⌝ }
         requires { ⌜ Char c ⌝ }
         requires { ⌜ self .at ≤ 2 ^ 57 ⌝ }
-        requires { ⌜ self .state .count ≤ 2 ^ 62 ⌝ }
-        ensures { λ r. ⌜ OneTokenAs (now (s .entry)) (literal c) (self .state) (record { write = write; lent = now (out .entry); at = self .at }) r (now (out .exit)) ⌝ }
+        requires { ⌜ self .live .count ≤ 2 ^ 62 ⌝ }
+        ensures { λ r. ⌜ OneTokenAs (now (s .entry)) (literal c) (full (self .live) (now (stack .entry))) (record { write = write; lent = now (out .entry); at = self .at }) (whole r (now (stack .entry))) (now (out .exit)) ⌝ }
     {
         if !is_blank(c) {
-            return self.character(s, l, c, out, write);
+            return self.character(s, l, c, stack, out, write);
         }
-        if self.passes(s, l) {
+        if self.passes(s, l, stack) {
             return self.refuse(0);
         }
-        self.character(s, l, c, out, write)
+        self.character(s, l, c, stack, out, write)
     }
 
     // A token of the part, without the limits on count and room.
@@ -348,75 +409,88 @@ impl Run {
         l: Layout,
         part: &[u8],
         e: Event,
+        stack: &mut [u8],
         out: &mut [u8],
         write: bool,
     ) -> Stepped
         requires { ⌜ LaidOut (now s) l ⌝ }
-        requires { ⌜ Ready (now s) (self .state) ⌝ }
+        requires { ⌜ ReadyAt (now s) (self .live) (now stack) ⌝ }
         requires { ⌜ EventIn (now part) e ⌝ }
         requires { ⌜ self .at ≤ 2 ^ 57 ⌝ }
-        requires { ⌜ self .state .count ≤ 2 ^ 62 ⌝ }
-        ensures { λ r. ⌜ TokenAs (now (s .entry)) (now (part .entry)) e (self .state) (record { write = write; lent = now (out .entry); at = self .at }) r (now (out .exit)) ⌝ }
+        requires { ⌜ self .live .count ≤ 2 ^ 62 ⌝ }
+        ensures { λ r. ⌜ Over (self .live) (now (stack .entry)) (now (stack .exit)) (TokenAs (now (s .entry)) (now (part .entry)) e (full (self .live) (now (stack .entry))) (record { write = write; lent = now (out .entry); at = self .at }) (whole r (now (stack .exit))) (now (out .exit))) ⌝ }
     {
         match e {
             Event::Start { from, len } => {
                 let end = from + len;
                 let t = tag_named(s, l, &part[from..end]);
-                self.start(s, l, t, out, write)
+                self.start(s, l, t, stack, out, write)
             }
             Event::End { from, len } => {
                 let end = from + len;
                 let t = tag_named(s, l, &part[from..end]);
-                self.end(s, l, t, out, write)
+                self.end(s, l, t, stack, out, write)
             }
             Event::Empty { from, len } => {
                 let end = from + len;
                 let t = tag_named(s, l, &part[from..end]);
-                self.empty(s, l, t, out, write)
+                self.empty(s, l, t, stack, out, write)
             }
-            Event::Character(c) => self.text(s, l, c, out, write),
+            Event::Character(c) => self.text(s, l, c, stack, out, write),
         }
     }
 
     // A token of the part: first dry, and then, where nothing speaks against it, with its output. Where it has none, a second run would only
     // copy.
-    pub fn take(self, s: &[u8], l: Layout, part: &[u8], e: Event, out: &mut [u8]) -> Stepped
+    pub fn take(
+        self,
+        s: &[u8],
+        l: Layout,
+        part: &[u8],
+        e: Event,
+        stack: &mut [u8],
+        out: &mut [u8],
+    ) -> Stepped
         requires { ⌜ LaidOut (now s) l ⌝ }
-        requires { ⌜ Ready (now s) (self .state) ⌝ }
+        requires { ⌜ ReadyAt (now s) (self .live) (now stack) ⌝ }
         requires { ⌜ EventIn (now part) e ⌝ }
         requires { ⌜ self .at ≤ length (now out) ⌝ }
-        requires { ⌜ self .state .count ≤ 2 ^ 62 ⌝ }
-        ensures { λ r. ⌜ TakenAs (now (s .entry)) (now (part .entry)) e (self .state) (now (out .entry)) (self .at) r (now (out .exit)) ⌝ }
+        requires { ⌜ self .live .count ≤ 2 ^ 62 ⌝ }
+        ensures { λ r. ⌜ Over (self .live) (now (stack .entry)) (now (stack .exit)) (TakenAs (now (s .entry)) (now (part .entry)) e (full (self .live) (now (stack .entry))) (now (out .entry)) (self .at) (whole r (now (stack .exit))) (now (out .exit))) ⌝ }
     {
         let at = self.at;
-        let before = self.state;
+        let before = self.live;
         let first = Run {
             at: 0,
-            state: before,
+            live: before,
         };
-        let dry = first.token(s, l, part, e, out, false);
-        let after = dry.state;
-        if dry.number != 0 {
-            return self.refuse(dry.number);
+        let mut scratch = [0u8; SCRATCH];
+        let once = first.token(s, l, part, e, stack, &mut scratch, true);
+        let after = once.live;
+        if once.number != 0 {
+            return self.refuse(once.number);
         }
         if MOST_VISITS < after.count {
             return self.refuse(30);
         }
-        if out.len() - at < dry.at {
+        let n = once.at;
+        if out.len() - at < n {
             return self.refuse(17);
         }
-        if dry.at == 0 {
+        if n <= SCRATCH {
+            lent::put_bytes(out, at, &scratch[..n], true);
             return Stepped {
                 number: 0,
-                at: at,
-                state: after,
+                at: at + n,
+                live: after,
             };
         }
-        first.token(s, l, part, e, &mut out[at..], true);
+        let again = first.token(s, l, part, e, stack, &mut out[at..], true);
+        let then = again.live;
         Stepped {
             number: 0,
-            at: at + dry.at,
-            state: after,
+            at: at + n,
+            live: then,
         }
     }
 }

@@ -1,5 +1,8 @@
 -- The loop is stated by what is left: any answer that is right for the brackets left, from the state and the output so far, is right for all.
 use borrow.Author.Needs.{needs}
+use mathlib.Core.List.{List, []}
+use Prim.Native.Nat.{ℕ}
+use Rattle.live.specs.Live.{full}
 use native.Mathlib.Omega.{arith}
 use Prim.Native.Nat.{_-_}
 use mathlib.Core.Path.{_≡_, refl}
@@ -10,19 +13,19 @@ use Rattle.acts.proofs.brackets.Statement.{statement}
 use Rattle.acts.proofs.brackets.Tie as tie
 
 abbrev Inv-loop : tie.InvT-loop
-Inv-loop s l q line out₀ at write codes i₀ to₀ state₀ out i to state = (length out ≡ length out₀) × LeftIn s q line i state₀ (record { write = write; lent = out₀; at = at }) state to out
+Inv-loop s l q line out₀ at write codes i₀ to₀ live₀ out i to live = (length out ≡ length out₀) × ((b : List ℕ) → LeftIn s q line i (full live₀ b) (record { write = write; lent = out₀; at = at }) (full live b) to out)
 
 abbrev μ-loop : tie.MeasureT-loop
-μ-loop s l q line out₀ at write codes i₀ to₀ state₀ out i to state = line .length - i
+μ-loop s l q line out₀ at write codes i₀ to₀ live₀ out i to live = line .length - i
 
 loop-holds : tie.Need-loop-holds Inv-loop μ-loop
-loop-holds c = let a = c .before .before .before in (refl, all-left (a .args .s .now) (a .args .q) (a .args .line) (a .args .z) (record { write = a .args .write; lent = a .args .out .now; at = a .args .at }))
+loop-holds c = let a = c .before .before .before in (refl, λ b. all-left (a .args .s .now) (a .args .q) (a .args .line) (full (a .args .z) b) (record { write = a .args .write; lent = a .args .out .now; at = a .args .at }))
 
 bracket-requires : tie.Need-bracket-requires Inv-loop μ-loop
 bracket-requires c κs =
     let l = c .before .before .before in
     let a = l .before .before .before .before in
-    let left = l .loop .inv .1 in
+    let left = l .loop .inv .1 [] in
     (a .pre .0, (a .pre .1 .0, (omega (arith, a .pre .1 .1 .0, a .pre .1 .1 .1 .0, left .few, left .reach), (omega (arith, a .pre .1 .1 .0, a .pre .1 .1 .1 .1 .0, left .few, left .count), a .pre .1 .1 .1 .1 .1))))
 
 returns : tie.Need-returns Inv-loop μ-loop
@@ -30,20 +33,20 @@ returns c =
     let b = c .before .before .before .before in
     let l = b .before .before .before .before in
     let a = l .before .before .before .before in
-    stops-here (a .args .s .now) (a .args .q) (a .args .line) (a .args .z) (record { write = a .args .write; lent = a .args .out .now; at = a .args .at }) (l .loop .i) (l .loop .state) (l .loop .to) (l .loop .out) (l .loop .inv .1) (b .before .before .if1 .taken) _ _ (b .bracket .ensures) (a .pre .1 .1 .0) (off _ (c .if2 .taken))
+    λ z. stops-here (a .args .s .now) (a .args .q) (a .args .line) (full (a .args .z) z) (record { write = a .args .write; lent = a .args .out .now; at = a .args .at }) (l .loop .i) (full (l .loop .live) z) (l .loop .to) (l .loop .out) (l .loop .inv .1 z) (b .before .before .if1 .taken) _ _ (b .bracket .ensures z) (a .pre .1 .1 .0) (off _ (c .if2 .taken))
 
 loop-again : tie.Need-loop-again Inv-loop μ-loop
 loop-again c =
     let b = c .before .before .before .before .before in
     let l = b .before .before .before .before in
     let a = l .before .before .before .before in
-    (search needs, one-less (a .args .s .now) (a .args .q) (a .args .line) (a .args .z) (record { write = a .args .write; lent = a .args .out .now; at = a .args .at }) (l .loop .i) (l .loop .state) (l .loop .to) (l .loop .out) (l .loop .inv .1) (b .before .before .if1 .taken) _ _ (b .bracket .ensures) (on _ (c .before .if2 .left)))
+    (search needs, λ z. one-less (a .args .s .now) (a .args .q) (a .args .line) (full (a .args .z) z) (record { write = a .args .write; lent = a .args .out .now; at = a .args .at }) (l .loop .i) (full (l .loop .live) z) (l .loop .to) (l .loop .out) (l .loop .inv .1 z) (b .before .before .if1 .taken) _ _ (b .bracket .ensures z) (on _ (c .before .if2 .left)))
 
 returns-2 : tie.Need-returns-2 Inv-loop μ-loop
 returns-2 c =
     let l = c .before .before in
     let a = l .before .before .before .before in
-    none-left (a .args .s .now) (a .args .q) (a .args .line) (a .args .z) (record { write = a .args .write; lent = a .args .out .now; at = a .args .at }) (l .loop .i) (l .loop .state) (l .loop .to) (l .loop .out) (l .loop .inv .1) (a .pre .1 .1 .0) (c .if1 .left)
+    λ z. none-left (a .args .s .now) (a .args .q) (a .args .line) (full (a .args .z) z) (record { write = a .args .write; lent = a .args .out .now; at = a .args .at }) (l .loop .i) (full (l .loop .live) z) (l .loop .to) (l .loop .out) (l .loop .inv .1 z) (a .pre .1 .1 .0) (c .if1 .left)
 
 pub brackets-spec : {M : Type 1} → statement M
 brackets-spec =

@@ -13,7 +13,7 @@ returns-2 : tie.Need-returns-2
 returns-2 c = left-open _ _ (inr (c .if2 .taken))
 
 returns-3 : tie.Need-returns-3
-returns-3 c = c .close .ensures ∙ left-closed _ _ (c .before .before .if1 .left) (c .before .if2 .left)
+returns-3 c = left-closed _ _ (c .before .if1 .left) (c .if2 .left)
 
 pub left-with-spec : {M : Type 1} → statement M
-left-with-spec = tie.close (tie.spec returns returns-2 (λ c. search needs) (λ c κs. search needs) returns-3)
+left-with-spec = tie.close (tie.spec returns returns-2 (λ c. search needs) returns-3)

@@ -5,16 +5,16 @@ use Rattle.converter.proofs.number_without_token.Statement.{statement}
 use Rattle.converter.proofs.number_without_token.Tie as tie
 
 returns : tie.Need-returns
-returns c = rw (c .enum-told .given .1) tt
+returns c = λ b s. rw (c .enum-told .given .1) tt
 
 returns-2 : tie.Need-returns-2
-returns-2 c = rw (c .before .enum-told2 .given .1) (c .number-begun .ensures)
+returns-2 c = λ b s. rw (c .before .enum-told2 .given .1) (c .number-begun .ensures b s)
 
 returns-3 : tie.Need-returns-3
-returns-3 c = rw (c .enum-told3 .given .1) refl
+returns-3 c = λ b s. rw (c .enum-told3 .given .1) refl
 
 returns-4 : tie.Need-returns-4
-returns-4 c = rw (c .enum-told4 .given .1) refl
+returns-4 c = λ b s. rw (c .enum-told4 .given .1) refl
 
 pub number-without-token-spec : {M : Type 1} → statement M
 number-without-token-spec =

@@ -1,10 +1,14 @@
 -- Inside an element: not its own tag, no way to the end, a visit that rejects; else the element is left.
 -- Assumes nothing.
-use mathlib.Core.Path.{refl}
+use mathlib.Core.Path.{_∙_, ap, refl, sym}
 use native.Mathlib.Omega.{arith}
 use borrow.Author.Tests.{not-true, not-false}
 use Rattle.steps.proofs.Tops.{well, runs-in, top-inside, top-few, top-reads, top-end, top-brackets, top-leaves}
 use Rattle.steps.proofs.Ends.{end-other, end-no-way, end-rejected, end-done}
+use Rattle.live.specs.Live.{full}
+use Rattle.live.proofs.Stacks.{top-full}
+use Rattle.steps.specs.declared.Stepped.{Stepped}
+use Rattle.steps.specs.Seen.{whole}
 use borrow.Author.Needs.{needs}
 use Rattle.steps.proofs.Run.end_inside.Statement.{statement}
 use Rattle.steps.proofs.Run.end_inside.Tie as tie
@@ -12,71 +16,71 @@ use Rattle.steps.proofs.Run.end_inside.Tie as tie
 tag-number-of-requires : tie.Need-tag-number-of-requires
 tag-number-of-requires c κs =
     let at-top = c .before in
-    let start = at-top .before .before .before .before in
-    ((start .pre .0), top-inside (start .pre .1 .0) (start .pre .1 .1 .0) (at-top .top .ensures) (start .pre .0))
+    let start = c .before .before .before .before .before .before in
+    ((start .pre .0), top-inside (start .pre .1 .0 .ready) (start .pre .1 .1 .0) (at-top .top .ensures ∙ sym (top-full (start .args .self .live) (start .args .stack .now) (start .pre .1 .1 .0))) (start .pre .0))
 
 returns : tie.Need-returns
 returns c =
     let at-if1 = c .before in
-    let at-tag-number-of = at-if1 .before in
-    let at-top = at-tag-number-of .before .before in
-    let start = at-top .before .before .before .before in
-    end-other _ (start .pre .1 .1 .0) (top-reads (start .args .s .now) (start .args .self .state) (at-top .top .ensures) (at-tag-number-of .tag-number-of .ensures)) (c .refuse .ensures) refl (at-if1 .if1 .taken)
+    let at-tag-number-of = c .before .before in
+    let at-top = c .before .before .before .before in
+    let start = c .before .before .before .before .before .before .before .before .before in
+    end-other _ (start .pre .1 .1 .0) (top-reads (start .args .s .now) (full (start .args .self .live) (start .args .stack .now)) (at-top .top .ensures ∙ sym (top-full (start .args .self .live) (start .args .stack .now) (start .pre .1 .1 .0))) (at-tag-number-of .tag-number-of .ensures)) (ap (λ (y : Stepped). whole y (start .args .stack .now)) (c .refuse .ensures)) refl (at-if1 .if1 .taken)
 
 way-to-end-requires : tie.Need-way-to-end-requires
 way-to-end-requires c κs =
     let at-top = c .before .before .before .before in
-    let start = at-top .before .before .before .before in
-    ((start .pre .0), (runs-in (start .pre .1 .0), (well (start .pre .1 .0) .trees, (top-inside (start .pre .1 .0) (start .pre .1 .1 .0) (at-top .top .ensures) (start .pre .0), top-few (start .pre .1 .0) (start .pre .1 .1 .0) (at-top .top .ensures)))))
+    let start = c .before .before .before .before .before .before .before .before .before in
+    ((start .pre .0), (runs-in (start .pre .1 .0 .ready), (well (start .pre .1 .0 .ready) .trees, (top-inside (start .pre .1 .0 .ready) (start .pre .1 .1 .0) (at-top .top .ensures ∙ sym (top-full (start .args .self .live) (start .args .stack .now) (start .pre .1 .1 .0))) (start .pre .0), top-few (start .pre .1 .0 .ready) (start .pre .1 .1 .0) (at-top .top .ensures ∙ sym (top-full (start .args .self .live) (start .args .stack .now) (start .pre .1 .1 .0)))))))
 
 returns-2 : tie.Need-returns-2
 returns-2 c =
     let at-if2 = c .before in
-    let at-way-to-end = at-if2 .before .before in
-    let at-if1 = at-way-to-end .before .before in
-    let at-tag-number-of = at-if1 .before in
-    let at-top = at-tag-number-of .before .before in
-    let start = at-top .before .before .before .before in
-    end-no-way _ (start .pre .1 .1 .0) (top-reads (start .args .s .now) (start .args .self .state) (at-top .top .ensures) (at-tag-number-of .tag-number-of .ensures)) (at-if1 .if1 .left) (top-end (start .args .s .now) (start .args .self .state) (at-top .top .ensures) (at-way-to-end .way-to-end .ensures)) (c .refuse2 .ensures) refl (not-true _ (at-if2 .if2 .taken))
+    let at-way-to-end = c .before .before .before in
+    let at-if1 = c .before .before .before .before .before in
+    let at-tag-number-of = c .before .before .before .before .before .before in
+    let at-top = c .before .before .before .before .before .before .before .before in
+    let start = c .before .before .before .before .before .before .before .before .before .before .before .before .before in
+    end-no-way _ (start .pre .1 .1 .0) (top-reads (start .args .s .now) (full (start .args .self .live) (start .args .stack .now)) (at-top .top .ensures ∙ sym (top-full (start .args .self .live) (start .args .stack .now) (start .pre .1 .1 .0))) (at-tag-number-of .tag-number-of .ensures)) (at-if1 .if1 .left) (top-end (start .args .s .now) (full (start .args .self .live) (start .args .stack .now)) (at-top .top .ensures ∙ sym (top-full (start .args .self .live) (start .args .stack .now) (start .pre .1 .1 .0))) (at-way-to-end .way-to-end .ensures)) (ap (λ (y : Stepped). whole y (start .args .stack .now)) (c .refuse2 .ensures)) refl (not-true _ (at-if2 .if2 .taken))
 
 brackets-requires : tie.Need-brackets-requires
 brackets-requires c κs =
     let at-way-to-end = c .before .before .before in
-    let at-top = at-way-to-end .before .before .before .before .before in
-    let start = at-top .before .before .before .before in
-    ((start .pre .0), (top-inside (start .pre .1 .0) (start .pre .1 .1 .0) (at-top .top .ensures) (start .pre .0), (at-way-to-end .way-to-end .ensures .few, (omega (arith, (start .pre .1 .1 .1 .0)), (omega (arith, (start .pre .1 .1 .1 .1)), well (start .pre .1 .0))))))
+    let at-top = c .before .before .before .before .before .before .before .before in
+    let start = c .before .before .before .before .before .before .before .before .before .before .before .before .before in
+    ((start .pre .0), (top-inside (start .pre .1 .0 .ready) (start .pre .1 .1 .0) (at-top .top .ensures ∙ sym (top-full (start .args .self .live) (start .args .stack .now) (start .pre .1 .1 .0))) (start .pre .0), (at-way-to-end .way-to-end .ensures .few, (omega (arith, (start .pre .1 .1 .1 .0)), (omega (arith, (start .pre .1 .1 .1 .1)), well (start .pre .1 .0 .ready))))))
 
 returns-3 : tie.Need-returns-3
 returns-3 c =
     let at-if3 = c .before in
-    let at-brackets = at-if3 .before .before .before .before in
-    let at-if2 = at-brackets .before .before in
-    let at-way-to-end = at-if2 .before .before in
-    let at-if1 = at-way-to-end .before .before in
-    let at-tag-number-of = at-if1 .before in
-    let at-top = at-tag-number-of .before .before in
-    let start = at-top .before .before .before .before in
-    end-rejected _ (start .pre .1 .1 .0) (top-reads (start .args .s .now) (start .args .self .state) (at-top .top .ensures) (at-tag-number-of .tag-number-of .ensures)) (at-if1 .if1 .left) (top-end (start .args .s .now) (start .args .self .state) (at-top .top .ensures) (at-way-to-end .way-to-end .ensures)) (not-false _ (at-if2 .if2 .left)) (top-brackets (start .args .s .now) (start .args .self .state) (at-top .top .ensures) (at-brackets .brackets .ensures)) refl (not-true _ (at-if3 .if3 .taken)) (c .answer .ensures)
+    let at-brackets = c .before .before .before .before .before in
+    let at-if2 = c .before .before .before .before .before .before .before in
+    let at-way-to-end = c .before .before .before .before .before .before .before .before .before in
+    let at-if1 = c .before .before .before .before .before .before .before .before .before .before .before in
+    let at-tag-number-of = c .before .before .before .before .before .before .before .before .before .before .before .before in
+    let at-top = c .before .before .before .before .before .before .before .before .before .before .before .before .before .before in
+    let start = c .before .before .before .before .before .before .before .before .before .before .before .before .before .before .before .before .before .before .before in
+    end-rejected _ (start .pre .1 .1 .0) (top-reads (start .args .s .now) (full (start .args .self .live) (start .args .stack .now)) (at-top .top .ensures ∙ sym (top-full (start .args .self .live) (start .args .stack .now) (start .pre .1 .1 .0))) (at-tag-number-of .tag-number-of .ensures)) (at-if1 .if1 .left) (top-end (start .args .s .now) (full (start .args .self .live) (start .args .stack .now)) (at-top .top .ensures ∙ sym (top-full (start .args .self .live) (start .args .stack .now) (start .pre .1 .1 .0))) (at-way-to-end .way-to-end .ensures)) (not-false _ (at-if2 .if2 .left)) (top-brackets (start .args .s .now) (full (start .args .self .live) (start .args .stack .now)) (at-top .top .ensures ∙ sym (top-full (start .args .self .live) (start .args .stack .now) (start .pre .1 .1 .0))) (at-brackets .brackets .ensures (start .args .stack .now))) refl (not-true _ (at-if3 .if3 .taken)) (ap (λ (y : Stepped). whole y (start .args .stack .now)) (c .answer .ensures))
 
 leave-requires : tie.Need-leave-requires
 leave-requires c κs =
     let at-brackets = c .before .before .before .before .before .before in
-    let at-top = at-brackets .before .before .before .before .before .before .before .before .before in
-    let start = at-top .before .before .before .before in
-    ((start .pre .0), (top-inside (start .pre .1 .0) (start .pre .1 .1 .0) (at-top .top .ensures) (start .pre .0), (omega (arith, (start .pre .1 .1 .1 .0), (top-brackets (start .args .s .now) (start .args .self .state) (at-top .top .ensures) (at-brackets .brackets .ensures)) .reach), (omega (arith, (start .pre .1 .1 .1 .1), (top-brackets (start .args .s .now) (start .args .self .state) (at-top .top .ensures) (at-brackets .brackets .ensures)) .count), well (start .pre .1 .0)))))
+    let at-top = c .before .before .before .before .before .before .before .before .before .before .before .before .before .before .before in
+    let start = c .before .before .before .before .before .before .before .before .before .before .before .before .before .before .before .before .before .before .before .before in
+    ((start .pre .0), (top-inside (start .pre .1 .0 .ready) (start .pre .1 .1 .0) (at-top .top .ensures ∙ sym (top-full (start .args .self .live) (start .args .stack .now) (start .pre .1 .1 .0))) (start .pre .0), (omega (arith, (start .pre .1 .1 .1 .0), (top-brackets (start .args .s .now) (full (start .args .self .live) (start .args .stack .now)) (at-top .top .ensures ∙ sym (top-full (start .args .self .live) (start .args .stack .now) (start .pre .1 .1 .0))) (at-brackets .brackets .ensures (start .args .stack .now))) .reach), (omega (arith, (start .pre .1 .1 .1 .1), (top-brackets (start .args .s .now) (full (start .args .self .live) (start .args .stack .now)) (at-top .top .ensures ∙ sym (top-full (start .args .self .live) (start .args .stack .now) (start .pre .1 .1 .0))) (at-brackets .brackets .ensures (start .args .stack .now))) .count), (well (start .pre .1 .0 .ready), omega (arith, (at-brackets .brackets .ensures (start .args .stack .now)) .deep, start .pre .1 .0 .ready .shaped .deep))))))
 
 returns-4 : tie.Need-returns-4
 returns-4 c =
     let at-leave = c .before .before .before in
-    let at-if3 = at-leave .before .before .before in
-    let at-brackets = at-if3 .before .before .before .before in
-    let at-if2 = at-brackets .before .before in
-    let at-way-to-end = at-if2 .before .before in
-    let at-if1 = at-way-to-end .before .before in
-    let at-tag-number-of = at-if1 .before in
-    let at-top = at-tag-number-of .before .before in
-    let start = at-top .before .before .before .before in
-    end-done _ (start .pre .1 .1 .0) (top-reads (start .args .s .now) (start .args .self .state) (at-top .top .ensures) (at-tag-number-of .tag-number-of .ensures)) (at-if1 .if1 .left) (top-end (start .args .s .now) (start .args .self .state) (at-top .top .ensures) (at-way-to-end .way-to-end .ensures)) (not-false _ (at-if2 .if2 .left)) (top-brackets (start .args .s .now) (start .args .self .state) (at-top .top .ensures) (at-brackets .brackets .ensures)) (not-false _ (at-if3 .if3 .left)) _ (top-leaves (start .args .s .now) (start .args .self .state) (at-top .top .ensures) (at-leave .leave .ensures)) (c .answer2 .ensures)
+    let at-if3 = c .before .before .before .before .before .before in
+    let at-brackets = c .before .before .before .before .before .before .before .before .before .before in
+    let at-if2 = c .before .before .before .before .before .before .before .before .before .before .before .before in
+    let at-way-to-end = c .before .before .before .before .before .before .before .before .before .before .before .before .before .before in
+    let at-if1 = c .before .before .before .before .before .before .before .before .before .before .before .before .before .before .before .before in
+    let at-tag-number-of = c .before .before .before .before .before .before .before .before .before .before .before .before .before .before .before .before .before in
+    let at-top = c .before .before .before .before .before .before .before .before .before .before .before .before .before .before .before .before .before .before .before in
+    let start = c .before .before .before .before .before .before .before .before .before .before .before .before .before .before .before .before .before .before .before .before .before .before .before .before in
+    end-done _ (start .pre .1 .1 .0) (top-reads (start .args .s .now) (full (start .args .self .live) (start .args .stack .now)) (at-top .top .ensures ∙ sym (top-full (start .args .self .live) (start .args .stack .now) (start .pre .1 .1 .0))) (at-tag-number-of .tag-number-of .ensures)) (at-if1 .if1 .left) (top-end (start .args .s .now) (full (start .args .self .live) (start .args .stack .now)) (at-top .top .ensures ∙ sym (top-full (start .args .self .live) (start .args .stack .now) (start .pre .1 .1 .0))) (at-way-to-end .way-to-end .ensures)) (not-false _ (at-if2 .if2 .left)) (top-brackets (start .args .s .now) (full (start .args .self .live) (start .args .stack .now)) (at-top .top .ensures ∙ sym (top-full (start .args .self .live) (start .args .stack .now) (start .pre .1 .1 .0))) (at-brackets .brackets .ensures (start .args .stack .now))) (not-false _ (at-if3 .if3 .left)) _ (top-leaves (start .args .s .now) (full (start .args .self .live) (start .args .stack .now)) (at-top .top .ensures ∙ sym (top-full (start .args .self .live) (start .args .stack .now) (start .pre .1 .1 .0))) (at-leave .leave .ensures)) (ap (λ (y : Stepped). whole y (start .args .stack .now)) (c .answer2 .ensures))
 
 pub end-inside-spec : {M : Type 1} → statement M
 end-inside-spec =

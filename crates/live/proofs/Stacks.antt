@@ -1,0 +1,275 @@
+-- Laws of the lent stack: what a push writes and a pop reads, and that a state reads nothing past the elements around its innermost one.
+-- Assumes nothing.
+use mathlib.Core.Path.{_≡_, refl, sym, ap, ap₂, _∙_, subst}
+use mathlib.Core.Bool.{Bool, true, false, cond}
+use mathlib.Core.List.{List, [], _∷_, _++_, append-assoc, reverse}
+use Prim.Native.Nat.{ℕ, zero, suc, _+_, _-_, _*_, _≤_, _<_}
+use native.Mathlib.Nat.{mul-suc, mul-zero}
+use native.Mathlib.Numerals.{add-one, sub-one}
+use native.Mathlib.Omega.{arith}
+use lib.Dec.{eqb}
+use lib.ListN.{length, take, drop, set, take-append-drop, getD, replicate, length-append, length-take, length-replicate}
+use lib.Seq.{take-append-seam, take-append-le, getD-append-add, length-take-le}
+use borrow.Author.Tests.{lt-ltb, ne-eqb}
+use Rattle.lent.specs.Put.{put}
+use Rattle.lent.proofs.Laws.{put-all, put-length}
+use Rattle.state.specs.declared.Saved.{Saved}
+use Rattle.state.specs.declared.Frame.{Frame}
+use Rattle.state.specs.declared.State.{State}
+use Rattle.state.specs.Bytes.{byteAt, bytesAt, onAt, gathered, savedAt, frameAt, frameBytes, SizedFrame, Wrote}
+use Rattle.state.specs.Changes.{bareSaved, bareFrame, lastOf, putLast, keeping, lastSet, withoutLast, atPlace, pushed, popped, topOf, withTop, saving, restored, placed}
+use Rattle.state.specs.Meaning.{All, Fits, elements, meaningOf, Shaped}
+use Rattle.state.proofs.Gathered.{length-gathered}
+use Rattle.state.proofs.Back.{Back, frame-back}
+use Rattle.state.proofs.Meant.{shaped-popped}
+use Rattle.live.specs.declared.Live.{Live}
+use Rattle.live.specs.declared.Restored.{Restored}
+use Rattle.live.specs.Live.{stackOf, full, SameBelow, topIn, keptIn, placedIn, RestoredIn, PushedAs, PoppedAs}
+
+-- one of a list, and another one in its place
+set-at : {X : Type 0} (xs : List X) (x y : X) (ys : List X) → set (xs ++ x ∷ ys) (length xs) y ≡ xs ++ y ∷ ys
+set-at [] x y ys = refl
+set-at {X = X} (a ∷ xs) x y ys = ap (λ (l : List X). a ∷ l) (set-at xs x y ys)
+
+gathered-snoc : {X : Type 0} (f : ℕ → X) (w at n : ℕ) → gathered f w at (suc n) ≡ gathered f w at n ++ f (at + w * n) ∷ []
+unfolding gathered
+gathered-snoc f w at zero = rw mul-zero (let e : at + 0 ≡ at = omega arith in rw e)
+gathered-snoc {X = X} f w at (suc n) =
+    let e : at + w + w * n ≡ at + w * suc n = rw mul-suc (omega arith) in
+    ap (λ (l : List X). f at ∷ l) (gathered-snoc f w (at + w) n ∙ ap (λ (j : ℕ). gathered f w (at + w) n ++ f j ∷ []) e)
+
+-- two readings that agree below m
+agree-gathered : {X : Type 0} (f g : ℕ → X) (w m at n : ℕ) → at + w * n ≤ m → ((j : ℕ) → j + w ≤ m → f j ≡ g j) → gathered f w at n ≡ gathered g w at n
+unfolding gathered
+agree-gathered f g w m at zero h A = refl
+agree-gathered {X = X} f g w m at (suc n) h A =
+    let k : at + (w * n + w) ≤ m = rw mul-suc at h in
+    ap₂ (λ (x : X) (l : List X). x ∷ l) (A at (omega arith)) (agree-gathered f g w m (at + w) n (omega arith) A)
+
+abbrev pub Agree : ℕ → List ℕ → List ℕ → Type 0
+Agree m b b′ = (i : ℕ) → i < m → byteAt b i ≡ byteAt b′ i
+
+module _ (m : ℕ) (b b′ : List ℕ) (A : Agree m b b′) where
+  agree-bytes : (at n : ℕ) → at + n ≤ m → bytesAt b at n ≡ bytesAt b′ at n
+  agree-bytes at n h = agree-gathered (byteAt b) (byteAt b′) 1 m at n (omega arith) (λ j k. A j (omega arith))
+
+  agree-saved : (at : ℕ) → at + 5 ≤ m → savedAt b at ≡ savedAt b′ at
+  unfolding savedAt
+  agree-saved at h = rw (agree-bytes at 4 (omega arith), A (at + 4) (omega arith))
+
+  agree-frame : (at : ℕ) → at + 68 ≤ m → frameAt b at ≡ frameAt b′ at
+  unfolding frameAt
+  agree-frame at h =
+      rw (
+        A at (omega arith),
+        A (at + 1) (omega arith),
+        A (at + 2) (omega arith),
+        agree-gathered (savedAt b) (savedAt b′) 5 m (at + 3) 13 (omega arith) (λ j k. agree-saved j k),
+      )
+
+  agree-stack : (n : ℕ) → 68 * n ≤ m → gathered (frameAt b) 68 0 n ≡ gathered (frameAt b′) 68 0 n
+  agree-stack n h = agree-gathered (frameAt b) (frameAt b′) 68 m 0 n (omega arith) (λ j k. agree-frame j k)
+
+-- as many frames as a stack has
+pub stack-long : (d : ℕ) (f : Frame) (b : List ℕ) → d ≤ 32 → length (stackOf d f b) ≡ 32
+stack-long zero f b h = length-replicate 32 bareFrame
+stack-long (suc n) f b h =
+    length-append (gathered (frameAt b) 68 0 n) (f ∷ replicate (31 - n) bareFrame)
+    ∙ omega (arith, length-gathered (frameAt b) 68 0 n, length-replicate (31 - n) bareFrame)
+
+-- the frames below the innermost one, with one more
+stack-push : (n : ℕ) (top f : Frame) (b b′ : List ℕ) → suc n < 32 → Agree (68 * n) b′ b → frameAt b′ (68 * n) ≡ top →
+    stackOf (suc (suc n)) f b′ ≡ set (stackOf (suc n) top b) (suc n) f
+stack-push n top f b b′ h A e =
+    let xs : List Frame = gathered (frameAt b) 68 0 n in
+    let ys : List Frame = replicate (30 - n) bareFrame in
+    let same : gathered (frameAt b′) 68 0 (suc n) ≡ xs ++ top ∷ [] =
+    gathered-snoc (frameAt b′) 68 0 n ∙ ap₂ (λ (l : List Frame) (x : Frame). l ++ x ∷ []) (agree-stack (68 * n) b′ b A n (omega arith)) (ap (frameAt b′) (omega arith) ∙ e) in
+    let r : 31 - n ≡ suc (30 - n) = omega arith in
+    let r′ : 31 - suc n ≡ 30 - n = omega arith in
+    let l : length (xs ++ top ∷ []) ≡ suc n = length-append xs (top ∷ []) ∙ omega (arith, length-gathered (frameAt b) 68 0 n) in
+    rw (same, r, r′, ← l) (sym (ap (λ (z : List Frame). set z (length (xs ++ top ∷ [])) f) (sym (append-assoc xs (top ∷ []) (bareFrame ∷ ys))) ∙ set-at (xs ++ top ∷ []) bareFrame f ys))
+
+front-same : (xs ys zs : List ℕ) (i : ℕ) → i < length xs → byteAt (xs ++ ys) i ≡ byteAt (xs ++ zs) i
+front-same [] ys zs i h = absurd (omega arith)
+front-same (x ∷ xs) ys zs zero h = refl
+front-same (x ∷ xs) ys zs (suc i) h = front-same xs ys zs i (omega arith)
+
+-- a frame that is written: what lies before it is as it was, and it reads back
+module _ (b b′ : List ℕ) (at r : ℕ) (f : Frame) (sized : SizedFrame f) (room : at + 68 ≤ length b) (w : Wrote 68 b at (frameBytes f) b′ r) where
+  abbrev past : List ℕ
+  past = drop (at + 68) b
+
+  long-before : length (take at b) ≡ at
+  long-before = length-take-le at b (omega arith)
+
+  written-is : b′ ≡ take at b ++ (frameBytes f ++ past)
+  written-is =
+      w .left ∙ put-all b at (frameBytes f) (omega (arith, w .wide)) ∙ append-assoc (take at b) (frameBytes f) (drop (at + length (frameBytes f)) b)
+      ∙ ap (λ (n : ℕ). take at b ++ (frameBytes f ++ drop (at + n) b)) (w .wide)
+
+  agree-before : Agree at b′ b
+  agree-before i h =
+      ap (λ (l : List ℕ). byteAt l i) written-is ∙ front-same (take at b) (frameBytes f ++ past) (drop at b) i (omega (arith, long-before))
+      ∙ ap (λ (l : List ℕ). byteAt l i) (take-append-drop at b)
+
+  reads-back : frameAt b′ at ≡ f
+  reads-back = ap (λ (l : List ℕ). frameAt l at) written-is ∙ frame-back f sized .same (take at b) past at long-before
+
+-- a state reads nothing past the elements around its innermost one
+stack-same : (d : ℕ) (f : Frame) (b b′ : List ℕ) → Agree (68 * (d - 1)) b′ b → stackOf d f b′ ≡ stackOf d f b
+stack-same zero f b b′ A = refl
+stack-same (suc n) f b b′ A =
+    let e : suc n - 1 ≡ n = omega arith in
+    ap (λ (l : List Frame). l ++ f ∷ replicate (31 - n) bareFrame) (agree-stack (68 * n) b′ b (subst (λ (k : ℕ). Agree (68 * k) b′ b) e A) n (omega arith))
+
+pub full-same : (h : Live) (b b′ : List ℕ) → SameBelow h b b′ → full h b′ ≡ full h b
+full-same h b b′ A = rw (stack-same (h .depth) (h .top) b b′ A)
+
+stack-pushed : (d : ℕ) (top f : Frame) (b b′ : List ℕ) → d < 32 → (0 < d → Agree (68 * (d - 1)) b′ b) → (0 < d → frameAt b′ (68 * (d - 1)) ≡ top) → stackOf (d + 1) f b′ ≡ set (stackOf d top b) d f
+unfolding gathered
+stack-pushed zero top f b b′ h A e = refl
+stack-pushed (suc n) top f b b′ h A e =
+    let q : suc n - 1 ≡ n = omega arith in
+    rw add-one
+    (stack-push n top f b b′ h (subst (λ (k : ℕ). Agree (68 * k) b′ b) q (A (omega arith))) (subst (λ (k : ℕ). frameAt b′ (68 * k) ≡ top) q (e (omega arith))))
+
+pub push-is : (h : Live) (f : Frame) (b b′ : List ℕ) → h .depth < 32 → (0 < h .depth → Agree (68 * (h .depth - 1)) b′ b) → (0 < h .depth → frameAt b′ (68 * (h .depth - 1)) ≡ h .top) → length b′ ≡ length b →
+    PushedAs h f b (topIn h (h .rooted) (h .depth + 1) f) b′
+unfolding pushed
+push-is h f b b′ p A e l =
+    record {
+      state = rw (lt-ltb (h .depth) 32 p, stack-pushed (h .depth) (h .top) f b b′ p A e);
+      as-was = by (h .depth) refl;
+      long = l;
+    }
+  where
+    none-before : (d : ℕ) → d ≡ 0 → Agree (68 * (d - 1)) b′ b
+    none-before d z i q = absurd (omega arith)
+
+    by : (d : ℕ) → h .depth ≡ d → SameBelow h b b′
+    by zero z = none-before (h .depth) z
+    by (suc n) z = A (omega arith)
+
+pub push-first : (h : Live) (f : Frame) (b : List ℕ) → h .depth < 32 → h .depth ≡ 0 → PushedAs h f b (topIn h (h .rooted) (h .depth + 1) f) b
+push-first h f b p z = push-is h f b b p (λ q. absurd (omega arith)) (λ q. absurd (omega arith)) refl
+
+pub push-next : (h : Live) (f : Frame) (b b′ : List ℕ) (r : ℕ) → h .depth < 32 → 2176 ≤ length b → SizedFrame (h .top) → Wrote 68 b (68 * (h .depth - 1)) (frameBytes (h .top)) b′ r →
+    PushedAs h f b (topIn h (h .rooted) (h .depth + 1) f) b′
+push-next h f b b′ r p l s w =
+    let room : 68 * (h .depth - 1) + 68 ≤ length b = omega arith in
+    push-is h f b b′ p (λ q. agree-before b b′ (68 * (h .depth - 1)) r (h .top) s room w) (λ q. reads-back b b′ (68 * (h .depth - 1)) r (h .top) s room w)
+    (ap length (w .left) ∙ put-length true b (68 * (h .depth - 1)) (frameBytes (h .top)))
+
+-- the elements after a pop
+take-popped : (n : ℕ) (top : Frame) (b : List ℕ) → take n (stackOf (suc n) top b) ≡ gathered (frameAt b) 68 0 n
+take-popped n top b =
+    ap (λ (k : ℕ). take k (stackOf (suc n) top b)) (sym (length-gathered (frameAt b) 68 0 n)) ∙ take-append-seam (gathered (frameAt b) 68 0 n) (top ∷ replicate (31 - n) bareFrame)
+
+take-left : (n : ℕ) (b : List ℕ) → take (suc n) (stackOf (suc n) (frameAt b (68 * n)) b) ≡ gathered (frameAt b) 68 0 (suc n)
+take-left n b =
+    let xs : List Frame = gathered (frameAt b) 68 0 n in
+    let f : Frame = frameAt b (68 * n) in
+    let ys : List Frame = replicate (31 - n) bareFrame in
+    let l : length (xs ++ f ∷ []) ≡ suc n = length-append xs (f ∷ []) ∙ omega (arith, length-gathered (frameAt b) 68 0 n) in
+    ap₂ take (sym l) (sym (append-assoc xs (f ∷ []) ys)) ∙ take-append-seam (xs ++ f ∷ []) ys ∙ sym (gathered-snoc (frameAt b) 68 0 n ∙ ap (λ (k : ℕ). xs ++ frameAt b k ∷ []) (omega arith))
+
+-- the frame that a pop reads
+abbrev pub left-top : Live → List ℕ → Frame
+left-top h b = frameAt b (68 * (h .depth - 2))
+
+same-elements : (d : ℕ) (top left : Frame) (b : List ℕ) → 0 < d → (1 < d → left ≡ frameAt b (68 * (d - 2))) → take (d - 1) (stackOf (d - 1) left b) ≡ take (d - 1) (stackOf d top b)
+same-elements zero top left b p e = absurd (omega arith)
+same-elements (suc zero) top left b p e = refl
+same-elements (suc (suc n)) top left b p e =
+    let q : suc (suc n) - 1 ≡ suc n = omega arith in
+    let q′ : suc (suc n) - 2 ≡ n = omega arith in
+    let x : left ≡ frameAt b (68 * n) = e (omega arith) ∙ ap (λ (k : ℕ). frameAt b (68 * k)) q′ in
+    rw (q, x) (take-left n b ∙ sym (take-popped (suc n) top b))
+
+pub pop-is : (h : Live) (b : List ℕ) (left : Frame) → 0 < h .depth → h .depth ≤ 32 → (1 < h .depth → left ≡ left-top h b) →
+    PoppedAs h b (topIn h (cond (eqb (h .depth) 0) (h .rooted) (cond (eqb (h .depth) 1) true (h .rooted))) (h .depth - 1) left)
+unfolding popped meaningOf
+pop-is h b left p q e =
+    let t = same-elements (h .depth) (h .top) left b p e in
+    let z : eqb (h .depth) 0 ≡ false = ne-eqb (h .depth) 0 (λ x. omega arith) in
+    record {
+      is = refl;
+      means = λ _. rw (z, t);
+      shaped = λ _ s.
+          let w = shaped-popped (full h b) s p in
+          record {
+            deep = omega arith;
+            frames = stack-long (h .depth - 1) left b (omega arith);
+            fits = rw t (fits-of w z);
+          };
+    }
+  where
+    fits-of : Shaped (popped (full h b)) → eqb (h .depth) 0 ≡ false → All Fits (take (h .depth - 1) (stackOf (h .depth) (h .top) b))
+    fits-of w z = subst (λ (x : Bool). All Fits (take (cond x (full h b) (record { values = h .values; echo = h .echo; count = h .count; rooted = cond (eqb (h .depth) 1) true (h .rooted); closed = h .closed; depth = h .depth - 1; frames = stackOf (h .depth) (h .top) b }) .depth) (cond x (full h b) (record { values = h .values; echo = h .echo; count = h .count; rooted = cond (eqb (h .depth) 1) true (h .rooted); closed = h .closed; depth = h .depth - 1; frames = stackOf (h .depth) (h .top) b }) .frames))) z (w .fits)
+
+pub pop-none : (h : Live) (b : List ℕ) → h .depth ≡ 0 → PoppedAs h b h
+pop-none h b z =
+    record {
+      is = let d : h .depth ≡ h .depth - 1 = omega arith in let x : eqb (h .depth) 0 ≡ true = rw z in rw x (ap (λ (k : ℕ). topIn h (h .rooted) k (h .top)) d);
+      means = λ p. absurd (omega arith);
+      shaped = λ p. absurd (omega arith);
+    }
+
+pub pop-root : (h : Live) (b : List ℕ) → h .depth ≡ 1 → PoppedAs h b (topIn h true (h .depth - 1) (h .top))
+pop-root h b z =
+    let x : cond (eqb (h .depth) 0) (h .rooted) (cond (eqb (h .depth) 1) true (h .rooted)) ≡ true = rw z in
+    subst (λ (r : Bool). PoppedAs h b (topIn h r (h .depth - 1) (h .top))) x (pop-is h b (h .top) (omega arith) (omega arith) (λ q. absurd (omega arith)))
+
+pub pop-inner : (h : Live) (b : List ℕ) (left : Frame) → (h .depth ≡ 0 → ⊥) → (h .depth ≡ 1 → ⊥) → h .depth ≤ 32 → left ≡ left-top h b → PoppedAs h b (topIn h (h .rooted) (h .depth - 1) left)
+pop-inner h b left p q l e =
+    let x : cond (eqb (h .depth) 0) (h .rooted) (cond (eqb (h .depth) 1) true (h .rooted)) ≡ h .rooted = rw (ne-eqb (h .depth) 0 p, ne-eqb (h .depth) 1 q) in
+    subst (λ (r : Bool). PoppedAs h b (topIn h r (h .depth - 1) left)) x (pop-is h b left (omega arith) l (λ _. e))
+
+-- changes of the innermost element
+stack-put : (d : ℕ) (f g : Frame) (b : List ℕ) → stackOf d g b ≡ putLast (stackOf d f b) d g
+stack-put zero f g b = refl
+stack-put (suc n) f g b =
+    let xs : List Frame = gathered (frameAt b) 68 0 n in
+    let ys : List Frame = replicate (31 - n) bareFrame in
+    sym (ap (λ (k : ℕ). set (xs ++ f ∷ ys) k g) (sym (length-gathered (frameAt b) 68 0 n)) ∙ set-at xs f g ys)
+
+get-at : {X : Type 0} (xs : List X) (x : X) (ys : List X) (z : X) → getD (xs ++ x ∷ ys) (length xs) z ≡ x
+get-at [] x ys z = refl
+get-at (a ∷ xs) x ys z = get-at xs x ys z
+
+stack-top : (d : ℕ) (f : Frame) (b : List ℕ) → 0 < d → lastOf bareFrame (stackOf d f b) d ≡ f
+stack-top zero f b p = absurd (omega arith)
+stack-top (suc n) f b p =
+    let xs : List Frame = gathered (frameAt b) 68 0 n in
+    let ys : List Frame = replicate (31 - n) bareFrame in
+    ap (λ (k : ℕ). getD (xs ++ f ∷ ys) k bareFrame) (sym (length-gathered (frameAt b) 68 0 n)) ∙ get-at xs f ys bareFrame
+
+pub top-full : (h : Live) (b : List ℕ) → 0 < h .depth → topOf (full h b) ≡ h .top
+top-full h b p = stack-top (h .depth) (h .top) b p
+
+-- of any depth: where no element is open neither side changes anything
+stack-changed : (c : Frame → Frame) (d : ℕ) (f : Frame) (b : List ℕ) → stackOf d (c f) b ≡ putLast (stackOf d f b) d (c (lastOf bareFrame (stackOf d f b) d))
+stack-changed c zero f b = refl
+stack-changed c (suc n) f b = stack-put (suc n) f (c f) b ∙ ap (λ (g : Frame). putLast (stackOf (suc n) f b) (suc n) (c g)) (sym (stack-top (suc n) f b (omega arith)))
+
+with-frames : (h : Live) (l m : List Frame) → l ≡ m →
+    _≡_ {A = State} (record { values = h .values; echo = h .echo; count = h .count; rooted = h .rooted; closed = h .closed; depth = h .depth; frames = l })
+    (record { values = h .values; echo = h .echo; count = h .count; rooted = h .rooted; closed = h .closed; depth = h .depth; frames = m })
+with-frames h l m e = ap (λ (x : List Frame). record { values = h .values; echo = h .echo; count = h .count; rooted = h .rooted; closed = h .closed; depth = h .depth; frames = x }) e
+
+pub full-kept : (h : Live) (k : Saved) (b : List ℕ) → full (keptIn h k) b ≡ saving (full h b) k
+full-kept h k b = with-frames h _ _ (stack-changed (λ f. keeping f k) (h .depth) (h .top) b)
+
+pub full-placed : (h : Live) (p : ℕ) (b : List ℕ) → full (placedIn h p) b ≡ placed (full h b) p
+full-placed h p b = with-frames h _ _ (stack-changed (λ f. atPlace f p) (h .depth) (h .top) b)
+
+last-kept : (d : ℕ) (f : Frame) (b : List ℕ) → cond (eqb d 0) bareSaved (lastSet f) ≡ lastSet (lastOf bareFrame (stackOf d f b) d)
+unfolding bareFrame
+last-kept zero f b = refl
+last-kept (suc n) f b = rw (ne-eqb (suc n) 0 (λ e. omega arith)) (ap lastSet (sym (stack-top (suc n) f b (omega arith))))
+
+pub full-restored : (h : Live) (r : Restored) (b : List ℕ) → RestoredIn h r → record { saved = r .saved; state = full (r .live) b } ≡ restored (full h b)
+full-restored h r b R =
+    ap₂ (λ (k : Saved) (z : State). record { saved = k; state = z }) (R .saved ∙ last-kept (h .depth) (h .top) b)
+    (ap (λ (l : Live). full l b) (R .live) ∙ with-frames h _ _ (stack-changed withoutLast (h .depth) (h .top) b))

@@ -1,0 +1,73 @@
+-- The live part of a state and the lent stack: the state that they are together, and what each change makes of it.
+-- Assumes nothing.
+use mathlib.Core.Path.{_≡_}
+use mathlib.Core.Bool.{Bool, true, cond}
+use mathlib.Core.List.{List, _∷_, _++_}
+use Prim.Native.Nat.{ℕ, zero, suc, _+_, _-_, _*_, _<_, _≤_}
+use lib.Dec.{eqb}
+use lib.ListN.{length, take, replicate}
+use Rattle.runs.specs.Machine.{State as Run}
+use Rattle.state.specs.declared.Saved.{Saved}
+use Rattle.state.specs.declared.Frame.{Frame}
+use Rattle.state.specs.declared.State.{State}
+use Rattle.state.specs.Bytes.{byteAt, gathered, frameAt}
+use Rattle.state.specs.Changes.{bareSaved, bareFrame, keeping, lastSet, withoutLast, atPlace, pushed, popped}
+use Rattle.state.specs.Meaning.{meaningOf, Shaped}
+use Rattle.live.specs.declared.Live.{Live}
+use Rattle.live.specs.declared.Restored.{Restored}
+
+-- the 32 frames: those around the innermost element as they lie in the stack, the root's first, then the innermost one; none past it is in use
+abbrev pub stackOf : ℕ → Frame → List ℕ → List Frame
+stackOf zero f b = replicate 32 bareFrame
+stackOf (suc n) f b = gathered (frameAt b) 68 0 n ++ f ∷ replicate (31 - n) bareFrame
+
+-- the state that the live part h and the stack's bytes b are
+abbrev pub full : Live → List ℕ → State
+full h b =
+    record {
+      values = h .values;
+      echo = h .echo;
+      count = h .count;
+      rooted = h .rooted;
+      closed = h .closed;
+      depth = h .depth;
+      frames = stackOf (h .depth) (h .top) b;
+    }
+
+-- another innermost element, at another depth; other attributes
+abbrev pub topIn : Live → Bool → ℕ → Frame → Live
+topIn h rooted depth f =
+    record { values = h .values; echo = h .echo; count = h .count; rooted = rooted; closed = h .closed; depth = depth; top = f }
+
+abbrev pub keptIn : Live → Saved → Live
+keptIn h k = topIn h (h .rooted) (h .depth) (keeping (h .top) k)
+
+abbrev pub placedIn : Live → ℕ → Live
+placedIn h p = topIn h (h .rooted) (h .depth) (atPlace (h .top) p)
+
+abbrev pub envIn : Live → List ℕ → Bool → ℕ → Live
+envIn h values echo count =
+    record { values = values; echo = echo; count = count; rooted = h .rooted; closed = h .closed; depth = h .depth; top = h .top }
+
+pub record RestoredIn (h : Live) (r : Restored) : Type 0 where
+  pub saved : r .saved ≡ cond (eqb (h .depth) 0) bareSaved (lastSet (h .top))
+  pub live : r .live ≡ topIn h (h .rooted) (h .depth) (withoutLast (h .top))
+
+-- the stack's bytes that the state h reads: those of the elements around its innermost one
+abbrev pub inUse : Live → ℕ
+inUse h = 68 * (h .depth - 1)
+
+abbrev pub SameBelow : Live → List ℕ → List ℕ → Type 0
+SameBelow h b b′ = (i : ℕ) → i < inUse h → byteAt b′ i ≡ byteAt b i
+
+-- a push: the state is the one with the new element, and what the state before it reads of the stack is as it was
+pub record PushedAs (h : Live) (f : Frame) (b : List ℕ) (r : Live) (b′ : List ℕ) : Type 0 where
+  pub state : full r b′ ≡ pushed (full h b) f .state
+  pub as-was : SameBelow h b b′
+  pub long : length b′ ≡ length b
+
+-- a pop: the state stands for the run with the innermost element off
+pub record PoppedAs (h : Live) (b : List ℕ) (r : Live) : Type 0 where
+  pub is : r ≡ topIn h (cond (eqb (h .depth) 0) (h .rooted) (cond (eqb (h .depth) 1) true (h .rooted))) (h .depth - 1) (r .top)
+  pub means : 0 < h .depth → meaningOf (full r b) ≡ meaningOf (popped (full h b))
+  pub shaped : 0 < h .depth → Shaped (full h b) → Shaped (full r b)

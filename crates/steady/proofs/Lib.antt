@@ -1,0 +1,3 @@
+pub mod Later
+pub mod Steadies
+pub mod Around
