@@ -4,7 +4,7 @@
     python3 tests/sheets.py            writes crates/sheets/data/cases.txt, data/CASES.md and crates/sheets/stdout
     python3 tests/sheets.py --check    says whether they are what it would write
 
-One case to a line of cases.txt: the bytes of the lent list in decimal, a space, the sheet in hex digits. The program fills
+One case to a line of cases.txt: the bytes of the lent list as a hexadecimal number, a space, the sheet in hex digits. The program fills
 the lent list with AA, has the sheet checked, and writes one line a case: its number from 1, ": ", the answer's number, a space,
 the fault count, each entry written (a space and its 8 hex digits), and " kept" if every byte past them is still AA.
 """
@@ -882,7 +882,7 @@ def files():
     """The three files: where each goes, and its text."""
     for group in (worked, rule_s, rule_t, rooms, sizes, trailers, tags, productions, trees, programs, nonterminals, order, drawn):
         group()
-    cases = ''.join('%d %s\n' % (room, sheet.hex()) for room, sheet, *_ in CASES)
+    cases = ''.join('%x %s\n' % (room, sheet.hex()) for room, sheet, *_ in CASES)
     lines, said = [], [SAID]
     for i, (room, sheet, number, count, written, what) in enumerate(CASES):
         if i in HEADINGS:

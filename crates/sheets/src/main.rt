@@ -1,123 +1,21 @@
 // Runs the checker on the sheets of data/cases.txt, and writes a line for each.
-// A case is a line: the length of the list to lend, a space, and the sheet's bytes in hexadecimal. The answer is a line: the case's
+// A case is a line in hexadecimal: the length of the list to lend, a space, and the sheet's bytes. The answer is a line: the case's
 // number, the checker's number, its count, the entries that it wrote, and whether every byte of the list past them is as lent.
 ghost use Prim.Native.Nat.{_+_, _≤_, _<_};
 ghost use lib.ListN.{length};
 ghost use Rattle.io.specs.Counts.{Counts};
+use cases::fill;
+use cases::is_kept;
+use cases::read_bytes;
+use cases::read_line;
+use cases::read_number;
+use cases::within;
 use faults::Checked;
 use faults::check;
 use libc::STDOUT_FILENO;
 
-// The longest list that is lent.
-const LONGEST_LIST: usize = 65536;
-
 // What every byte of a list is before it is lent.
 const LENT: u8 = 0xAA;
-
-// A number that was read, and where the text goes on.
-struct Read {
-    value: usize,
-    next: usize,
-}
-
-// A digit's value; 0 of any other byte.
-fn digit(b: u8) -> u8
-    ensures { λ r. ⌜ r < 16 ⌝ }
-{
-    if b < b'0' {
-        return 0;
-    }
-    if b <= b'9' {
-        return b - b'0';
-    }
-    if b < b'a' {
-        return 0;
-    }
-    if b <= b'f' {
-        return b - b'a' + 10;
-    }
-    0
-}
-
-fn wide(b: u8) -> usize
-    ensures { λ r. ⌜ r < 256 ⌝ }
-{
-    b as usize
-}
-
-// A digit more, of a number that stays at most the longest list.
-fn longer(value: usize, b: u8) -> usize
-    requires { ⌜ value ≤ 65536 ⌝ }
-    ensures { λ r. ⌜ r ≤ 65536 ⌝ }
-{
-    let more = 10 * value + wide(digit(b));
-    if more > LONGEST_LIST {
-        LONGEST_LIST
-    } else {
-        more
-    }
-}
-
-// The decimal number up to a space or the end.
-fn read_length(line: &[u8]) -> Read
-    ensures { λ r. ⌜ r .next ≤ length (now (line .entry)) ⌝ }
-    ensures { λ r. ⌜ r .value ≤ 65536 ⌝ }
-{
-    let mut value = 0;
-    let mut i = 0;
-    while i < line.len() {
-        if line[i] == b' ' {
-            return Read {
-                value: value,
-                next: i + 1,
-            };
-        }
-        value = longer(value, line[i]);
-        i += 1;
-    }
-    Read {
-        value: value,
-        next: i,
-    }
-}
-
-// The bytes from one on to the line's end, two digits each, and how many they are.
-fn read_sheet(line: &[u8], at: usize, sheet: &mut [u8]) -> usize
-    requires { ⌜ at ≤ length (now line) ⌝ }
-    ensures { λ r. ⌜ Counts r (now (sheet .exit)) ⌝ }
-{
-    let mut n = 0;
-    let mut i = at;
-    while n < sheet.len() {
-        if line.len() - i < 2 {
-            return n;
-        }
-        sheet[n] = 16 * digit(line[i]) + digit(line[i + 1]);
-        n += 1;
-        i += 2;
-    }
-    n
-}
-
-fn fill(list: &mut [u8]) {
-    let mut i = 0;
-    while i < list.len() {
-        list[i] = LENT;
-        i += 1;
-    }
-}
-
-// Whether every byte from one on is as lent.
-fn is_kept(list: &[u8], from: usize) -> bool {
-    let mut i = from;
-    while i < list.len() {
-        if list[i] != LENT {
-            return false;
-        }
-        i += 1;
-    }
-    true
-}
 
 fn wider(b: u8) -> u64
     ensures { λ r. ⌜ r < 256 ⌝ }
@@ -165,7 +63,7 @@ fn print_answer(case: u64, r: Checked, list: &[u8]) {
     io::write_all(STDOUT_FILENO, b" ");
     io::print_decimal(STDOUT_FILENO, r.count as u64);
     let end = print_entries(list, written(r));
-    if is_kept(list, end) {
+    if is_kept(list, end, LENT) {
         io::write_all(STDOUT_FILENO, b" kept\n");
     } else {
         io::write_all(STDOUT_FILENO, b" spoiled\n");
@@ -174,7 +72,7 @@ fn print_answer(case: u64, r: Checked, list: &[u8]) {
 
 // Lends the checker a list of its own, and writes the case's line.
 fn run_sheet(case: u64, sheet: &[u8], list: &mut [u8]) {
-    fill(list);
+    fill(list, LENT);
     let r = check(sheet, list);
     print_answer(case, r, list);
 }
@@ -183,41 +81,10 @@ fn run_sheet(case: u64, sheet: &[u8], list: &mut [u8]) {
 fn run_line(case: u64, line: &[u8]) {
     let mut sheet = io::large_buffer();
     let mut list = io::large_buffer();
-    let lent = read_length(line);
-    let room = lent.value;
-    let n = read_sheet(line, lent.next, &mut sheet);
+    let lent = read_number(line, 0);
+    let room = within(lent.value as usize, &list);
+    let n = within(read_bytes(line, lent.next, &mut sheet, 0), &sheet);
     run_sheet(case, &sheet[..n], &mut list[..room]);
-}
-
-// More than any byte: there is none left.
-const END: usize = 256;
-
-fn next_byte(fd: i32) -> usize {
-    let mut one = [0u8; 1];
-    let n = io::read_full(fd, &mut one);
-    if n == 0 {
-        return END;
-    }
-    wide(one[0])
-}
-
-// Reads up to the line's end, and answers how many bytes the line has.
-fn read_line(fd: i32, line: &mut [u8]) -> usize
-    ensures { λ r. ⌜ Counts r (now (line .exit)) ⌝ }
-{
-    let mut n = 0;
-    while n < line.len() {
-        let b = next_byte(fd);
-        if b > 255 {
-            return n;
-        }
-        if b == 10 {
-            return n;
-        }
-        line[n] = b as u8;
-        n += 1;
-    }
-    n
 }
 
 // Runs the next line, and answers whether there was one.

@@ -5,6 +5,12 @@ ghost use mathlib.Core.Path.{_≡_};
 ghost use Prim.Native.Nat.{_≤_, _<_};
 ghost use lib.ListN.{length};
 ghost use Rattle.io.specs.Counts.{Counts};
+use cases::fill;
+use cases::is_kept;
+use cases::read_bytes;
+use cases::read_line;
+use cases::read_number;
+use cases::within;
 use converter::convert_bytes;
 use libc::STDOUT_FILENO;
 
@@ -38,12 +44,6 @@ struct Progress {
     agreed: u64,
 }
 
-// A number that was read, and where the line goes on.
-struct Read {
-    value: u64,
-    next: usize,
-}
-
 // What a call answers, and has to.
 struct Answer {
     number: u64,
@@ -64,96 +64,10 @@ struct Call {
     head: usize,
 }
 
-// A digit's value; 0 of any other byte.
-fn digit(b: u8) -> u8
-    ensures { λ r. ⌜ r < 16 ⌝ }
-{
-    if b < b'0' {
-        return 0;
-    }
-    if b <= b'9' {
-        return b - b'0';
-    }
-    if b < b'a' {
-        return 0;
-    }
-    if b <= b'f' {
-        return b - b'a' + 10;
-    }
-    0
-}
-
-fn wide(b: u8) -> u64
-    ensures { λ r. ⌜ r ≡ b ⌝ }
-{
-    b as u64
-}
-
-// A digit more, of a number that stays within its type.
-fn longer(value: u64, b: u8) -> u64 {
-    if value >= 0x1000000000000000 {
-        return value;
-    }
-    16 * value + wide(digit(b))
-}
-
-// The number from a byte on, up to a space or the line's end.
-fn read_number(line: &[u8], at: usize) -> Read {
-    let mut value = 0;
-    let mut i = at;
-    while i < line.len() {
-        if line[i] == b' ' {
-            return Read {
-                value: value,
-                next: i + 1,
-            };
-        }
-        value = longer(value, line[i]);
-        i += 1;
-    }
-    Read {
-        value: value,
-        next: i,
-    }
-}
-
-// The bytes from one on to the line's end, two digits each, stored from a place on; answers where they end.
-fn read_bytes(line: &[u8], at: usize, memory: &mut [u8], to: usize) -> usize {
-    let mut n = to;
-    let mut i = at;
-    while n < memory.len() {
-        if i >= line.len() {
-            return n;
-        }
-        if line.len() - i < 2 {
-            return n;
-        }
-        memory[n] = 16 * digit(line[i]) + digit(line[i + 1]);
-        n += 1;
-        i += 2;
-    }
-    n
-}
-
-// A number that is no more than the memory has bytes.
-fn within(n: usize, memory: &[u8]) -> usize
-    ensures { λ r. ⌜ Counts r (now (memory .entry)) ⌝ }
-{
-    if n < memory.len() { n } else { memory.len() }
-}
-
 fn least(a: usize, b: usize) -> usize
     ensures { λ r. ⌜ r ≤ b ⌝ }
 {
     if a < b { a } else { b }
-}
-
-fn fill(memory: &mut [u8], b: u8) {
-    let mut i = 0;
-    while i < memory.len() {
-        memory[i] = b;
-        i += 1;
-    }
 }
 
 // The bytes of a fresh state: zeros, and the closing number of an open one.
@@ -174,18 +88,6 @@ fn copy(from: &[u8], to: &mut [u8]) {
         to[i] = from[i];
         i += 1;
     }
-}
-
-// Whether every byte from one on is as lent.
-fn is_kept(memory: &[u8], from: usize) -> bool {
-    let mut i = from;
-    while i < memory.len() {
-        if memory[i] != LENT {
-            return false;
-        }
-        i += 1;
-    }
-    true
 }
 
 // Whether the first n bytes are those of the other memory from a place on.
@@ -301,7 +203,7 @@ fn print_difference(call: u64, is: Answer, must: Answer, output: bool, state: bo
 
 // Whether the output is what it must be, and every byte past it as lent.
 fn is_output(out: &[u8], n: usize, wanted: &[u8], at: usize) -> bool {
-    is_same(out, n, wanted, at) && is_kept(out, n)
+    is_same(out, n, wanted, at) && is_kept(out, n, LENT)
 }
 
 // What a call answered, and whether the output is right.
@@ -466,37 +368,6 @@ fn run_line(
         b'g' => end_group(line, p),
         _ => run_case(line, p, sheet, stream, wanted, state),
     }
-}
-
-// More than any byte: there is none left.
-const END: u64 = 256;
-
-fn next_byte(fd: i32) -> u64 {
-    let mut one = [0u8; 1];
-    let n = io::read_full(fd, &mut one);
-    if n == 0 {
-        return END;
-    }
-    wide(one[0])
-}
-
-// Reads up to the line's end, and answers how many bytes the line has; none where the file ends.
-fn read_line(fd: i32, line: &mut [u8]) -> usize
-    ensures { λ r. ⌜ Counts r (now (line .exit)) ⌝ }
-{
-    let mut n = 0;
-    while n < line.len() {
-        let b = next_byte(fd);
-        if b > 255 {
-            return n;
-        }
-        if b == 10 {
-            return n;
-        }
-        line[n] = b as u8;
-        n += 1;
-    }
-    n
 }
 
 // Reads the next line and does what it asks for.

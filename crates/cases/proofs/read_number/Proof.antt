@@ -2,11 +2,11 @@
 use Prim.Native.Nat.{_-_}
 use lib.ListN.{length}
 use borrow.Author.Needs.{needs}
-use Rattle.streams.proofs.read_number.Statement.{statement}
-use Rattle.streams.proofs.read_number.Tie as tie
-use Rattle.streams.proofs.read_number.Reads as reads
-use Rattle.streams.proofs.read_number.Lts as lts
-use Rattle.streams.proofs.longer.Reads as longer-reads
+use Rattle.cases.proofs.read_number.Statement.{statement}
+use Rattle.cases.proofs.read_number.Tie as tie
+use Rattle.cases.proofs.read_number.Reads as reads
+use Rattle.cases.proofs.read_number.Lts as lts
+use Rattle.cases.proofs.longer.Reads as longer-reads
 
 abbrev Inv-loop : tie.InvT-loop
 Inv-loop line at value₀ i₀ value i = Unit {0}

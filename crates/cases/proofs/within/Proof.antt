@@ -1,11 +1,11 @@
 -- Both answers are within the memory.
 use native.Mathlib.Omega.{arith}
-use Rattle.streams.proofs.Laws.{counts}
+use Rattle.cases.proofs.Laws.{counts}
 use borrow.Author.Needs.{needs}
-use Rattle.streams.proofs.within.Statement.{statement}
-use Rattle.streams.proofs.within.Tie as tie
-use Rattle.streams.proofs.within.Reads as reads
-use Rattle.streams.proofs.within.Lts as lts
+use Rattle.cases.proofs.within.Statement.{statement}
+use Rattle.cases.proofs.within.Tie as tie
+use Rattle.cases.proofs.within.Reads as reads
+use Rattle.cases.proofs.within.Lts as lts
 
 returns : tie.Need-returns
 returns c = counts _ _ (omega arith)

@@ -3,11 +3,11 @@ use mathlib.Core.Path.{_≡_}
 use Prim.Native.Nat.{_-_}
 use lib.ListN.{length}
 use borrow.Author.Needs.{needs}
-use Rattle.streams.proofs.read_bytes.Statement.{statement}
-use Rattle.streams.proofs.read_bytes.Tie as tie
-use Rattle.streams.proofs.read_bytes.Reads as reads
-use Rattle.streams.proofs.read_bytes.Lts as lts
-use Rattle.streams.proofs.digit.Reads as digit-reads
+use Rattle.cases.proofs.read_bytes.Statement.{statement}
+use Rattle.cases.proofs.read_bytes.Tie as tie
+use Rattle.cases.proofs.read_bytes.Reads as reads
+use Rattle.cases.proofs.read_bytes.Lts as lts
+use Rattle.cases.proofs.digit.Reads as digit-reads
 
 abbrev Inv-loop : tie.InvT-loop
 Inv-loop line at memory₀ to n₀ i₀ memory n i = length memory ≡ length memory₀

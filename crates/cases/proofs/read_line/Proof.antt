@@ -1,15 +1,15 @@
 -- The position stays within the line, which keeps its length.
 use mathlib.Core.Path.{_≡_}
 use native.Mathlib.Omega.{arith}
-use Rattle.streams.proofs.Laws.{counts}
+use Rattle.cases.proofs.Laws.{counts}
 use Prim.Native.Nat.{_≤_, _-_}
 use lib.ListN.{length}
 use borrow.Author.Needs.{needs}
-use Rattle.streams.proofs.read_line.Statement.{statement}
-use Rattle.streams.proofs.read_line.Tie as tie
-use Rattle.streams.proofs.read_line.Reads as reads
-use Rattle.streams.proofs.read_line.Lts as lts
-use Rattle.streams.proofs.next_byte.Reads as next-byte-reads
+use Rattle.cases.proofs.read_line.Statement.{statement}
+use Rattle.cases.proofs.read_line.Tie as tie
+use Rattle.cases.proofs.read_line.Reads as reads
+use Rattle.cases.proofs.read_line.Lts as lts
+use Rattle.cases.proofs.next_byte.Reads as next-byte-reads
 
 abbrev Inv-loop : tie.InvT-loop
 Inv-loop fd line₀ n₀ line n = (n ≤ length line₀) × (length line ≡ length line₀)
