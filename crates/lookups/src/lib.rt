@@ -12,7 +12,7 @@ use layout::Layout;
 // What no tag and no production is.
 const MISSING: usize = 256;
 
-// Names are compared by bytes.
+// Names are compared by bytes: their lengths first, then up to the first byte that differs.
 pub fn same_name(a: &[u8], b: &[u8]) -> bool
     ensures { λ r. ⌜ r ≡ sameName (now (a .entry)) (now (b .entry)) ⌝ }
 {

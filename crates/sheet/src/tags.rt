@@ -54,7 +54,7 @@ fn is_tag(b: &[u8]) -> bool
     text::name_first(b[1]) & (all_name(&b[2..end]) & all_zero(&b[end..]))
 }
 
-// Two tags are the same where their 16 bytes are.
+// Two tags are the same where their 16 bytes are. The first of them is the name's length, so lengths are compared first.
 fn same(a: &[u8], b: &[u8]) -> bool
     requires { ⌜ length (now a) ≡ length (now b) ⌝ }
     ensures { λ r. ⌜ Tells (now (a .entry) ≡ now (b .entry)) r ⌝ }
