@@ -33,6 +33,7 @@ uint64_t wickpollen_fresh(uint8_t *state, size_t state_len);
      16         the part is used up, or only a begun token of it is left: go on with the next part.
      17         the next token's output is longer than the room left: write out what there is and go on; where counts[1] is 0, lend more.
      20 to 27, 30   a token was refused: it starts at part[counts[0]]; with 27, where nothing is left of the part, counts[0] is part_len.
+                White space counts as a token inside an element that holds text, and inside one that the sheet gives no content (23).
                 The output of what came before it stands. Where an earlier refusal is only repeated, counts[0] is 0 and tells nothing.
      1 to 9     the sheet does not pass: see wickpollen_check.
      28, 29     the stream had ended before; the state is none of this sheet's, or state_len is not what wickpollen_fresh answered.

@@ -98,8 +98,9 @@ class Production:
             node.children.append(self.build(left, node))
         return node
 
-    def has_characters(self):
-        return any(atom.kind == 2 for atom in self.atoms[1:])
+    def blanks_pass(self):
+        """It has nodes, and none of them is any one character."""
+        return bool(self.tree) and all(atom.kind != 2 for atom in self.atoms[1:])
 
     def open_nodes(self, place):
         """From the whole tree to the atom, that one included; none at the start."""
@@ -381,7 +382,7 @@ def take(rules, state, kind, what):
     """A whole token, before 30 and 17: the state after it, and its output."""
     after_root = state.rooted and not state.frames
     if kind == 'character' and what in ' \t\r\n':
-        if not state.frames or not rules.productions[state.frames[-1].production].has_characters():
+        if not state.frames or rules.productions[state.frames[-1].production].blanks_pass():
             return state, b''
     if after_root:
         raise Refused(26)
@@ -616,8 +617,9 @@ def worked():
          '<bib><article></article><book></book></bib>')
     case('its rejecting form, two books first', example_27(True), '<bib><book/><book/></bib>', 25, '<bib>', taken=12)
     case('Example 27 with white space that is no event', example_27(), ' <bib> </bib>\n', 0, '<bib></bib>', 4)
-    for stream in ('<a/>', '<a></a>', ' \t\r\n<a/>\n', '\n<a> \n</a >\t', '<a />', '<a\n></a\r>'):
+    for stream in ('<a/>', '<a></a>', ' \t\r\n<a/>\n', '\n<a></a >\t', '<a />', '<a\n></a\r>'):
         case('the smallest sheet on %r' % stream, smallest(), stream, 0, '', 2)
+    case('the smallest sheet on white space inside', smallest(), '\n<a> \n</a >\t', 23, '', 1, 4)
     end_group('worked')
 
 
@@ -810,11 +812,15 @@ def blanks():
     heading('blanks: white space')
     only = echoing('CHAR*')
     mixed = programmed(['r', 'b'], [(0, 0, 'n1.CHAR.n1'), (1, 1, 'n1*')], {('production', 0, 'first'): ECHO})
+    empties = programmed(['r', 'e'], [(0, 0, 'n1*'), (1, 1, '')], {('production', 0, 'first'): ECHO})
     for blank, name in ((' ', 'a space'), ('\t', 'a tab'), ('\r', 'a CR'), ('\n', 'a LF'), ('\r\n', 'CR LF'), (' \t\r\n ', 'all four')):
         n = len(blank)
         case(name + ' where there is a character atom', only, '<t>%s</t>' % blank, 0, '<t>%s</t>' % blank, 4 + 2 * n)
         case(name + ' where there is none', programmed(['t'], [(0, 0, 'n0*')], {('production', 0, 'first'): ECHO}), '<t>%s<t/>%s</t>' % (blank, blank), 0, '<t><t></t></t>', 8 + 2)
-        case(name + ' in an element with no nodes', echoing(''), '<t>%s</t>' % blank, 0, '<t></t>', 2)
+        case(name + ' in an element with no nodes', echoing(''), '<t>%s</t>' % blank, 23, '<t>', 1, 3)
+        case(name + ' in an inner element with no nodes', empties, '<r>%s<e>%s</e></r>' % (blank, blank), 23, '<r><e>', taken=6 + n)
+        case(name + ' around an inner element with no nodes', empties, '<r>%s<e></e>%s<e/>%s</r>' % (blank, blank, blank), 0, '<r><e></e><e></e></r>')
+        case(name + ' in an element that only happens to be empty', empties, '<r>%s</r>' % blank, 0, '<r></r>', 4)
         case(name + ' before and after the root', echoing(''), blank + '<t></t>' + blank, 0, '<t></t>', 2)
         case(name + ' alone, ended', only, blank, 27, '', 0, n)
         case(name + ' alone, not ended', only, blank, 16, '', 0, n, ended=False)
@@ -907,7 +913,7 @@ def rooms():
 
 def ends():
     heading('ends: declared ended or not, parts of no bytes')
-    for stream, number, taken in (('', 27, 0), (' ', 27, 1), ('<', 27, 0), ('<a', 27, 0), ('<a ', 27, 0), ('<a /', 27, 0), ('<a>', 27, 3), ('<a> ', 27, 4), ('<a><', 27, 3), ('<a></', 27, 3), ('<a></a', 27, 3),
+    for stream, number, taken in (('', 27, 0), (' ', 27, 1), ('<', 27, 0), ('<a', 27, 0), ('<a ', 27, 0), ('<a /', 27, 0), ('<a>', 27, 3), ('\n<a>', 27, 4), ('<a><', 27, 3), ('<a></', 27, 3), ('<a></a', 27, 3),
                                   ('<a></a ', 27, 3), ('<a></a>', 0, 7), ('<a/>', 0, 4), ('<a/>\n', 0, 5), ('<a/><', 27, 4), ('<a/></', 27, 4), ('<a/>&', 27, 4), ('<a/>\n&am', 27, 5), ('&', 27, 0), ('&am', 27, 0),
                                   (b'\xe2', 27, 0), (b'\xe2\x82', 27, 0), (b'<a>\xf0\x90', 27, 3), (b'<a/>\xc3', 27, 4), (b'<a/> \xef\xbb', 27, 5)):
         name = repr(stream)

@@ -6,3 +6,4 @@ pub mod Steps
 pub mod Main
 pub mod Parts
 pub mod Exactly
+pub mod Empty

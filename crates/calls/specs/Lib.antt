@@ -5,3 +5,4 @@ pub mod Call
 pub mod Reached
 pub mod Accepted
 pub mod Parts
+pub mod Empty

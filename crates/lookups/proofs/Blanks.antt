@@ -14,6 +14,7 @@ use Rattle.layout.specs.Layout.{productionCount}
 use Rattle.layout.specs.Records.{kindOf, firstNodeOf, nodeCountOf}
 use Rattle.trees.specs.Trees.{TreeAt, ContentAt}
 use Rattle.trees.proofs.Grammars.{content-at}
+use Rattle.trees.proofs.Unique.{nodes-pos}
 use Rattle.sheet.proofs.SheetLaws.{sheet-grammar}
 use Rattle.runs.specs.Visits.{grammar}
 use Rattle.runs.specs.Spells.{noCharacter, blanksPass}
@@ -66,17 +67,25 @@ module _ (s : List ℕ) where
       (part-of i (nodes e) 0 j u (omega arith))
   one-in i empty h j u v k = absurd h
 
+  -- in a production with no nodes none passes
+  pub blanks-nowhere : (q : ℕ) → q < productionCount s → nodeCountOf s q ≡ 0 → BlanksTold s q false
+  blanks-nowhere q there z = record { is = λ a i. by (contentOf (grammar a) q) (content-at s (grammar a) (sheet-grammar i) q there) }
+    where
+      by : (c : Content) → ContentAt s q c → false ≡ blanksPass c
+      by nothing h = refl
+      by (tree e) h = absurd (omega (arith, nodes-pos e, h .1))
+
   module _ (q : ℕ) (there : q < productionCount s) (i k : ℕ) (first : i ≡ firstNodeOf s q) (past : k ≡ i + nodeCountOf s q) where
-    none-of : (n : ℕ) → k ≤ n → NoneOfKind2 i n → (c : Content) → ContentAt s q c → true ≡ blanksPass c
-    none-of n b f nothing h = refl
-    none-of n b f (tree e) h = none-in (firstNodeOf s q) e (h .0) (λ j u v. f j (omega (arith, h .1)) (omega arith))
+    none-of : (n : ℕ) → k ≤ n → (nodeCountOf s q ≡ 0 → ⊥) → NoneOfKind2 i n → (c : Content) → ContentAt s q c → true ≡ blanksPass c
+    none-of n b some f nothing h = absurd (some h)
+    none-of n b some f (tree e) h = none-in (firstNodeOf s q) e (h .0) (λ j u v. f j (omega (arith, h .1)) (omega arith))
 
     one-of : (c : Content) → ContentAt s q c → (j : ℕ) → i ≤ j → j < k → kindOf s j ≡ 2 → false ≡ blanksPass c
     one-of nothing h j u v e = absurd (omega arith)
     one-of (tree e) h j u v z = one-in (firstNodeOf s q) e (h .0) j (omega arith) (omega (arith, h .1)) z
 
-    pub blanks-pass : (n : ℕ) → k ≤ n → NoneOfKind2 i n → BlanksTold s q true
-    blanks-pass n b f = record { is = λ a z. none-of n b f (contentOf (grammar a) q) (content-at s (grammar a) (sheet-grammar z) q there) }
+    pub blanks-pass : (n : ℕ) → k ≤ n → (nodeCountOf s q ≡ 0 → ⊥) → NoneOfKind2 i n → BlanksTold s q true
+    blanks-pass n b some f = record { is = λ a z. none-of n b some f (contentOf (grammar a) q) (content-at s (grammar a) (sheet-grammar z) q there) }
 
     pub blanks-count : (j : ℕ) → i ≤ j → j < k → kindOf s j ≡ 2 → BlanksTold s q false
     blanks-count j u v e = record { is = λ a z. one-of (contentOf (grammar a) q) (content-at s (grammar a) (sheet-grammar z) q there) j u v e }

@@ -78,15 +78,19 @@ pub fn production_for(s: &[u8], l: Layout, n: usize, t: usize) -> usize
     MISSING
 }
 
-// Whether white space is no event inside an element of production q: none of its nodes is any one character.
+// Whether white space is no event inside an element of production q: it has nodes, and none of them is any one character.
 pub fn blanks_pass(s: &[u8], l: Layout, q: usize) -> bool
     requires { ⌜ LaidOut (now s) l ⌝ }
     requires { ⌜ RunsInside (now s) ⌝ }
     requires { ⌜ q < l .productions ⌝ }
     ensures { λ r. ⌜ BlanksTold (now (s .entry)) q r ⌝ }
 {
+    let count = layout::node_count_of(s, l, q);
+    if count == 0 {
+        return false;
+    }
     let first = layout::first_node_of(s, l, q);
-    let past = first + layout::node_count_of(s, l, q);
+    let past = first + count;
     let mut i = first;
     while i < past {
         if layout::kind_of(s, l, i) == 2 {

@@ -15,10 +15,10 @@ use Rattle.output.specs.Escape.{Piece}
 use Rattle.runs.specs.Visits.{grammar, Env, Saved}
 use Rattle.runs.specs.Events.{Event}
 use Rattle.runs.specs.Acts.{Store}
-use Rattle.runs.specs.Machine.{Control, before, inside, after, fresh-state, Outcome, finished, stopped, run}
+use Rattle.runs.specs.Machine.{Control, before, inside, after, State, fresh-state, Outcome, finished, stopped, run}
 use Rattle.runs.specs.Taken.{Passed, closed-with, Stopped}
-use Rattle.runs.specs.Spells.{TokenOutcome, through, stops, runTokens}
-use Rattle.runs.specs.Examples.{Run, accepts, refuses, RunHolds, Each, examples}
+use Rattle.runs.specs.Spells.{Token, TokenOutcome, through, stops, runTokens}
+use Rattle.runs.specs.Examples.{Run, accepts, halts, refuses, RunHolds, Each, examples}
 use Rattle.runs.proofs.Answers.{stopped-iff}
 use Rattle.runs.proofs.Spells.{spelled-iff}
 
@@ -66,26 +66,48 @@ module _ (s : Sheet) (ok : Passed s) (xs : List Event) (k : ℕ) (o : List Piece
       let hl : l ≡ left = ap (λ (p : Stop). p .left) h in
       (z .store, stopped-iff s ok xs k (z .store) left .0 (z .control, r ∙ (λ i. stopped (hk i) z (hl i))), ap (λ (p : Stop). p .out) h)
 
+-- a run over tokens that halts
+pub record Halt : Type 0 where
+  pub number : ℕ
+  pub out : List Piece
+  pub left : List Token
+
+abbrev pub of-halt : TokenOutcome → Option Halt
+of-halt (through z) = none
+of-halt (stops k z left) = some (record { number = k; out = z .store .env .out; left = left })
+
+halt-is : (u : TokenOutcome) (k : ℕ) (o : List Piece) (left : List Token) → of-halt u ≡ some (record { number = k; out = o; left = left }) →
+    (z : State) × (u ≡ stops k z left) × (z .store .env .out ≡ o)
+halt-is (through z) k o left e = absurd (let y : _≡_ {A = ℕ} 0 1 = cc in omega arith)
+halt-is (stops j z l) k o left e =
+    let h : _≡_ {A = Halt} (record { number = j; out = z .store .env .out; left = l }) (record { number = k; out = o; left = left }) = cc in
+    let hk : j ≡ k = ap (λ (p : Halt). p .number) h in
+    let hl : l ≡ left = ap (λ (p : Halt). p .left) h in
+    (z, (λ i. stops (hk i) z (hl i)), ap (λ (p : Halt). p .out) h)
+
 -- what is computed of a run, and what it must be
 pub record Summary : Type 0 where
   pub faults : List (List ℕ)
   pub ended-with : Option Env
+  pub halted-with : Option Halt
   pub stopped-with : Option Stop
 
 -- of a list of faults alone
 abbrev pub no-run : List (List ℕ) → Summary
-no-run l = record { faults = l; ended-with = none; stopped-with = none }
+no-run l = record { faults = l; ended-with = none; halted-with = none; stopped-with = none }
 
 abbrev pub the-faults : Sheet → List (List ℕ)
 the-faults s = faultList (length (s .names)) (grammar s)
 
 abbrev pub computed : Run → Summary
-computed (accepts s ts v) = record { faults = the-faults s; ended-with = of-tokens (runTokens s fresh-state ts); stopped-with = none }
-computed (refuses s xs k o left) = record { faults = the-faults s; ended-with = none; stopped-with = of-events (run s fresh-state xs) }
+computed (accepts s ts v) = record { faults = the-faults s; ended-with = of-tokens (runTokens s fresh-state ts); halted-with = none; stopped-with = none }
+computed (halts s ts k o left) = record { faults = the-faults s; ended-with = none; halted-with = of-halt (runTokens s fresh-state ts); stopped-with = none }
+computed (refuses s xs k o left) = record { faults = the-faults s; ended-with = none; halted-with = none; stopped-with = of-events (run s fresh-state xs) }
 
 abbrev pub given : Run → Summary
-given (accepts s ts v) = record { faults = []; ended-with = some v; stopped-with = none }
-given (refuses s xs k o left) = record { faults = []; ended-with = none; stopped-with = some (record { number = k; out = o; left = left }) }
+given (accepts s ts v) = record { faults = []; ended-with = some v; halted-with = none; stopped-with = none }
+given (halts s ts k o left) = record { faults = []; ended-with = none; halted-with = some (record { number = k; out = o; left = left }); stopped-with = none }
+given (refuses s xs k o left) = record { faults = []; ended-with = none; halted-with = none; stopped-with = some (record { number = k; out = o; left = left }) }
 
 -- the numbers are those of a sheet
 abbrev pub SheetSmall : Sheet → Type 0
@@ -93,6 +115,7 @@ SheetSmall s = (length (s .names) ≤ 64) × Numbered (length (s .names)) (gramm
 
 abbrev pub Fits : Run → Type 0
 Fits (accepts s ts v) = SheetSmall s
+Fits (halts s ts k o left) = SheetSmall s
 Fits (refuses s xs k o left) = SheetSmall s
 
 pub passes : (s : Sheet) → SheetSmall s → the-faults s ≡ [] → Passed s
@@ -104,6 +127,8 @@ pub run-holds : (r : Run) → Fits r → computed r ≡ given r → RunHolds r
 run-holds (accepts s ts v) f e =
     let ok = passes s f (ap (λ (c : Summary). c .faults) e) in
     (ok, spelled-iff s ok ts v .0 (tokens-are (runTokens s fresh-state ts) v (ap (λ (c : Summary). c .ended-with) e)))
+run-holds (halts s ts k o left) f e =
+    (passes s f (ap (λ (c : Summary). c .faults) e), halt-is (runTokens s fresh-state ts) k o left (ap (λ (c : Summary). c .halted-with) e))
 run-holds (refuses s xs k o left) f e =
     let ok = passes s f (ap (λ (c : Summary). c .faults) e) in
     (ok, stop-is s ok xs k o left (run s fresh-state xs) refl (ap (λ (c : Summary). c .stopped-with) e))

@@ -14,17 +14,20 @@ use Rattle.output.specs.Escape.{Piece, start, end, character}
 use Rattle.runs.specs.Visits.{Env, no-programs}
 use Rattle.runs.specs.Events.{Event, starts, ends, letter}
 use Rattle.runs.specs.Acts.{Store}
+use Rattle.runs.specs.Machine.{State, fresh-state}
 use Rattle.runs.specs.Taken.{Passed, Stopped}
-use Rattle.runs.specs.Spells.{Token, start-token, end-token, empty-token, literal, Spelled}
+use Rattle.runs.specs.Spells.{Token, start-token, end-token, empty-token, literal, Spelled, stops, runTokens}
 
--- a run: a sheet, and tokens that are accepted with the values, echo, output and count that they come to; or events that are refused, with the
--- number, the output before the refused event, and the events from it on
+-- a run: a sheet, and tokens that are accepted with the values, echo, output and count that they come to; or tokens of which one is refused, with the
+-- number, the output before it, and the tokens from it on; or the same of events
 pub data Run : Type 0 where
   accepts : Sheet → List Token → Env → Run
+  halts : Sheet → List Token → ℕ → List Piece → List Token → Run
   refuses : Sheet → List Event → ℕ → List Piece → List Event → Run
 
 abbrev pub RunHolds : Run → Type 0
 RunHolds (accepts s ts v) = Passed s × Spelled s ts v
+RunHolds (halts s ts k o left) = Passed s × ((z : State) × (runTokens s fresh-state ts ≡ stops k z left) × (z .store .env .out ≡ o))
 RunHolds (refuses s xs k o left) = Passed s × ((m : Store) × Stopped s xs k m left × (m .env .out ≡ o))
 
 abbrev pub Each : {A : Type 0} → (A → Type 0) → List A → Type 0
@@ -104,6 +107,10 @@ echoing =
 abbrev pub endless : Sheet
 endless = sheet-of (a ∷ []) (rule 0 (tree (child-of 0)) no-programs ∷ [])
 
+-- books, each of which is empty
+abbrev pub books : Sheet
+books = sheet-of (a ∷ book ∷ []) (rule 0 (tree (star (child-of 1))) (first-only (echo true ∷ [])) ∷ rule 1 nothing no-programs ∷ [])
+
 abbrev pub starts-of-a : ℕ → List Event
 starts-of-a zero = []
 starts-of-a (suc k) = starts (some 0) ∷ starts-of-a k
@@ -121,6 +128,9 @@ abbrev pub examples : List Run
 examples =
     -- white space around the root and inside it is no event
     accepts recalling (literal 32 ∷ open-tag 0 ∷ literal 9 ∷ empty-tag 1 ∷ close-tag 0 ∷ literal 10 ∷ []) (ended (2 ∷ 1 ∷ 2 ∷ 0 ∷ []) (start a ∷ []) 6)
+    -- also in an element that only happens to be empty; in one whose production has no nodes it is refused
+    ∷ accepts books (open-tag 0 ∷ literal 32 ∷ close-tag 0 ∷ []) (ended zeros (start a ∷ end a ∷ []) 4)
+    ∷ halts books (open-tag 0 ∷ open-tag 1 ∷ literal 32 ∷ close-tag 1 ∷ []) 23 (start a ∷ start book ∷ []) (literal 32 ∷ close-tag 1 ∷ [])
     -- beside text it is a character
     ∷ accepts echoing (open-tag 0 ∷ literal 32 ∷ empty-tag 1 ∷ close-tag 0 ∷ []) (ended zeros (start a ∷ character 32 ∷ end a ∷ []) 14)
     ∷ accepts printing (empty-tag 0 ∷ []) (ended zeros (character 65 ∷ character 0x2264 ∷ []) 2)

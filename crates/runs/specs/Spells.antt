@@ -45,8 +45,9 @@ noCharacter (alt l r) = noCharacter l && noCharacter r
 noCharacter (star e) = noCharacter e
 noCharacter empty = true
 
+-- an element whose production has no nodes is declared EMPTY: white space in it is a character, which nothing there allows
 abbrev pub blanksPass : Content → Bool
-blanksPass nothing = true
+blanksPass nothing = false
 blanksPass (tree e) = noCharacter e
 
 -- an event, and whether white space passes in front of it

@@ -93,8 +93,9 @@ impl Writer<'_> {
         let name = &sheet.tags[production.tag as usize];
         let before = self.tokens.len();
         self.tokens.push(tag(self.random, "<", name, ">"));
-        let spaced = !production.atoms().contains(&None);
-        if spaced {
+        let spaced = production.tree.is_some() && !production.atoms().contains(&None);
+        // Where the production has no nodes white space is refused.
+        if spaced || production.tree.is_none() && self.random.below(40) == 0 {
             self.space();
         }
         if let Some(tree) = &production.tree {

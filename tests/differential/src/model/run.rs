@@ -113,7 +113,7 @@ impl Run<'_> {
     fn white_space_is_no_event(&self) -> bool {
         match self.open_production() {
             None => true,
-            Some(production) => !production.atoms().contains(&None),
+            Some(production) => production.tree.is_some() && !production.atoms().contains(&None),
         }
     }
 
