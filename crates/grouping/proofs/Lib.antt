@@ -1,0 +1,12 @@
+pub mod Kept
+pub mod Sums
+pub mod Counts
+pub mod Grammars
+pub mod Faults
+pub mod Languages
+pub mod Shapes
+pub mod Trees
+pub mod Stripped
+pub mod Visits
+pub mod Shown
+pub mod Rows

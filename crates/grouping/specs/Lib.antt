@@ -1,0 +1,4 @@
+pub mod Regrouped
+pub mod Laws
+pub mod Unions
+pub mod Thirteen
