@@ -27,7 +27,8 @@ uint64_t wickpollen_fresh(uint8_t *state, size_t state_len);
 
    counts[0]: how many bytes of the part were taken. Present the others again, in front of what comes next.
    counts[1]: how many bytes were written, at the start of out. Every byte of out past them is as lent.
-   counts[2]: the visits since the state was fresh.
+   counts[2]: the visits since the state was fresh. A call adds at most 130 for each token that it takes: 65 for a start or an end tag, 130 for an
+   empty tag, 64 for a character. Where the whole stream was taken they are exactly twice the nodes of its tree.
 
      0          the stream has ended and was taken whole: its output is complete.
      16         the part is used up, or only a begun token of it is left: go on with the next part.

@@ -1,0 +1,4 @@
+pub mod Once
+pub mod Strings
+pub mod Visits
+pub mod Broken
