@@ -5,6 +5,7 @@ use mathlib.Core.Path.{_≡_}
 use mathlib.Core.List.{List, _++_}
 use Prim.Native.Nat.{ℕ, _-_}
 use lib.ListN.{length, take, replicate}
+use Rattle.runs.specs.Machine.{most}
 use Rattle.state.specs.declared.State.{State}
 use Rattle.state.specs.Changes.{bareFrame, withStack}
 use Rattle.state.specs.Meaning.{meaningOf, Shaped}
@@ -13,7 +14,7 @@ use Rattle.live.specs.Live.{full}
 
 -- the state with the first i of its elements, the root's first; none past them is in use
 abbrev pub upTo : State → ℕ → State
-upTo z i = withStack z (z .rooted) i (take i (z .frames) ++ replicate (32 - i) bareFrame)
+upTo z i = withStack z (z .rooted) i (take i (z .frames) ++ replicate (most - i) bareFrame)
 
 pub record ApartAs (z : State) (b : List ℕ) (h : Live) (b′ : List ℕ) : Type 0 where
   pub closed : h .closed ≡ z .closed

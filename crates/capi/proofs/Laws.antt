@@ -15,10 +15,10 @@ use Rattle.faults.specs.declared.Checked.{Checked}
 use Rattle.faults.proofs.Theorems.{one-answer, numbers}
 use lib.ListN.{length, drop}
 use Rattle.lent.proofs.Laws.{put-all}
+use Rattle.state.specs.Bounds.{stateWidth}
 use Rattle.state.specs.Bytes.{Wrote, bytesOf}
 use Rattle.state.specs.Changes.{freshState}
 use Rattle.state.specs.declared.State.{State}
-use Rattle.converter.specs.Bytes.{stateBytes}
 use Rattle.capi.specs.Packed.{PackedAs}
 use Rattle.capi.specs.Started.{StartedAs, too-short, fresh}
 
@@ -39,12 +39,12 @@ one-packed p q =
     let o = one-answer (p .as-checked) (q .as-checked) in
     (o .0, p .packed ∙ ap (λ (r : Checked). 256 * r .count + r .number) (o .1) ∙ sym (q .packed))
 
-pub started : {lent after : List ℕ} {z : State} {r : ℕ} → stateBytes ≤ length lent → z ≡ freshState → Wrote 2199 lent 0 (bytesOf z) after r →
+pub started : {lent after : List ℕ} {z : State} {r : ℕ} → stateWidth ≤ length lent → z ≡ freshState → Wrote stateWidth lent 0 (bytesOf z) after r →
     StartedAs lent after r
 started {lent} {after} {z} h e w =
     fresh h
     (w .left ∙ put-all lent 0 (bytesOf z) (omega (arith, w .wide, h)) ∙ ap (λ (k : ℕ). bytesOf z ++ drop k lent) (zero-add _ ∙ w .wide) ∙
-    ap (λ (y : State). bytesOf y ++ drop stateBytes lent) e)
+    ap (λ (y : State). bytesOf y ++ drop stateWidth lent) e)
     (w .next)
 
 pub one-start : {lent x y : List ℕ} {v w : ℕ} → StartedAs lent x v → StartedAs lent y w → (x ≡ y) × (v ≡ w)

@@ -1,10 +1,11 @@
--- Any two answers that a run for a host may have are one, but for the bytes of frames and sets that are not in use: so it is of the call over bytes,
--- and the number and the counts are that call's own. Assumes nothing.
+-- Any two answers that a run for a host may have are one, to the byte: so it is of the call over bytes, and the number and the counts are that call's own.
+-- Assumes nothing.
 use mathlib.Core.Path.{_≡_, ap, sym, _∙_}
 use mathlib.Core.List.{List, [], _∷_}
 use Prim.Native.Nat.{ℕ}
 use Rattle.converter.specs.declared.Counts.{Counts}
-use Rattle.converter.proofs.BytesLaws.{SameCounts, one-bytes}
+use Rattle.converter.specs.Bytes.{SameCounts}
+use Rattle.converter.proofs.BytesLaws.{one-bytes}
 use Rattle.capi.specs.RunAnswer.{RunAs}
 
 pub one-run : {s b x y part : List ℕ} {ended : ℕ} {lent after after′ c d : List ℕ} {v w : ℕ} (p : RunAs s b x part ended lent after c v)

@@ -4,10 +4,10 @@ use mathlib.Core.Path.{_≡_}
 use mathlib.Core.List.{List, _++_}
 use Prim.Native.Nat.{ℕ, _≤_, _<_}
 use lib.ListN.{length, drop}
+use Rattle.state.specs.Bounds.{stateWidth}
 use Rattle.state.specs.Bytes.{bytesOf}
 use Rattle.state.specs.Changes.{freshState}
-use Rattle.converter.specs.Bytes.{stateBytes}
 
 pub data StartedAs (lent after : List ℕ) : ℕ → Type 0 where
-  too-short : length lent < stateBytes → after ≡ lent → StartedAs lent after 0
-  fresh : stateBytes ≤ length lent → after ≡ bytesOf freshState ++ drop stateBytes lent → {w : ℕ} → w ≡ stateBytes → StartedAs lent after w
+  too-short : length lent < stateWidth → after ≡ lent → StartedAs lent after 0
+  fresh : stateWidth ≤ length lent → after ≡ bytesOf freshState ++ drop stateWidth lent → {w : ℕ} → w ≡ stateWidth → StartedAs lent after w

@@ -8,7 +8,6 @@ use converter::convert_bytes;
 use faults::Checked;
 use faults::check;
 use state::State;
-use state::bytes::STATE_BYTES;
 use state::bytes::to_bytes;
 
 // Number and count in one answer: the count times 256, and the number.
@@ -33,7 +32,7 @@ pub extern "C" fn wickpollen_check(sheet: &[u8], list: &mut [u8]) -> u64
 pub extern "C" fn wickpollen_fresh(area: &mut [u8]) -> u64
     ensures { λ w. ⌜ StartedAs (now (area .entry)) (now (area .exit)) w ⌝ }
 {
-    if area.len() < STATE_BYTES {
+    if area.len() < State::BYTES {
         return 0;
     }
     let fresh = State::fresh();

@@ -31,7 +31,8 @@ use Rattle.fit.proofs.Theorems.{fits-sheet, fit-shaped}
 use Rattle.fit.proofs.RunsFit.{fit-run}
 use Rattle.converter.specs.Answered.{FitsSheet, GivenBack, sheet-fails, unfit, closed}
 use Rattle.live.specs.declared.Live.{Live}
-use Rattle.converter.specs.Bytes.{stateBytes, stateIn}
+use Rattle.state.specs.Bounds.{stateWidth}
+use Rattle.converter.specs.Bytes.{stateIn}
 use Rattle.converter.specs.Inner.{MayRun, Entered, may-run, given-back, closedLive, leftLive}
 use Rattle.converter.proofs.Replies.{some-inj}
 
@@ -108,24 +109,24 @@ pub entered-may : {s : List ℕ} {z : State} {n : ℕ} → Entered s (some z) n 
 entered-may {s} e h = let (y, (q, m)) = entered-run e h in subst (MayRun s) (sym (some-inj q)) m
 
 -- the state that bytes are
-pub state-in : (b : List ℕ) → length b ≡ stateBytes → stateIn b ≡ some (stateFrom b)
-state-in b h = ap (λ (t : Bool). cond t (some (stateFrom b)) none) (eq-eqb (length b) stateBytes h)
+pub state-in : (b : List ℕ) → length b ≡ stateWidth → stateIn b ≡ some (stateFrom b)
+state-in b h = ap (λ (t : Bool). cond t (some (stateFrom b)) none) (eq-eqb (length b) stateWidth h)
 
-pub state-none : (b : List ℕ) → (length b ≡ stateBytes → ⊥) → stateIn b ≡ none
-state-none b h = ap (λ (t : Bool). cond t (some (stateFrom b)) none) (ne-eqb (length b) stateBytes h)
+pub state-none : (b : List ℕ) → (length b ≡ stateWidth → ⊥) → stateIn b ≡ none
+state-none b h = ap (λ (t : Bool). cond t (some (stateFrom b)) none) (ne-eqb (length b) stateWidth h)
 
-pub bytes-may : (s b : List ℕ) (n : ℕ) → Entered s (stateIn b) n → n ≡ 0 → (length b ≡ stateBytes) × MayRun s (stateFrom b)
+pub bytes-may : (s b : List ℕ) (n : ℕ) → Entered s (stateIn b) n → n ≡ 0 → (length b ≡ stateWidth) × MayRun s (stateFrom b)
 bytes-may s b n e h =
     let (z, (q, m)) = entered-run e h in
-    let l : length b ≡ stateBytes = by z (eqb (length b) stateBytes) refl q in
+    let l : length b ≡ stateWidth = by z (eqb (length b) stateWidth) refl q in
     (l, subst (MayRun s) (some-inj (sym q ∙ state-in b l)) m)
   where
-    by : (z : State) (t : Bool) → eqb (length b) stateBytes ≡ t → cond t (some (stateFrom b)) none ≡ some z → length b ≡ stateBytes
-    by z true i q = eqb-true (length b) stateBytes i
+    by : (z : State) (t : Bool) → eqb (length b) stateWidth ≡ t → cond t (some (stateFrom b)) none ≡ some z → length b ≡ stateWidth
+    by z true i q = eqb-true (length b) stateWidth i
     by z false i q = absurd (none-some z q)
 
 -- bytes written over all of the memory are what it then holds
-pub all-written : (memory new after : List ℕ) (r : ℕ) → length memory ≡ stateBytes → Wrote stateBytes memory 0 new after r → after ≡ new
+pub all-written : (memory new after : List ℕ) (r : ℕ) → length memory ≡ stateWidth → Wrote stateWidth memory 0 new after r → after ≡ new
 all-written memory new after r h w =
     let n : length new ≡ length memory = w .wide ∙ sym h in
     w .left ∙ put-all memory 0 new (omega arith) ∙ ap (λ (l : List ℕ). new ++ l) (drop-of-length-le memory {i = 0 + length new} (omega arith)) ∙ append-nil new

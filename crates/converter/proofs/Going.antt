@@ -24,7 +24,7 @@ use Rattle.tokens.specs.Tokens.{start, end, empty, front, Means}
 use Rattle.tokens.proofs.Streams.{tag-name, event-char, token-moves}
 use Rattle.sheet.specs.Sheet.{Sheet}
 use Rattle.runs.specs.Visits.{mostVisits}
-use Rattle.runs.specs.Machine.{Control, State as Standing, answered, run}
+use Rattle.runs.specs.Machine.{Control, most, State as Standing, answered, run}
 use Rattle.runs.proofs.SheetFits.{sheet-fits}
 use Rattle.calls.specs.Names.{tokenOf}
 use Rattle.calls.specs.Limits.{Taking, taken, refuses, no-room, oneToken}
@@ -32,10 +32,12 @@ use Rattle.calls.specs.Held.{Held, leavesOpen, closingOf, handed, Closing}
 use Rattle.calls.specs.Call.{Result, roomLeft, stopped, after-writing, numberAt, Runs, takes, stops, full as no-space, no-token, CalledBy, Called}
 use Rattle.calls.proofs.Steps.{takes-one, refuses-over}
 use Rattle.calls.proofs.Exactly.{closing-fits}
-use Rattle.state.specs.Changes.{notClosed, closedWith, withEnv}
+use Rattle.state.specs.Changes.{notClosed, closedWith, withEnv, tidied}
+use Rattle.state.specs.Canonical.{stateFor}
 use Rattle.state.specs.Meaning.{meaningOf, Shaped}
 use Rattle.state.specs.declared.State.{State}
 use Rattle.state.proofs.Meant.{meaning-closed, shaped-closed, shaped-env}
+use Rattle.state.proofs.Tidy.{meaning-tidied, shaped-tidied, tidied-for}
 use Rattle.fit.specs.Fit.{ended, refused as closed-by-refusal, counted, ClosingFits}
 use Rattle.fit.specs.RunFits.{RunFits}
 use Rattle.fit.proofs.RunsFit.{run-fit}
@@ -50,7 +52,7 @@ use Rattle.live.specs.Live.{full}
 use Rattle.apart.specs.Apart.{ApartAs}
 use Rattle.converter.specs.declared.Reply.{Reply}
 use Rattle.converter.specs.declared.LiveReply.{LiveReply}
-use Rattle.converter.specs.Answered.{FitsSheet, closingIn, heldOf, Ran}
+use Rattle.converter.specs.Answered.{FitsSheet, closingIn, heldOf, closingByte, stateOf, Ran}
 use Rattle.converter.specs.Inner.{MayRun, NumberedAs, leftWith, StopsAs, closedLive, leftLive, StopsLive, seen, RanLive}
 use Rattle.converter.proofs.Replies.{InTable, run-number, fits-here}
 
@@ -228,23 +230,31 @@ module _ {s : List ℕ} {z₀ : State} {part : List ℕ} (ended-now : Bool) {len
   abbrev a : Sheet
   a = g .given .sheet
 
+  -- what is left is handed back with nothing in what is not in use: it holds what the answer says, fits, and is the one state that holds it
   abbrev Handed : State → Type 0
-  Handed y = (heldOf y ≡ handed n (meaningOf z)) × FitsSheet a y
+  Handed y = (heldOf (tidied y) ≡ handed n (meaningOf z)) × FitsSheet a (tidied y) × (tidied y ≡ stateOf (handed n (meaningOf z)))
+
+  handed-as : (y : State) → Shaped y → meaningOf y ≡ meaningOf z → y .count ≤ mostVisits → ClosingFits (y .closed) → closingIn (y .closed) ≡ closingOf (leavesOpen n) n →
+      y .closed ≡ closingByte (closingOf (leavesOpen n) n) → Handed y
+  handed-as y w m k f c b =
+      let t : meaningOf (tidied y) ≡ meaningOf z = meaning-tidied y w ∙ m in (
+        ap₂ (λ (x : Standing) (o : Option ℕ). record { run = x; closing = o }) t c,
+        run-fit a (tidied y) (shaped-tidied y w) (subst (RunFits a) (sym t) (g .fits)) k f,
+        tidied-for y w ∙ ap₂ stateFor m b,
+      )
 
   handed-open : leavesOpen n ≡ true → Handed z
-  handed-open b = (
-    ap (λ (c : Option ℕ). record { run = meaningOf z; closing = c }) (ap closingIn (g .is-open) ∙ ap (λ (x : Bool). closingOf x n) (sym b)),
-    run-fit a z (g .shaped) (g .fits) (g .count) (inl (g .is-open)),
-  )
+  handed-open b =
+      handed-as z (g .shaped) refl (g .count) (inl (g .is-open)) (ap closingIn (g .is-open) ∙ ap (λ (x : Bool). closingOf x n) (sym b))
+      (g .is-open ∙ ap (λ (x : Bool). closingByte (closingOf x n)) (sym b))
 
   handed-closed : leavesOpen n ≡ false → Handed (closedWith z n)
   handed-closed b =
       let k = closing-is (closing-fits stops-here n (ap (λ (x : Bool). closingOf x n) b)) in
-      let few = k .1 in (
-        ap₂ (λ (m : Standing) (c : Option ℕ). record { run = m; closing = c }) (meaning-closed z n)
-            (ap (λ (x : Bool). cond x none (some n)) (ne-eqb n notClosed (λ e. omega arith)) ∙ ap (λ (x : Bool). closingOf x n) (sym b)),
-        run-fit a (closedWith z n) (shaped-closed z n (g .shaped)) (subst (RunFits a) (sym (meaning-closed z n)) (g .fits)) (g .count) (k .0),
-      )
+      let few = k .1 in
+      handed-as (closedWith z n) (shaped-closed z n (g .shaped)) (meaning-closed z n) (g .count) (k .0)
+      (ap (λ (x : Bool). cond x none (some n)) (ne-eqb n notClosed (λ e. omega arith)) ∙ ap (λ (x : Bool). closingOf x n) (sym b))
+      (ap (λ (x : Bool). closingByte (closingOf x n)) (sym b))
 
   handed-back : Handed (leftWith n z)
   handed-back = by (leavesOpen n) refl
@@ -271,9 +281,11 @@ module _ {s : List ℕ} {z₀ : State} {part : List ℕ} (ended-now : Bool) {len
             (g .rest (stopped n at (meaningOf z)) stops-here);
         number = t .number;
         taken = t .taken;
+        within = omega (arith, t .taken, g .within);
         written = t .written ∙ sym (g .as-long) ∙ sym (ap length e);
         room = omega (arith, ap length e, g .as-long, g .room);
         left = g .first ∙ ap₂ (λ (x : List ℕ) (i : ℕ). x ++ drop i lent) (sym e) (sym (g .as-long) ∙ sym (ap length e));
+        state = t .state ∙ handed-back .2;
         held = ap heldOf (t .state) ∙ handed-back .0;
         fits-again = subst (FitsSheet a) (sym (t .state)) (handed-back .1);
       }
@@ -354,10 +366,10 @@ module _ {n at put : ℕ} {h : Live} {r : LiveReply} (t : StopsLive n at put h r
         taken = t .taken;
         written = t .written;
         visits = t .visits;
-        state = ap (λ (l : Live). full l b) (t .live) ∙ full-left n h b ∙ ap (leftWith n) e;
+        state = ap (λ (l : Live). tidied (full l b)) (t .live) ∙ ap tidied (full-left n h b ∙ ap (leftWith n) e);
       }
 
-  pub ran-live : {s : List ℕ} {z : State} {part : List ℕ} {ended-now : Bool} {lent d : List ℕ} → h .depth ≤ 32 → Ran s z part ended-now lent d (seen r b) → RanLive s z part ended-now lent d r b
+  pub ran-live : {s : List ℕ} {z : State} {part : List ℕ} {ended-now : Bool} {lent d : List ℕ} → h .depth ≤ most → Ran s z part ended-now lent d (seen r b) → RanLive s z part ended-now lent d r b
   ran-live k w = record { deep = omega (arith, k, ap (λ (l : Live). l .depth) (t .live), depth-left n h); visits = t .visits; ran = w }
 
 -- a state that is taken apart runs as it does whole
@@ -389,9 +401,11 @@ module _ {s : List ℕ} {z : State} {b b′ : List ℕ} {h : Live} (m : MayRun s
         called = subst (λ (x : Held). Called (w .sheet) part (not ended-now) (length lent) x (w .answer)) e (w .called);
         number = w .number;
         taken = w .taken;
+        within = w .within;
         written = w .written;
         room = w .room;
         left = w .left;
+        state = w .state;
         held = w .held;
         fits-again = w .fits-again;
       }

@@ -3,3 +3,5 @@ pub mod BytesLaws
 pub mod Theorems
 pub mod Going
 pub mod Entering
+pub mod Widths
+pub mod HandedBack

@@ -28,7 +28,7 @@ use Rattle.state.specs.Changes.{notClosed}
 use Rattle.state.specs.declared.State.{State}
 use Rattle.fit.specs.Fit.{ClosingNumber, ended, refused, counted}
 use Rattle.converter.specs.declared.Reply.{Reply}
-use Rattle.converter.specs.Answered.{FitsSheet, heldOf, GivenBack, sheet-fails, unfit, closed, Ran, AnsweredAs, as-given, runs}
+use Rattle.converter.specs.Answered.{FitsSheet, heldOf, stateOf, GivenBack, sheet-fails, unfit, closed, Ran, AnsweredAs, as-given, runs}
 use Rattle.converter.specs.Fed.{resultOf}
 
 pub some-inj : {X : Type 0} {x y : X} → some x ≡ some y → x ≡ y
@@ -90,57 +90,63 @@ module _ {s : List ℕ} {z : State} {part : List ℕ} {ended : Bool} {lent after
   handed-back-fit {a} i ok f (as-given g k v) = subst (FitsSheet a) (sym (k .state)) f
   handed-back-fit {a} i ok f (runs w v) = fits-here i ok (w .is-sheet) (w .fits-again)
 
--- the same reply, but for what the states hold out of use
-pub record Same (after after′ : List ℕ) (r q : Reply) : Type 0 where
-  pub number : r .number ≡ q .number
-  pub taken : r .taken ≡ q .taken
-  pub written : r .written ≡ q .written
-  pub count : r .state .count ≡ q .state .count
-  pub left : after ≡ after′
-  pub held : heldOf (r .state) ≡ heldOf (q .state)
-
--- the count is one of the things that a state holds
-count-held : (z y : State) → heldOf z ≡ heldOf y → z .count ≡ y .count
-unfolding meaningOf
-count-held z y e = ap (λ (h : Held). h .run .store .env .count) e
-
 pub not-both : {s : List ℕ} {z : State} {part : List ℕ} {ended : Bool} {lent after : List ℕ} {r : Reply} {n : ℕ} → GivenBack s (some z) n → Ran s z part ended lent after r → ⊥
 not-both g w = let (m, c, e) = given-closed (w .is-sheet) (w .passed) (w .fits) g in none-some m (sym (w .is-open) ∙ c)
 
-module _ {s : List ℕ} {z : State} {part : List ℕ} {ended : Bool} {lent after after′ : List ℕ} {r q : Reply} where
-  pub one-run-reply : Ran s z part ended lent after r → Ran s z part ended lent after′ q → Same after after′ r q
-  one-run-reply w u =
-      let c : Called (u .sheet) part (not ended) (length lent) (heldOf z) (w .answer) =
-      subst (λ (x : Sheet). Called x part (not ended) (length lent) (heldOf z) (w .answer)) (one-sheet (w .is-sheet) (u .is-sheet)) (w .called) in
-      let e : w .answer ≡ u .answer = call-one (u .sheet) part (not ended) (length lent) (heldOf z) (w .answer) (u .answer) c (u .called) in
-      let h : heldOf (r .state) ≡ heldOf (q .state) = w .held ∙ ap (λ (x : Result). x .held) e ∙ sym (u .held) in
-      record {
-        number = w .number ∙ ap (λ (x : Result). x .number) e ∙ sym (u .number);
-        taken = w .taken ∙ ap (λ (x : Result). x .taken) e ∙ sym (u .taken);
-        written = w .written ∙ ap (λ (x : Result). length (x .output)) e ∙ sym (u .written);
-        count = count-held (r .state) (q .state) h;
-        left = w .left ∙ ap (λ (x : Result). x .output ++ drop (length (x .output)) lent) e ∙ sym (u .left);
-        held = h;
-      }
+-- the same in all that a call answers and leaves
+same-reply : {r q : Reply} → r .number ≡ q .number → r .taken ≡ q .taken → r .written ≡ q .written → r .visits ≡ q .visits → r .state ≡ q .state → r ≡ q
+same-reply n t w v z = λ i. record { number = n i; taken = t i; written = w i; visits = v i; state = z i }
+
+-- a call that runs from one of two states that hold the same, and from the other
+module _ {s : List ℕ} {z y : State} {part : List ℕ} {ended : Bool} {lent after after′ : List ℕ} {r q : Reply} (same : heldOf z ≡ heldOf y)
+    (w : Ran s z part ended lent after r) (u : Ran s y part ended lent after′ q) where
+  same-answer : w .answer ≡ u .answer
+  same-answer =
+      let c : Called (u .sheet) part (not ended) (length lent) (heldOf y) (w .answer) =
+      subst (λ (x : Sheet). Called x part (not ended) (length lent) (heldOf y) (w .answer)) (one-sheet (w .is-sheet) (u .is-sheet))
+      (subst (λ (h : Held). Called (w .sheet) part (not ended) (length lent) h (w .answer)) same (w .called)) in
+      call-one (u .sheet) part (not ended) (length lent) (heldOf y) (w .answer) (u .answer) c (u .called)
+
+  pub one-state : r .state ≡ q .state
+  one-state = w .state ∙ ap (λ (x : Result). stateOf (x .held)) same-answer ∙ sym (u .state)
+
+  pub one-run-reply : r .visits ≡ r .state .count → q .visits ≡ q .state .count → (r ≡ q) × (after ≡ after′)
+  one-run-reply v v′ =
+      let e = same-answer in (
+        same-reply
+            (w .number ∙ ap (λ (x : Result). x .number) e ∙ sym (u .number))
+            (w .taken ∙ ap (λ (x : Result). x .taken) e ∙ sym (u .taken))
+            (w .written ∙ ap (λ (x : Result). length (x .output)) e ∙ sym (u .written))
+            (v ∙ ap (λ (x : State). x .count) one-state ∙ sym v′)
+            one-state,
+        w .left ∙ ap (λ (x : Result). x .output ++ drop (length (x .output)) lent) e ∙ sym (u .left),
+      )
 
 -- any two replies that a call may have are one
 pub one-reply : {s : List ℕ} {z : State} {part : List ℕ} {ended : Bool} {lent after after′ : List ℕ} {r q : Reply} →
-    AnsweredAs s z part ended lent after r → AnsweredAs s z part ended lent after′ q → Same after after′ r q × (r .visits ≡ q .visits)
-one-reply (as-given g k v) (as-given g′ k′ v′) =
-    let e = k .state ∙ sym (k′ .state) in (
-      record {
-        number = one-given g g′;
-        taken = k .taken ∙ sym (k′ .taken);
-        written = k .written ∙ sym (k′ .written);
-        count = ap (λ (x : State). x .count) e;
-        left = k .left ∙ sym (k′ .left);
-        held = ap heldOf e;
-      },
-      v ∙ sym v′,
-    )
+    AnsweredAs s z part ended lent after r → AnsweredAs s z part ended lent after′ q → (r ≡ q) × (after ≡ after′)
+one-reply (as-given g k v) (as-given g′ k′ v′) = (
+  same-reply (one-given g g′) (k .taken ∙ sym (k′ .taken)) (k .written ∙ sym (k′ .written)) (v ∙ sym v′) (k .state ∙ sym (k′ .state)),
+  k .left ∙ sym (k′ .left),
+)
 one-reply (as-given g k v) (runs u v′) = absurd (not-both g u)
 one-reply (runs w v) (as-given g k v′) = absurd (not-both g w)
-one-reply (runs w v) (runs u v′) = let o = one-run-reply w u in (o, v ∙ o .count ∙ sym v′)
+one-reply (runs w v) (runs u v′) = one-run-reply refl w u v v′
+
+-- and so are those that a call may have from two states that hold the same, where it runs: no answer depends on how a state came to be
+pub same-held : {s : List ℕ} {a : Sheet} → IsSheet s a → Passed a → {z y : State} → FitsSheet a z → FitsSheet a y → heldOf z ≡ heldOf y →
+    {part : List ℕ} {ended : Bool} {lent after after′ : List ℕ} {r q : Reply} → AnsweredAs s z part ended lent after r → AnsweredAs s y part ended lent after′ q →
+    (resultOf after r ≡ resultOf after′ q) × (heldOf z .closing ≡ none → (r ≡ q) × (after ≡ after′))
+same-held {s} {a} i ok {z} {y} f g e {part} {ended} {lent} {after} {after′} {r} {q} w u = (
+  call-one a part (not ended) (length lent) (heldOf y) (resultOf after r) (resultOf after′ q)
+      (subst (λ (h : Held). Called a part (not ended) (length lent) h (resultOf after r)) e (is-call i ok f w)) (is-call i ok g u),
+  (λ o. by o w u),
+)
+  where
+    by : heldOf z .closing ≡ none → AnsweredAs s z part ended lent after r → AnsweredAs s y part ended lent after′ q → (r ≡ q) × (after ≡ after′)
+    by o (runs w v) (runs u v′) = one-run-reply e w u v v′
+    by o (as-given k x v) u = absurd (let (m, c, n) = given-closed i ok f k in none-some m (sym o ∙ c))
+    by o (runs w v) (as-given k x v′) = absurd (let (m, c, n) = given-closed i ok g k in none-some m (sym o ∙ ap (λ (h : Held). h .closing) e ∙ c))
 
 -- the numbers of the table that a call answers; 10 is none of them
 abbrev pub InTable : ℕ → Type 0

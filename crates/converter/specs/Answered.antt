@@ -15,6 +15,7 @@ use Rattle.calls.specs.Held.{Held}
 use Rattle.calls.specs.Call.{Result, Called, again}
 use Rattle.state.specs.Changes.{notClosed}
 use Rattle.state.specs.Meaning.{meaningOf}
+use Rattle.state.specs.Canonical.{stateFor}
 use Rattle.state.specs.declared.State.{State}
 use Rattle.fit.specs.Fit.{Fit}
 use Rattle.converter.specs.declared.Reply.{Reply}
@@ -30,6 +31,18 @@ closingIn c = cond (eqb c notClosed) none (some c)
 abbrev pub heldOf : State → Held
 heldOf z = record { run = meaningOf z; closing = closingIn (z .closed) }
 
+-- the one state in which a call hands this back: what is not in use is bare
+abbrev pub closingByte : Option ℕ → ℕ
+closingByte none = notClosed
+closingByte (some n) = n
+
+abbrev pub stateOf : Held → State
+stateOf h = stateFor (h .run) (closingByte (h .closing))
+
+-- a state that a call hands back is of this form, and so is the fresh state
+abbrev pub Canonical : State → Type 0
+Canonical z = z ≡ stateOf (heldOf z)
+
 -- the numbers with which nothing is taken or written and the state is handed back as given: 1 to 9; 29, where there is no state or it does not fit; 28 or an
 -- earlier refusal again. Where the sheet passes it is the sheet a
 pub data GivenBack (s : List ℕ) (o : Option State) : ℕ → Type 0 where
@@ -38,7 +51,7 @@ pub data GivenBack (s : List ℕ) (o : Option State) : ℕ → Type 0 where
   closed : (a : Sheet) → IsSheet s a → Passed a → (z : State) → o ≡ some z → FitsSheet a z → (n : ℕ) → heldOf z .closing ≡ some n → GivenBack s o (again n)
 
 -- a run over the part's tokens, under the sheet a, from an open state: the answer x as the code holds it. x's output stands first in the lent memory, every
--- byte past it is as lent, and the state handed back fits
+-- byte past it is as lent, and the state handed back is the one that holds what the answer hands back, and fits
 pub record Ran (s : List ℕ) (z : State) (part : List ℕ) (ended : Bool) (lent after : List ℕ) (r : Reply) : Type 0 where
   pub sheet : Sheet
   pub is-sheet : IsSheet s sheet
@@ -49,9 +62,11 @@ pub record Ran (s : List ℕ) (z : State) (part : List ℕ) (ended : Bool) (lent
   pub called : Called sheet part (not ended) (length lent) (heldOf z) answer
   pub number : r .number ≡ answer .number
   pub taken : r .taken ≡ answer .taken
+  pub within : r .taken ≤ length part
   pub written : r .written ≡ length (answer .output)
   pub room : length (answer .output) ≤ length lent
   pub left : after ≡ answer .output ++ drop (length (answer .output)) lent
+  pub state : r .state ≡ stateOf (answer .held)
   pub held : heldOf (r .state) ≡ answer .held
   pub fits-again : FitsSheet sheet (r .state)
 

@@ -8,19 +8,16 @@ use mathlib.Core.Option.{Option, none, some}
 use Prim.Native.Nat.{ℕ}
 use lib.Dec.{eqb}
 use lib.ListN.{length}
+use Rattle.state.specs.Bounds.{stateWidth}
 use Rattle.state.specs.Bytes.{bytesOf, stateFrom}
 use Rattle.state.specs.declared.State.{State}
 use Rattle.converter.specs.declared.Reply.{Reply}
 use Rattle.converter.specs.declared.Counts.{Counts}
-use Rattle.converter.specs.Answered.{GivenBack, Ran}
-
--- the length of a state's bytes
-abbrev pub stateBytes : ℕ
-stateBytes = 2199
+use Rattle.converter.specs.Answered.{heldOf, stateOf, GivenBack, Ran}
 
 -- bytes of another length are no state
 abbrev pub stateIn : List ℕ → Option State
-stateIn b = cond (eqb (length b) stateBytes) (some (stateFrom b)) none
+stateIn b = cond (eqb (length b) stateWidth) (some (stateFrom b)) none
 
 -- nothing is taken or written, and the bytes are untouched; the visits are the count that they hold
 pub record Untouched (b b′ lent after : List ℕ) (r : Counts) : Type 0 where
@@ -42,3 +39,13 @@ pub data BytesAnsweredAs (s b b′ part : List ℕ) (ended : Bool) (lent after :
   as-given : GivenBack s (stateIn b) (r .number) → Untouched b b′ lent after r → BytesAnsweredAs s b b′ part ended lent after r
   runs : stateIn b ≡ some (stateFrom b) → (q : Reply) → Ran s (stateFrom b) part ended lent after q → CountsOf q r → b′ ≡ bytesOf (q .state) → stateFrom b′ ≡ q .state →
       BytesAnsweredAs s b b′ part ended lent after r
+
+-- what two answers of a call whose state is bytes have in common, to the byte
+pub record SameCounts (b b′ after after′ : List ℕ) (r q : Counts) : Type 0 where
+  pub counts : r ≡ q
+  pub left : after ≡ after′
+  pub bytes : b ≡ b′
+
+-- bytes that a call hands back are of this form, and so are those of a fresh state: there is one for what is held
+abbrev pub CanonicalBytes : List ℕ → Type 0
+CanonicalBytes b = b ≡ bytesOf (stateOf (heldOf (stateFrom b)))

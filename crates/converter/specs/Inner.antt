@@ -9,10 +9,10 @@ use Rattle.tokens.specs.declared.Answer.{Answer}
 use Rattle.tokens.specs.declared.Answer.the-variants.{Token, Begun, Bad, Long}
 use Rattle.sheet.specs.Sheet.{Sheet, IsSheet}
 use Rattle.runs.specs.Taken.{Passed}
-use Rattle.runs.specs.Machine.{Control}
+use Rattle.runs.specs.Machine.{Control, most}
 use Rattle.calls.specs.Held.{leavesOpen}
 use Rattle.calls.specs.Call.{numberAt}
-use Rattle.state.specs.Changes.{notClosed, closedWith}
+use Rattle.state.specs.Changes.{notClosed, closedWith, tidied}
 use Rattle.state.specs.Meaning.{meaningOf, Shaped}
 use Rattle.state.specs.declared.State.{State}
 use Rattle.fit.specs.RunFits.{RunFits}
@@ -44,17 +44,17 @@ NumberedAs more left c Begun n = numberAt more left c Begun ≡ some n
 NumberedAs more left c Bad n = numberAt more left c Bad ≡ some n
 NumberedAs more left c Long n = numberAt more left c Long ≡ some n
 
--- the state that is handed back with a number
+-- the state that is left with a number
 abbrev pub leftWith : ℕ → State → State
 leftWith n z = cond (leavesOpen n) z (closedWith z n)
 
--- a reply that stops with a number at a place, so much being written
+-- a reply that stops with a number at a place, so much being written: what is left is handed back with nothing in what is not in use
 pub record StopsAs (n at put : ℕ) (z : State) (r : Reply) : Type 0 where
   pub number : r .number ≡ n
   pub taken : r .taken ≡ at
   pub written : r .written ≡ put
   pub visits : r .visits ≡ r .state .count
-  pub state : r .state ≡ leftWith n z
+  pub state : r .state ≡ tidied (leftWith n z)
 
 -- the same of the live part of a state
 abbrev pub closedLive : Live → ℕ → Live
@@ -71,12 +71,12 @@ pub record StopsLive (n at put : ℕ) (h : Live) (r : LiveReply) : Type 0 where
   pub visits : r .visits ≡ r .live .count
   pub live : r .live ≡ leftLive n h
 
--- a run's reply with the whole state: the live part and the stack's bytes together
+-- a run's reply with the state that is handed back: the live part and the stack's bytes together
 abbrev pub seen : LiveReply → List ℕ → Reply
-seen r b = record { number = r .number; taken = r .taken; written = r .written; visits = r .visits; state = full (r .live) b }
+seen r b = record { number = r .number; taken = r .taken; written = r .written; visits = r .visits; state = tidied (full (r .live) b) }
 
 -- a run over the live part and the stack, which are then b
 pub record RanLive (s : List ℕ) (z : State) (part : List ℕ) (ended : Bool) (lent after : List ℕ) (r : LiveReply) (b : List ℕ) : Type 0 where
-  pub deep : r .live .depth ≤ 32
+  pub deep : r .live .depth ≤ most
   pub visits : r .visits ≡ r .live .count
   pub ran : Ran s z part ended lent after (seen r b)

@@ -9,13 +9,13 @@ ghost use Rattle.layout.specs.LaidOut.{LaidOut};
 ghost use Rattle.tokens.specs.declared.Answer.the-variants.{Begun};
 ghost use Rattle.calls.specs.Call.{again, numberAt};
 ghost use Rattle.state.specs.Meaning.{meaningOf, Shaped};
+ghost use Rattle.state.specs.Bounds.{stackWidth};
 ghost use Rattle.state.specs.Bytes.{stateFrom};
 ghost use Rattle.converter.specs.Answered.{Ran, AnsweredAs};
 ghost use Rattle.converter.specs.Bytes.{stateIn, BytesAnsweredAs};
 ghost use Rattle.live.specs.Live.{full};
 ghost use Rattle.converter.specs.Inner.{MayRun, Entered, NumberedAs, leftLive, StopsLive, RanLive};
 use ahead::onward;
-use apart::STACK_BYTES;
 use apart::apart;
 use apart::together;
 use faults::verdict;
@@ -24,7 +24,6 @@ use layout::Layout;
 use layout::layout_of;
 use live::Live;
 use state::State;
-use state::bytes::STATE_BYTES;
 use state::bytes::from_bytes;
 use state::bytes::to_bytes;
 use steps::Run;
@@ -160,7 +159,7 @@ fn run_live(
 ) -> LiveReply
     requires { ⌜ LaidOut (now s) l ⌝ }
     requires { ⌜ MayRun (now s) (full live (now stack)) ⌝ }
-    requires { ⌜ 2176 ≤ length (now stack) ⌝ }
+    requires { ⌜ stackWidth ≤ length (now stack) ⌝ }
     ensures { λ r. ⌜ RanLive (now (s .entry)) (full live (now (stack .entry))) (now (part .entry)) ended (now (out .entry)) (now (out .exit)) r (now (stack .exit)) ⌝ }
 {
     let mut at = 0;
@@ -193,14 +192,14 @@ fn run_live(
     }
 }
 
-// The same of a whole state: it is taken apart for the run, and what is left is put together again.
+// The same of a whole state: it is taken apart for the run, and what is left is put together again, with nothing in what is not in use.
 fn run_tokens(s: &[u8], l: Layout, state: State, part: &[u8], ended: bool, out: &mut [u8]) -> Reply
     requires { ⌜ LaidOut (now s) l ⌝ }
     requires { ⌜ MayRun (now s) state ⌝ }
     ensures { λ r. ⌜ Ran (now (s .entry)) state (now (part .entry)) ended (now (out .entry)) (now (out .exit)) r ⌝ }
     ensures { λ r. ⌜ r .visits ≡ r .state .count ⌝ }
 {
-    let mut stack = [0u8; STACK_BYTES];
+    let mut stack = [0u8; State::STACK];
     let live = apart(state, &mut stack);
     let reply = run_live(s, l, live, part, ended, &mut stack, out);
     let left = reply.live;
@@ -237,7 +236,7 @@ fn bytes_given_back(sheet: &[u8], state: &[u8], given: State) -> usize
     requires { ⌜ given ≡ stateFrom (now state) ⌝ }
     ensures { λ r. ⌜ Entered (now (sheet .entry)) (stateIn (now (state .entry))) r ⌝ }
 {
-    if state.len() == STATE_BYTES {
+    if state.len() == State::BYTES {
         return given_back(sheet, given);
     }
     let number = verdict(sheet);
@@ -247,7 +246,7 @@ fn bytes_given_back(sheet: &[u8], state: &[u8], given: State) -> usize
     29
 }
 
-// One call with the state as bytes, which are written anew where tokens were taken or the state is closed, and else untouched.
+// One call with the state as bytes, which are written anew where the call runs, and else untouched.
 pub fn convert_bytes(
     sheet: &[u8],
     state: &mut [u8],

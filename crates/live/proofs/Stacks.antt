@@ -9,13 +9,16 @@ use native.Mathlib.Numerals.{add-one, sub-one}
 use native.Mathlib.Omega.{arith}
 use lib.Dec.{eqb}
 use lib.ListN.{length, take, drop, set, take-append-drop, getD, replicate, length-append, length-take, length-replicate}
-use lib.Seq.{take-append-seam, take-append-le, getD-append-add, length-take-le}
+use lib.Seq.{take-append-seam, length-take-le, set-append-seam, set-at, getD-append-seam}
 use borrow.Author.Tests.{lt-ltb, ne-eqb}
 use Rattle.lent.specs.Put.{put}
 use Rattle.lent.proofs.Laws.{put-all, put-length}
 use Rattle.state.specs.declared.Saved.{Saved}
 use Rattle.state.specs.declared.Frame.{Frame}
 use Rattle.state.specs.declared.State.{State}
+use Rattle.runs.specs.Visits.{attributes}
+use Rattle.runs.specs.Machine.{most}
+use Rattle.state.specs.Bounds.{mostSets, setWidth, frameWidth, stackWidth}
 use Rattle.state.specs.Bytes.{byteAt, bytesAt, onAt, gathered, savedAt, frameAt, frameBytes, SizedFrame, Wrote}
 use Rattle.state.specs.Changes.{bareSaved, bareFrame, lastOf, putLast, keeping, lastSet, withoutLast, atPlace, pushed, popped, topOf, withTop, saving, restored, placed}
 use Rattle.state.specs.Meaning.{All, Fits, elements, meaningOf, Shaped}
@@ -25,11 +28,6 @@ use Rattle.state.proofs.Meant.{shaped-popped}
 use Rattle.live.specs.declared.Live.{Live}
 use Rattle.live.specs.declared.Restored.{Restored}
 use Rattle.live.specs.Live.{stackOf, full, SameBelow, topIn, keptIn, placedIn, RestoredIn, PushedAs, PoppedAs}
-
--- one of a list, and another one in its place
-set-at : {X : Type 0} (xs : List X) (x y : X) (ys : List X) → set (xs ++ x ∷ ys) (length xs) y ≡ xs ++ y ∷ ys
-set-at [] x y ys = refl
-set-at {X = X} (a ∷ xs) x y ys = ap (λ (l : List X). a ∷ l) (set-at xs x y ys)
 
 gathered-snoc : {X : Type 0} (f : ℕ → X) (w at n : ℕ) → gathered f w at (suc n) ≡ gathered f w at n ++ f (at + w * n) ∷ []
 unfolding gathered
@@ -53,42 +51,41 @@ module _ (m : ℕ) (b b′ : List ℕ) (A : Agree m b b′) where
   agree-bytes : (at n : ℕ) → at + n ≤ m → bytesAt b at n ≡ bytesAt b′ at n
   agree-bytes at n h = agree-gathered (byteAt b) (byteAt b′) 1 m at n (omega arith) (λ j k. A j (omega arith))
 
-  agree-saved : (at : ℕ) → at + 5 ≤ m → savedAt b at ≡ savedAt b′ at
+  agree-saved : (at : ℕ) → at + setWidth ≤ m → savedAt b at ≡ savedAt b′ at
   unfolding savedAt
-  agree-saved at h = rw (agree-bytes at 4 (omega arith), A (at + 4) (omega arith))
+  agree-saved at h = rw (agree-bytes at attributes (omega arith), A (at + attributes) (omega arith))
 
-  agree-frame : (at : ℕ) → at + 68 ≤ m → frameAt b at ≡ frameAt b′ at
+  agree-frame : (at : ℕ) → at + frameWidth ≤ m → frameAt b at ≡ frameAt b′ at
   unfolding frameAt
   agree-frame at h =
       rw (
         A at (omega arith),
         A (at + 1) (omega arith),
         A (at + 2) (omega arith),
-        agree-gathered (savedAt b) (savedAt b′) 5 m (at + 3) 13 (omega arith) (λ j k. agree-saved j k),
+        agree-gathered (savedAt b) (savedAt b′) setWidth m (at + 3) mostSets (omega arith) (λ j k. agree-saved j k),
       )
 
-  agree-stack : (n : ℕ) → 68 * n ≤ m → gathered (frameAt b) 68 0 n ≡ gathered (frameAt b′) 68 0 n
-  agree-stack n h = agree-gathered (frameAt b) (frameAt b′) 68 m 0 n (omega arith) (λ j k. agree-frame j k)
+  agree-stack : (n : ℕ) → frameWidth * n ≤ m → gathered (frameAt b) frameWidth 0 n ≡ gathered (frameAt b′) frameWidth 0 n
+  agree-stack n h = agree-gathered (frameAt b) (frameAt b′) frameWidth m 0 n (omega arith) (λ j k. agree-frame j k)
 
 -- as many frames as a stack has
-pub stack-long : (d : ℕ) (f : Frame) (b : List ℕ) → d ≤ 32 → length (stackOf d f b) ≡ 32
-stack-long zero f b h = length-replicate 32 bareFrame
+pub stack-long : (d : ℕ) (f : Frame) (b : List ℕ) → d ≤ most → length (stackOf d f b) ≡ most
+stack-long zero f b h = length-replicate most bareFrame
 stack-long (suc n) f b h =
-    length-append (gathered (frameAt b) 68 0 n) (f ∷ replicate (31 - n) bareFrame)
-    ∙ omega (arith, length-gathered (frameAt b) 68 0 n, length-replicate (31 - n) bareFrame)
+    length-append (gathered (frameAt b) frameWidth 0 n) (f ∷ replicate (most - suc n) bareFrame)
+    ∙ omega (arith, length-gathered (frameAt b) frameWidth 0 n, length-replicate (most - suc n) bareFrame)
 
 -- the frames below the innermost one, with one more
-stack-push : (n : ℕ) (top f : Frame) (b b′ : List ℕ) → suc n < 32 → Agree (68 * n) b′ b → frameAt b′ (68 * n) ≡ top →
+stack-push : (n : ℕ) (top f : Frame) (b b′ : List ℕ) → suc n < most → Agree (frameWidth * n) b′ b → frameAt b′ (frameWidth * n) ≡ top →
     stackOf (suc (suc n)) f b′ ≡ set (stackOf (suc n) top b) (suc n) f
 stack-push n top f b b′ h A e =
-    let xs : List Frame = gathered (frameAt b) 68 0 n in
-    let ys : List Frame = replicate (30 - n) bareFrame in
-    let same : gathered (frameAt b′) 68 0 (suc n) ≡ xs ++ top ∷ [] =
-    gathered-snoc (frameAt b′) 68 0 n ∙ ap₂ (λ (l : List Frame) (x : Frame). l ++ x ∷ []) (agree-stack (68 * n) b′ b A n (omega arith)) (ap (frameAt b′) (omega arith) ∙ e) in
-    let r : 31 - n ≡ suc (30 - n) = omega arith in
-    let r′ : 31 - suc n ≡ 30 - n = omega arith in
-    let l : length (xs ++ top ∷ []) ≡ suc n = length-append xs (top ∷ []) ∙ omega (arith, length-gathered (frameAt b) 68 0 n) in
-    rw (same, r, r′, ← l) (sym (ap (λ (z : List Frame). set z (length (xs ++ top ∷ [])) f) (sym (append-assoc xs (top ∷ []) (bareFrame ∷ ys))) ∙ set-at (xs ++ top ∷ []) bareFrame f ys))
+    let xs : List Frame = gathered (frameAt b) frameWidth 0 n in
+    let ys : List Frame = replicate (most - suc (suc n)) bareFrame in
+    let same : gathered (frameAt b′) frameWidth 0 (suc n) ≡ xs ++ top ∷ [] =
+    gathered-snoc (frameAt b′) frameWidth 0 n ∙ ap₂ (λ (l : List Frame) (x : Frame). l ++ x ∷ []) (agree-stack (frameWidth * n) b′ b A n (omega arith)) (ap (frameAt b′) (omega arith) ∙ e) in
+    let r : most - suc n ≡ suc (most - suc (suc n)) = omega arith in
+    let l : length (xs ++ top ∷ []) ≡ suc n = length-append xs (top ∷ []) ∙ omega (arith, length-gathered (frameAt b) frameWidth 0 n) in
+    rw (same, r) (sym (ap (λ (z : List Frame). set z (suc n) f) (sym (append-assoc xs (top ∷ []) (bareFrame ∷ ys))) ∙ set-at (xs ++ top ∷ []) bareFrame ys f (suc n) l))
 
 front-same : (xs ys zs : List ℕ) (i : ℕ) → i < length xs → byteAt (xs ++ ys) i ≡ byteAt (xs ++ zs) i
 front-same [] ys zs i h = absurd (omega arith)
@@ -96,9 +93,9 @@ front-same (x ∷ xs) ys zs zero h = refl
 front-same (x ∷ xs) ys zs (suc i) h = front-same xs ys zs i (omega arith)
 
 -- a frame that is written: what lies before it is as it was, and it reads back
-module _ (b b′ : List ℕ) (at r : ℕ) (f : Frame) (sized : SizedFrame f) (room : at + 68 ≤ length b) (w : Wrote 68 b at (frameBytes f) b′ r) where
+module _ (b b′ : List ℕ) (at r : ℕ) (f : Frame) (sized : SizedFrame f) (room : at + frameWidth ≤ length b) (w : Wrote frameWidth b at (frameBytes f) b′ r) where
   abbrev past : List ℕ
-  past = drop (at + 68) b
+  past = drop (at + frameWidth) b
 
   long-before : length (take at b) ≡ at
   long-before = length-take-le at b (omega arith)
@@ -117,77 +114,77 @@ module _ (b b′ : List ℕ) (at r : ℕ) (f : Frame) (sized : SizedFrame f) (ro
   reads-back = ap (λ (l : List ℕ). frameAt l at) written-is ∙ frame-back f sized .same (take at b) past at long-before
 
 -- a state reads nothing past the elements around its innermost one
-stack-same : (d : ℕ) (f : Frame) (b b′ : List ℕ) → Agree (68 * (d - 1)) b′ b → stackOf d f b′ ≡ stackOf d f b
+stack-same : (d : ℕ) (f : Frame) (b b′ : List ℕ) → Agree (frameWidth * (d - 1)) b′ b → stackOf d f b′ ≡ stackOf d f b
 stack-same zero f b b′ A = refl
 stack-same (suc n) f b b′ A =
     let e : suc n - 1 ≡ n = omega arith in
-    ap (λ (l : List Frame). l ++ f ∷ replicate (31 - n) bareFrame) (agree-stack (68 * n) b′ b (subst (λ (k : ℕ). Agree (68 * k) b′ b) e A) n (omega arith))
+    ap (λ (l : List Frame). l ++ f ∷ replicate (most - suc n) bareFrame) (agree-stack (frameWidth * n) b′ b (subst (λ (k : ℕ). Agree (frameWidth * k) b′ b) e A) n (omega arith))
 
 pub full-same : (h : Live) (b b′ : List ℕ) → SameBelow h b b′ → full h b′ ≡ full h b
 full-same h b b′ A = rw (stack-same (h .depth) (h .top) b b′ A)
 
-stack-pushed : (d : ℕ) (top f : Frame) (b b′ : List ℕ) → d < 32 → (0 < d → Agree (68 * (d - 1)) b′ b) → (0 < d → frameAt b′ (68 * (d - 1)) ≡ top) → stackOf (d + 1) f b′ ≡ set (stackOf d top b) d f
+stack-pushed : (d : ℕ) (top f : Frame) (b b′ : List ℕ) → d < most → (0 < d → Agree (frameWidth * (d - 1)) b′ b) → (0 < d → frameAt b′ (frameWidth * (d - 1)) ≡ top) → stackOf (d + 1) f b′ ≡ set (stackOf d top b) d f
 unfolding gathered
 stack-pushed zero top f b b′ h A e = refl
 stack-pushed (suc n) top f b b′ h A e =
     let q : suc n - 1 ≡ n = omega arith in
     rw add-one
-    (stack-push n top f b b′ h (subst (λ (k : ℕ). Agree (68 * k) b′ b) q (A (omega arith))) (subst (λ (k : ℕ). frameAt b′ (68 * k) ≡ top) q (e (omega arith))))
+    (stack-push n top f b b′ h (subst (λ (k : ℕ). Agree (frameWidth * k) b′ b) q (A (omega arith))) (subst (λ (k : ℕ). frameAt b′ (frameWidth * k) ≡ top) q (e (omega arith))))
 
-pub push-is : (h : Live) (f : Frame) (b b′ : List ℕ) → h .depth < 32 → (0 < h .depth → Agree (68 * (h .depth - 1)) b′ b) → (0 < h .depth → frameAt b′ (68 * (h .depth - 1)) ≡ h .top) → length b′ ≡ length b →
+pub push-is : (h : Live) (f : Frame) (b b′ : List ℕ) → h .depth < most → (0 < h .depth → Agree (frameWidth * (h .depth - 1)) b′ b) → (0 < h .depth → frameAt b′ (frameWidth * (h .depth - 1)) ≡ h .top) → length b′ ≡ length b →
     PushedAs h f b (topIn h (h .rooted) (h .depth + 1) f) b′
 unfolding pushed
 push-is h f b b′ p A e l =
     record {
-      state = rw (lt-ltb (h .depth) 32 p, stack-pushed (h .depth) (h .top) f b b′ p A e);
+      state = rw (lt-ltb (h .depth) most p, stack-pushed (h .depth) (h .top) f b b′ p A e);
       as-was = by (h .depth) refl;
       long = l;
     }
   where
-    none-before : (d : ℕ) → d ≡ 0 → Agree (68 * (d - 1)) b′ b
+    none-before : (d : ℕ) → d ≡ 0 → Agree (frameWidth * (d - 1)) b′ b
     none-before d z i q = absurd (omega arith)
 
     by : (d : ℕ) → h .depth ≡ d → SameBelow h b b′
     by zero z = none-before (h .depth) z
     by (suc n) z = A (omega arith)
 
-pub push-first : (h : Live) (f : Frame) (b : List ℕ) → h .depth < 32 → h .depth ≡ 0 → PushedAs h f b (topIn h (h .rooted) (h .depth + 1) f) b
+pub push-first : (h : Live) (f : Frame) (b : List ℕ) → h .depth < most → h .depth ≡ 0 → PushedAs h f b (topIn h (h .rooted) (h .depth + 1) f) b
 push-first h f b p z = push-is h f b b p (λ q. absurd (omega arith)) (λ q. absurd (omega arith)) refl
 
-pub push-next : (h : Live) (f : Frame) (b b′ : List ℕ) (r : ℕ) → h .depth < 32 → 2176 ≤ length b → SizedFrame (h .top) → Wrote 68 b (68 * (h .depth - 1)) (frameBytes (h .top)) b′ r →
+pub push-next : (h : Live) (f : Frame) (b b′ : List ℕ) (r : ℕ) → h .depth < most → stackWidth ≤ length b → SizedFrame (h .top) → Wrote frameWidth b (frameWidth * (h .depth - 1)) (frameBytes (h .top)) b′ r →
     PushedAs h f b (topIn h (h .rooted) (h .depth + 1) f) b′
 push-next h f b b′ r p l s w =
-    let room : 68 * (h .depth - 1) + 68 ≤ length b = omega arith in
-    push-is h f b b′ p (λ q. agree-before b b′ (68 * (h .depth - 1)) r (h .top) s room w) (λ q. reads-back b b′ (68 * (h .depth - 1)) r (h .top) s room w)
-    (ap length (w .left) ∙ put-length true b (68 * (h .depth - 1)) (frameBytes (h .top)))
+    let room : frameWidth * (h .depth - 1) + frameWidth ≤ length b = omega arith in
+    push-is h f b b′ p (λ q. agree-before b b′ (frameWidth * (h .depth - 1)) r (h .top) s room w) (λ q. reads-back b b′ (frameWidth * (h .depth - 1)) r (h .top) s room w)
+    (ap length (w .left) ∙ put-length true b (frameWidth * (h .depth - 1)) (frameBytes (h .top)))
 
 -- the elements after a pop
-take-popped : (n : ℕ) (top : Frame) (b : List ℕ) → take n (stackOf (suc n) top b) ≡ gathered (frameAt b) 68 0 n
+take-popped : (n : ℕ) (top : Frame) (b : List ℕ) → take n (stackOf (suc n) top b) ≡ gathered (frameAt b) frameWidth 0 n
 take-popped n top b =
-    ap (λ (k : ℕ). take k (stackOf (suc n) top b)) (sym (length-gathered (frameAt b) 68 0 n)) ∙ take-append-seam (gathered (frameAt b) 68 0 n) (top ∷ replicate (31 - n) bareFrame)
+    ap (λ (k : ℕ). take k (stackOf (suc n) top b)) (sym (length-gathered (frameAt b) frameWidth 0 n)) ∙ take-append-seam (gathered (frameAt b) frameWidth 0 n) (top ∷ replicate (most - suc n) bareFrame)
 
-take-left : (n : ℕ) (b : List ℕ) → take (suc n) (stackOf (suc n) (frameAt b (68 * n)) b) ≡ gathered (frameAt b) 68 0 (suc n)
+take-left : (n : ℕ) (b : List ℕ) → take (suc n) (stackOf (suc n) (frameAt b (frameWidth * n)) b) ≡ gathered (frameAt b) frameWidth 0 (suc n)
 take-left n b =
-    let xs : List Frame = gathered (frameAt b) 68 0 n in
-    let f : Frame = frameAt b (68 * n) in
-    let ys : List Frame = replicate (31 - n) bareFrame in
-    let l : length (xs ++ f ∷ []) ≡ suc n = length-append xs (f ∷ []) ∙ omega (arith, length-gathered (frameAt b) 68 0 n) in
-    ap₂ take (sym l) (sym (append-assoc xs (f ∷ []) ys)) ∙ take-append-seam (xs ++ f ∷ []) ys ∙ sym (gathered-snoc (frameAt b) 68 0 n ∙ ap (λ (k : ℕ). xs ++ frameAt b k ∷ []) (omega arith))
+    let xs : List Frame = gathered (frameAt b) frameWidth 0 n in
+    let f : Frame = frameAt b (frameWidth * n) in
+    let ys : List Frame = replicate (most - suc n) bareFrame in
+    let l : length (xs ++ f ∷ []) ≡ suc n = length-append xs (f ∷ []) ∙ omega (arith, length-gathered (frameAt b) frameWidth 0 n) in
+    ap₂ take (sym l) (sym (append-assoc xs (f ∷ []) ys)) ∙ take-append-seam (xs ++ f ∷ []) ys ∙ sym (gathered-snoc (frameAt b) frameWidth 0 n ∙ ap (λ (k : ℕ). xs ++ frameAt b k ∷ []) (omega arith))
 
 -- the frame that a pop reads
 abbrev pub left-top : Live → List ℕ → Frame
-left-top h b = frameAt b (68 * (h .depth - 2))
+left-top h b = frameAt b (frameWidth * (h .depth - 2))
 
-same-elements : (d : ℕ) (top left : Frame) (b : List ℕ) → 0 < d → (1 < d → left ≡ frameAt b (68 * (d - 2))) → take (d - 1) (stackOf (d - 1) left b) ≡ take (d - 1) (stackOf d top b)
+same-elements : (d : ℕ) (top left : Frame) (b : List ℕ) → 0 < d → (1 < d → left ≡ frameAt b (frameWidth * (d - 2))) → take (d - 1) (stackOf (d - 1) left b) ≡ take (d - 1) (stackOf d top b)
 same-elements zero top left b p e = absurd (omega arith)
 same-elements (suc zero) top left b p e = refl
 same-elements (suc (suc n)) top left b p e =
     let q : suc (suc n) - 1 ≡ suc n = omega arith in
     let q′ : suc (suc n) - 2 ≡ n = omega arith in
-    let x : left ≡ frameAt b (68 * n) = e (omega arith) ∙ ap (λ (k : ℕ). frameAt b (68 * k)) q′ in
+    let x : left ≡ frameAt b (frameWidth * n) = e (omega arith) ∙ ap (λ (k : ℕ). frameAt b (frameWidth * k)) q′ in
     rw (q, x) (take-left n b ∙ sym (take-popped (suc n) top b))
 
-pub pop-is : (h : Live) (b : List ℕ) (left : Frame) → 0 < h .depth → h .depth ≤ 32 → (1 < h .depth → left ≡ left-top h b) →
+pub pop-is : (h : Live) (b : List ℕ) (left : Frame) → 0 < h .depth → h .depth ≤ most → (1 < h .depth → left ≡ left-top h b) →
     PoppedAs h b (topIn h (cond (eqb (h .depth) 0) (h .rooted) (cond (eqb (h .depth) 1) true (h .rooted))) (h .depth - 1) left)
 unfolding popped meaningOf
 pop-is h b left p q e =
@@ -221,7 +218,7 @@ pop-root h b z =
     let x : cond (eqb (h .depth) 0) (h .rooted) (cond (eqb (h .depth) 1) true (h .rooted)) ≡ true = rw z in
     subst (λ (r : Bool). PoppedAs h b (topIn h r (h .depth - 1) (h .top))) x (pop-is h b (h .top) (omega arith) (omega arith) (λ q. absurd (omega arith)))
 
-pub pop-inner : (h : Live) (b : List ℕ) (left : Frame) → (h .depth ≡ 0 → ⊥) → (h .depth ≡ 1 → ⊥) → h .depth ≤ 32 → left ≡ left-top h b → PoppedAs h b (topIn h (h .rooted) (h .depth - 1) left)
+pub pop-inner : (h : Live) (b : List ℕ) (left : Frame) → (h .depth ≡ 0 → ⊥) → (h .depth ≡ 1 → ⊥) → h .depth ≤ most → left ≡ left-top h b → PoppedAs h b (topIn h (h .rooted) (h .depth - 1) left)
 pop-inner h b left p q l e =
     let x : cond (eqb (h .depth) 0) (h .rooted) (cond (eqb (h .depth) 1) true (h .rooted)) ≡ h .rooted = rw (ne-eqb (h .depth) 0 p, ne-eqb (h .depth) 1 q) in
     subst (λ (r : Bool). PoppedAs h b (topIn h r (h .depth - 1) left)) x (pop-is h b left (omega arith) l (λ _. e))
@@ -230,20 +227,16 @@ pop-inner h b left p q l e =
 stack-put : (d : ℕ) (f g : Frame) (b : List ℕ) → stackOf d g b ≡ putLast (stackOf d f b) d g
 stack-put zero f g b = refl
 stack-put (suc n) f g b =
-    let xs : List Frame = gathered (frameAt b) 68 0 n in
-    let ys : List Frame = replicate (31 - n) bareFrame in
-    sym (ap (λ (k : ℕ). set (xs ++ f ∷ ys) k g) (sym (length-gathered (frameAt b) 68 0 n)) ∙ set-at xs f g ys)
-
-get-at : {X : Type 0} (xs : List X) (x : X) (ys : List X) (z : X) → getD (xs ++ x ∷ ys) (length xs) z ≡ x
-get-at [] x ys z = refl
-get-at (a ∷ xs) x ys z = get-at xs x ys z
+    let xs : List Frame = gathered (frameAt b) frameWidth 0 n in
+    let ys : List Frame = replicate (most - suc n) bareFrame in
+    sym (ap (λ (k : ℕ). set (xs ++ f ∷ ys) k g) (sym (length-gathered (frameAt b) frameWidth 0 n)) ∙ set-append-seam xs f ys g)
 
 stack-top : (d : ℕ) (f : Frame) (b : List ℕ) → 0 < d → lastOf bareFrame (stackOf d f b) d ≡ f
 stack-top zero f b p = absurd (omega arith)
 stack-top (suc n) f b p =
-    let xs : List Frame = gathered (frameAt b) 68 0 n in
-    let ys : List Frame = replicate (31 - n) bareFrame in
-    ap (λ (k : ℕ). getD (xs ++ f ∷ ys) k bareFrame) (sym (length-gathered (frameAt b) 68 0 n)) ∙ get-at xs f ys bareFrame
+    let xs : List Frame = gathered (frameAt b) frameWidth 0 n in
+    let ys : List Frame = replicate (most - suc n) bareFrame in
+    ap (λ (k : ℕ). getD (xs ++ f ∷ ys) k bareFrame) (sym (length-gathered (frameAt b) frameWidth 0 n)) ∙ getD-append-seam xs f ys bareFrame
 
 pub top-full : (h : Live) (b : List ℕ) → 0 < h .depth → topOf (full h b) ≡ h .top
 top-full h b p = stack-top (h .depth) (h .top) b p

@@ -6,20 +6,21 @@ use mathlib.Core.List.{List, _∷_, _++_}
 use Prim.Native.Nat.{ℕ, zero, suc, _+_, _-_, _*_, _<_, _≤_}
 use lib.Dec.{eqb}
 use lib.ListN.{length, take, replicate}
-use Rattle.runs.specs.Machine.{State as Run}
+use Rattle.runs.specs.Machine.{most, State as Run}
 use Rattle.state.specs.declared.Saved.{Saved}
 use Rattle.state.specs.declared.Frame.{Frame}
 use Rattle.state.specs.declared.State.{State}
+use Rattle.state.specs.Bounds.{frameWidth}
 use Rattle.state.specs.Bytes.{byteAt, gathered, frameAt}
 use Rattle.state.specs.Changes.{bareSaved, bareFrame, keeping, lastSet, withoutLast, atPlace, pushed, popped}
 use Rattle.state.specs.Meaning.{meaningOf, Shaped}
 use Rattle.live.specs.declared.Live.{Live}
 use Rattle.live.specs.declared.Restored.{Restored}
 
--- the 32 frames: those around the innermost element as they lie in the stack, the root's first, then the innermost one; none past it is in use
+-- all frames: those around the innermost element as they lie in the stack, the root's first, then the innermost one; none past it is in use
 abbrev pub stackOf : ℕ → Frame → List ℕ → List Frame
-stackOf zero f b = replicate 32 bareFrame
-stackOf (suc n) f b = gathered (frameAt b) 68 0 n ++ f ∷ replicate (31 - n) bareFrame
+stackOf zero f b = replicate most bareFrame
+stackOf (suc n) f b = gathered (frameAt b) frameWidth 0 n ++ f ∷ replicate (most - suc n) bareFrame
 
 -- the state that the live part h and the stack's bytes b are
 abbrev pub full : Live → List ℕ → State
@@ -55,7 +56,7 @@ pub record RestoredIn (h : Live) (r : Restored) : Type 0 where
 
 -- the stack's bytes that the state h reads: those of the elements around its innermost one
 abbrev pub inUse : Live → ℕ
-inUse h = 68 * (h .depth - 1)
+inUse h = frameWidth * (h .depth - 1)
 
 abbrev pub SameBelow : Live → List ℕ → List ℕ → Type 0
 SameBelow h b b′ = (i : ℕ) → i < inUse h → byteAt b′ i ≡ byteAt b i

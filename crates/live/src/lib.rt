@@ -2,15 +2,18 @@
 ghost use mathlib.Core.Path.{_≡_};
 ghost use Prim.Native.Nat.{_≤_, _<_};
 ghost use lib.ListN.{length};
+ghost use Rattle.runs.specs.Machine.{most};
+ghost use Rattle.state.specs.Bounds.{stackWidth};
 ghost use Rattle.live.specs.Live.{PushedAs, PoppedAs, keptIn, RestoredIn, placedIn, envIn};
 use state::Frame;
 use state::Saved;
+use state::State;
 use state::bytes::frame_at;
 use state::bytes::put_frame;
 
 // Attributes, echo, the count of visits, whether the root has been closed, the closing number, how many elements are open, and the innermost of them.
 pub struct Live {
-    pub values: [u8; 4],
+    pub values: [u8; State::ATTRIBUTES],
     pub echo: bool,
     pub count: u64,
     pub rooted: bool,
@@ -25,11 +28,8 @@ pub struct Restored {
 }
 
 impl Live {
-    // The bytes of a frame in the stack.
-    pub const FRAME: usize = 68;
-
     // The most elements that may be open.
-    pub const DEPTH: usize = 32;
+    pub const DEPTH: usize = State::DEPTH;
 
     // The innermost element.
     pub fn top(self) -> Frame
@@ -40,8 +40,8 @@ impl Live {
 
     // A new innermost element. The one that it stands in is put where it lies in the stack.
     pub fn push(self, f: Frame, stack: &mut [u8]) -> Live
-        requires { ⌜ self .depth < 32 ⌝ }
-        requires { ⌜ 2176 ≤ length (now stack) ⌝ }
+        requires { ⌜ self .depth < most ⌝ }
+        requires { ⌜ stackWidth ≤ length (now stack) ⌝ }
         ensures { λ r. ⌜ PushedAs self f (now (stack .entry)) r (now (stack .exit)) ⌝ }
     {
         let d = self.depth;
@@ -52,13 +52,13 @@ impl Live {
         if d == 0 {
             return next;
         }
-        put_frame(stack, Self::FRAME * (d - 1), outer);
+        put_frame(stack, Frame::BYTES * (d - 1), outer);
         next
     }
 
     // The innermost element is closed. The one that it stood in is read from the stack.
     pub fn pop(self, stack: &[u8]) -> Live
-        requires { ⌜ self .depth ≤ 32 ⌝ }
+        requires { ⌜ self .depth ≤ most ⌝ }
         ensures { λ r. ⌜ PoppedAs self (now (stack .entry)) r ⌝ }
     {
         let d = self.depth;
@@ -71,7 +71,7 @@ impl Live {
             next.rooted = true;
             return next;
         }
-        next.top = frame_at(stack, Self::FRAME * (d - 2));
+        next.top = frame_at(stack, Frame::BYTES * (d - 2));
         next
     }
 
@@ -115,7 +115,7 @@ impl Live {
     }
 
     // What visits change: attributes, echo and count.
-    pub fn with_env(self, values: [u8; 4], echo: bool, count: u64) -> Live
+    pub fn with_env(self, values: [u8; State::ATTRIBUTES], echo: bool, count: u64) -> Live
         ensures { λ r. ⌜ r ≡ envIn self values echo count ⌝ }
     {
         let mut next = self;

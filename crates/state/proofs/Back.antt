@@ -9,6 +9,9 @@ use native.Mathlib.Omega.{arith}
 use lib.Dec.{eqb}
 use lib.ListN.{length, length-append}
 use lib.Seq.{getD-append-add}
+use Rattle.runs.specs.Visits.{attributes}
+use Rattle.runs.specs.Machine.{most}
+use Rattle.state.specs.Bounds.{mostSets, setWidth, frameWidth, countAt, rootedAt, closedAt, depthAt, headWidth}
 use Rattle.state.specs.declared.Saved.{Saved}
 use Rattle.state.specs.declared.Frame.{Frame}
 use Rattle.state.specs.declared.State.{State}
@@ -71,7 +74,7 @@ number-back (suc k) n h =
     rw (number-back k (n / 256) q) (omega (arith, div-add-mod n 256))
 
 -- a set, a frame, a state
-saved-back : (k : Saved) → SizedSet k → Back savedBytes savedAt 5 k
+saved-back : (k : Saved) → SizedSet k → Back savedBytes savedAt setWidth k
 unfolding savedBytes savedAt
 saved-back k h =
     record {
@@ -79,14 +82,14 @@ saved-back k h =
       same = λ pre post at p.
           let e : pre ++ ((k .values ++ flag (k .echo) ∷ []) ++ post) ≡ pre ++ (k .values ++ flag (k .echo) ∷ post) =
           ap (λ (r : List ℕ). pre ++ r) (append-assoc (k .values) (flag (k .echo) ∷ []) post) in
-          let v : bytesAt (pre ++ (k .values ++ flag (k .echo) ∷ post)) at 4 ≡ k .values =
-          bytes-back (k .values) pre (flag (k .echo) ∷ post) at 4 p (h .values) in
-          let o : onAt (pre ++ (k .values ++ flag (k .echo) ∷ post)) (at + 4) ≡ k .echo =
-          rw (byte-past pre (k .values ++ flag (k .echo) ∷ post) at 4 p, byte-first (k .values) (flag (k .echo) ∷ post) 4 (h .values)) (flag-back (k .echo)) in
+          let v : bytesAt (pre ++ (k .values ++ flag (k .echo) ∷ post)) at attributes ≡ k .values =
+          bytes-back (k .values) pre (flag (k .echo) ∷ post) at attributes p (h .values) in
+          let o : onAt (pre ++ (k .values ++ flag (k .echo) ∷ post)) (at + attributes) ≡ k .echo =
+          rw (byte-past pre (k .values ++ flag (k .echo) ∷ post) at attributes p, byte-first (k .values) (flag (k .echo) ∷ post) attributes (h .values)) (flag-back (k .echo)) in
           rw (e, v, o);
     }
 
-each-saved : {l : List Saved} → All SizedSet l → All (Back savedBytes savedAt 5) l
+each-saved : {l : List Saved} → All SizedSet l → All (Back savedBytes savedAt setWidth) l
 each-saved none = none
 each-saved (more h a) = more (saved-back _ h) (each-saved a)
 
@@ -95,10 +98,10 @@ unfolding joined
 joined-wide f g w [] a = omega arith
 joined-wide f g w (x ∷ l) (more b a) = length-append (f x) (joined f l) ∙ rw (b .wide, joined-wide f g w l a, mul-suc) (omega arith)
 
-pub frame-back : (f : Frame) → SizedFrame f → Back frameBytes frameAt 68 f
+pub frame-back : (f : Frame) → SizedFrame f → Back frameBytes frameAt frameWidth f
 unfolding frameBytes frameAt
 frame-back f h =
-    let w : length (joined savedBytes (f .saved)) ≡ 65 = joined-wide savedBytes savedAt 5 (f .saved) (each-saved (h .sets)) ∙ rw (h .saved) in
+    let w : length (joined savedBytes (f .saved)) ≡ setWidth * mostSets = joined-wide savedBytes savedAt setWidth (f .saved) (each-saved (h .sets)) ∙ rw (h .saved) in
     record {
       wide = rw w;
       same = λ pre post at p.
@@ -109,20 +112,20 @@ frame-back f h =
           let o : byteAt b (at + 2) ≡ f .«open» = byte-past pre ys at 2 p in
           let e : b ≡ (pre ++ f .production ∷ f .place ∷ f .«open» ∷ []) ++ (joined savedBytes (f .saved) ++ post) =
           sym (append-assoc pre (f .production ∷ f .place ∷ f .«open» ∷ []) (joined savedBytes (f .saved) ++ post)) in
-          let k : gathered (savedAt b) 5 (at + 3) 13 ≡ f .saved =
+          let k : gathered (savedAt b) setWidth (at + 3) mostSets ≡ f .saved =
           rw e
-          (gathered-back savedBytes savedAt 5 (f .saved) (each-saved (h .sets)) (pre ++ f .production ∷ f .place ∷ f .«open» ∷ []) post (at + 3) 13
+          (gathered-back savedBytes savedAt setWidth (f .saved) (each-saved (h .sets)) (pre ++ f .production ∷ f .place ∷ f .«open» ∷ []) post (at + 3) mostSets
           (longer pre (f .production ∷ f .place ∷ f .«open» ∷ []) at 3 p refl)
           (h .saved)) in
           rw (q, r, o, k);
     }
 
-each-frame : {l : List Frame} → All SizedFrame l → All (Back frameBytes frameAt 68) l
+each-frame : {l : List Frame} → All SizedFrame l → All (Back frameBytes frameAt frameWidth) l
 each-frame none = none
 each-frame (more h a) = more (frame-back _ h) (each-frame a)
 
 -- where each part of a state's bytes stands: after so many bytes
-module _ (v c d stack : List ℕ) (e r n : ℕ) (four : length v ≡ 4) (eight : length c ≡ 8) (eight′ : length d ≡ 8) where
+module _ (v c d stack : List ℕ) (e r n : ℕ) (four : length v ≡ attributes) (eight : length c ≡ 8) (eight′ : length d ≡ 8) where
   abbrev whole : List ℕ
   whole = v ++ e ∷ (c ++ r ∷ n ∷ (d ++ stack))
 
@@ -150,35 +153,35 @@ module _ (v c d stack : List ℕ) (e r n : ℕ) (four : length v ≡ 4) (eight :
   at-stack : whole ≡ to-stack ++ (stack ++ [])
   at-stack = at-depth ∙ sym (append-assoc to-depth d stack) ∙ ap (λ (l : List ℕ). to-stack ++ l) (sym (append-nil stack))
 
-  long-count : length to-count ≡ 5
-  long-count = longer v (e ∷ []) 4 1 four refl
+  long-count : length to-count ≡ countAt
+  long-count = longer v (e ∷ []) attributes 1 four refl
 
-  long-flag : length to-flag ≡ 13
-  long-flag = longer to-count c 5 8 long-count eight
+  long-flag : length to-flag ≡ rootedAt
+  long-flag = longer to-count c countAt 8 long-count eight
 
-  long-depth : length to-depth ≡ 15
-  long-depth = longer to-flag (r ∷ n ∷ []) 13 2 long-flag refl
+  long-depth : length to-depth ≡ depthAt
+  long-depth = longer to-flag (r ∷ n ∷ []) rootedAt 2 long-flag refl
 
-  long-stack : length to-stack ≡ 23
-  long-stack = longer to-depth d 15 8 long-depth eight′
+  long-stack : length to-stack ≡ headWidth
+  long-stack = longer to-depth d depthAt 8 long-depth eight′
 
-  values-back : bytesAt whole 0 4 ≡ v
-  values-back = bytes-back v [] (e ∷ (c ++ r ∷ n ∷ (d ++ stack))) 0 4 refl four
+  values-back : bytesAt whole 0 attributes ≡ v
+  values-back = bytes-back v [] (e ∷ (c ++ r ∷ n ∷ (d ++ stack))) 0 attributes refl four
 
-  echo-back : byteAt whole 4 ≡ e
-  echo-back = byte-first v (e ∷ (c ++ r ∷ n ∷ (d ++ stack))) 4 four
+  echo-back : byteAt whole attributes ≡ e
+  echo-back = byte-first v (e ∷ (c ++ r ∷ n ∷ (d ++ stack))) attributes four
 
-  count-back : bytesAt whole 5 8 ≡ c
-  count-back = rw at-count (bytes-back c to-count (r ∷ n ∷ (d ++ stack)) 5 8 long-count eight)
+  count-back : bytesAt whole countAt 8 ≡ c
+  count-back = rw at-count (bytes-back c to-count (r ∷ n ∷ (d ++ stack)) countAt 8 long-count eight)
 
-  rooted-back : byteAt whole 13 ≡ r
-  rooted-back = rw at-flag (byte-first to-flag (r ∷ n ∷ (d ++ stack)) 13 long-flag)
+  rooted-back : byteAt whole rootedAt ≡ r
+  rooted-back = rw at-flag (byte-first to-flag (r ∷ n ∷ (d ++ stack)) rootedAt long-flag)
 
-  closed-back : byteAt whole 14 ≡ n
-  closed-back = rw at-flag (byte-past to-flag (r ∷ n ∷ (d ++ stack)) 13 1 long-flag)
+  closed-back : byteAt whole closedAt ≡ n
+  closed-back = rw at-flag (byte-past to-flag (r ∷ n ∷ (d ++ stack)) rootedAt 1 long-flag)
 
-  depth-back : bytesAt whole 15 8 ≡ d
-  depth-back = rw at-depth (bytes-back d to-depth stack 15 8 long-depth eight′)
+  depth-back : bytesAt whole depthAt 8 ≡ d
+  depth-back = rw at-depth (bytes-back d to-depth stack depthAt 8 long-depth eight′)
 
 pub state-back : (s : State) → Sized s → stateFrom (bytesOf s) ≡ s
 unfolding stateFrom bytesOf
@@ -193,9 +196,9 @@ state-back s h =
     let p = number-wide 8 (s .count) in
     let q = number-wide 8 (s .depth) in
     let b = v ++ e ∷ (c ++ r ∷ n ∷ (d ++ stack)) in
-    let frames : gathered (frameAt b) 68 23 32 ≡ s .frames =
+    let frames : gathered (frameAt b) frameWidth headWidth most ≡ s .frames =
     rw (at-stack v c d stack e r n (h .values) p q)
-    (gathered-back frameBytes frameAt 68 (s .frames) (each-frame (h .each)) (to-stack v c d stack e r n (h .values) p q) [] 23 32
+    (gathered-back frameBytes frameAt frameWidth (s .frames) (each-frame (h .each)) (to-stack v c d stack e r n (h .values) p q) [] headWidth most
     (long-stack v c d stack e r n (h .values) p q)
     (h .frames)) in
     rw (

@@ -45,10 +45,3 @@ number-room i n h p =
 
 pub number-below : (i n b : ℕ) → 0 < i → i ≤ 8 → n < 256 ^ (8 - i) → b < 256 → n * 256 + b < 256 ^ (8 - (i - 1))
 number-below i n b h k p q = let e : 8 - (i - 1) ≡ suc (8 - i) = omega arith in rw (e, pow-suc) (omega arith)
-
-pub bytes-four : (b : List ℕ) (at : ℕ) → bytesAt b at 4 ≡ byteAt b at ∷ byteAt b (at + 1) ∷ byteAt b (at + 2) ∷ byteAt b (at + 3) ∷ []
-unfolding gathered
-bytes-four b at =
-    let e : at + 1 + 1 ≡ at + 2 = omega arith in
-    let g : at + 2 + 1 ≡ at + 3 = omega arith in
-    rw (e, g)

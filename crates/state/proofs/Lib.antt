@@ -4,3 +4,4 @@ pub mod Written
 pub mod Gathered
 pub mod Back
 pub mod Sizes
+pub mod Tidy

@@ -10,10 +10,11 @@ use borrow.Author.Tests.{lt-ltb, ltb-true, ne-eqb}
 use lib.Dec.{eqb, ltb}
 use lib.ListN.{length, take, set, length-set, length-replicate}
 use Rattle.runs.specs.Acts.{without-element, without-node, innermost, pushed as pushed-on}
-use Rattle.runs.specs.Machine.{Open, inside, State as Run, outer, fresh-state, at-start, at-place}
+use Rattle.runs.specs.Machine.{Open, inside, most, State as Run, outer, fresh-state, at-start, at-place}
 use Rattle.state.specs.declared.Saved.{Saved}
 use Rattle.state.specs.declared.Frame.{Frame}
 use Rattle.state.specs.declared.State.{State}
+use Rattle.state.specs.Bounds.{mostSets}
 use Rattle.state.specs.Changes.{bareSaved, bareFrame, freshState, started, keeping, lastSet, withoutLast, atPlace}
 use Rattle.state.specs.Changes.{pushed, popped, topOf, withTop, saving, restored, placed, withEnv, closedWith}
 use Rattle.state.specs.Meaning.{keptOf, setsOf, openOf, elements, standing, opensOf, meaningOf, All, none, Fits, Shaped}
@@ -30,7 +31,7 @@ elements-top s h p = first-last bareFrame (s .frames) (s .depth) p (omega arith)
 elements-put : (s : State) (f : Frame) → Shaped s → 0 < s .depth → elements (withTop s f) ≡ f ∷ reverse (take (s .depth - 1) (s .frames))
 elements-put s f h p = first-put (s .frames) (s .depth) f p (omega arith)
 
-standing-opens : (rooted : Bool) (fs : List Frame) → opensOf (standing rooted fs) ≡ map openOf fs
+pub standing-opens : (rooted : Bool) (fs : List Frame) → opensOf (standing rooted fs) ≡ map openOf fs
 standing-opens true [] = refl
 standing-opens false [] = refl
 standing-opens rooted (f ∷ fs) = refl
@@ -46,7 +47,7 @@ unfolding meaningOf
 inside-open s o os e = open-where o os (s .rooted) (s .frames) (s .depth) e
 
 -- a push opens an element at the start, with its production's set
-pub meaning-pushed : (s : State) (q : ℕ) (k : Saved) → Shaped s → s .depth < 32 →
+pub meaning-pushed : (s : State) (q : ℕ) (k : Saved) → Shaped s → s .depth < most →
     meaningOf (pushed s (started q k) .state) ≡
     record {
       control = inside (at-start q) (opensOf (meaningOf s .control));
@@ -55,7 +56,7 @@ pub meaning-pushed : (s : State) (q : ℕ) (k : Saved) → Shaped s → s .depth
 unfolding meaningOf pushed started
 meaning-pushed s q k h p =
     let e : reverse (take (s .depth + 1) (set (s .frames) (s .depth) (started q k))) ≡ started q k ∷ elements s = first-push (s .frames) (s .depth) (started q k) (omega arith) in
-    rw (lt-ltb (s .depth) 32 p, e, standing-opens (s .rooted) (elements s))
+    rw (lt-ltb (s .depth) most p, e, standing-opens (s .rooted) (elements s))
 
 -- a pop ends the innermost element
 standing-popped : (rooted : Bool) (frames : List Frame) (d : ℕ) → 0 < d → d ≤ length frames →
@@ -115,15 +116,15 @@ unfolding meaningOf at-top around
 meaning-put s f h p = rw (elements-put s f h p)
 
 -- one more set, for a node that has been opened
-sets-kept : (f : Frame) (k : Saved) → Fits f → f .«open» < 13 → setsOf (keeping f k) ≡ keptOf k ∷ setsOf f
+sets-kept : (f : Frame) (k : Saved) → Fits f → f .«open» < mostSets → setsOf (keeping f k) ≡ keptOf k ∷ setsOf f
 unfolding keeping
-sets-kept f k h p = rw (lt-ltb (f .«open») 13 p, first-push (f .saved) (f .«open») k (omega arith))
+sets-kept f k h p = rw (lt-ltb (f .«open») mostSets p, first-push (f .saved) (f .«open») k (omega arith))
 
-open-kept : (f : Frame) (k : Saved) → f .«open» < 13 → openOf (keeping f k) ≡ openOf f
+open-kept : (f : Frame) (k : Saved) → f .«open» < mostSets → openOf (keeping f k) ≡ openOf f
 unfolding keeping
-open-kept f k p = rw (lt-ltb (f .«open») 13 p)
+open-kept f k p = rw (lt-ltb (f .«open») mostSets p)
 
-pub meaning-saved : (s : State) (k : Saved) → Shaped s → 0 < s .depth → topOf s .«open» < 13 →
+pub meaning-saved : (s : State) (k : Saved) → Shaped s → 0 < s .depth → topOf s .«open» < mostSets →
     meaningOf (saving s k) ≡
     record {
       control = meaningOf s .control;
@@ -177,13 +178,13 @@ meaning-closed s number = refl
 -- the changes keep the shape
 pub shaped-fresh : Shaped freshState
 unfolding freshState
-shaped-fresh = record { deep = omega arith; frames = length-replicate 32 bareFrame; fits = none }
+shaped-fresh = record { deep = omega arith; frames = length-replicate most bareFrame; fits = none }
 
 pub shaped-pushed : (s : State) (f : Frame) → Shaped s → Fits f → Shaped (pushed s f .state)
 unfolding pushed
-shaped-pushed s f h g = by-room (ltb (s .depth) 32) refl
+shaped-pushed s f h g = by-room (ltb (s .depth) most) refl
   where
-    by-room : (b : Bool) → ltb (s .depth) 32 ≡ b → Shaped (pushed s f .state)
+    by-room : (b : Bool) → ltb (s .depth) most ≡ b → Shaped (pushed s f .state)
     by-room true e =
         rw e
         (record {
@@ -199,9 +200,9 @@ fits-started q k = record { room = omega arith; sets = refl }
 
 pub fits-kept : (f : Frame) (k : Saved) → Fits f → Fits (keeping f k)
 unfolding keeping
-fits-kept f k h = by-room (ltb (f .«open») 13) refl
+fits-kept f k h = by-room (ltb (f .«open») mostSets) refl
   where
-    by-room : (b : Bool) → ltb (f .«open») 13 ≡ b → Fits (keeping f k)
+    by-room : (b : Bool) → ltb (f .«open») mostSets ≡ b → Fits (keeping f k)
     by-room true e = rw e (record { room = omega (arith, ltb-true); sets = length-set (f .saved) (f .«open») k ∙ h .sets })
     by-room false e = rw e h
 

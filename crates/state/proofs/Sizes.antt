@@ -7,6 +7,9 @@ use denote.Laws.{Is}
 use denote.Array.{each}
 use denote.Shadow.{shadow}
 use denote.Struct.Field.{Field}
+use Rattle.runs.specs.Visits.{attributes}
+use Rattle.runs.specs.Machine.{most}
+use Rattle.state.specs.Bounds.{mostSets}
 use Rattle.state.specs.Meaning.{All, none, more}
 use Rattle.state.specs.Bytes.{SizedSet, SizedFrame, Sized}
 use Rattle.state.specs.declared.Saved.{Saved}
@@ -24,21 +27,21 @@ all-held F P h (x ∷ l) [] r = absurd r
 all-held F P h (x ∷ l) (u ∷ us) r = more (h x (u ∷ []) (r .0)) (all-held F P h l us (r .1))
 
 set-sized : (k : Saved) (vs : List Val) → Is (set-field .row) (set-field .into k) vs → SizedSet k
-set-sized k vs r = record { values = length-mapped _ (k .values) 4 (r .1 .1 .0 .1 .0 .1) }
+set-sized k vs r = record { values = length-mapped _ (k .values) attributes (r .1 .1 .0 .1 .0 .1) }
 
 pub frame-sized : (f : Frame) (vs : List Val) → Is (frame-field .row) (frame-field .into f) vs → SizedFrame f
 frame-sized f vs r =
     let sets = r .1 .1 .1 .1 .1 .0 in
-    record { saved = length-mapped _ (f .saved) 13 (sets .1 .0 .1); sets = all-held set-field SizedSet set-sized (f .saved) (sets .0) (sets .1 .1) }
+    record { saved = length-mapped _ (f .saved) mostSets (sets .1 .0 .1); sets = all-held set-field SizedSet set-sized (f .saved) (sets .0) (sets .1 .1) }
 
 pub state-sized : (z : State) (vs : List Val) → Is state-row z vs → Sized z
 state-sized z vs r =
     let fields = r .1 .1 in
     let frames = fields .1 .1 .1 .1 .1 .1 .0 in
     record {
-      values = length-mapped _ (z .values) 4 (fields .0 .1 .0 .1);
+      values = length-mapped _ (z .values) attributes (fields .0 .1 .0 .1);
       count = fields .1 .1 .0 .1;
       depth = fields .1 .1 .1 .1 .1 .0 .1;
-      frames = length-mapped _ (z .frames) 32 (frames .1 .0 .1);
+      frames = length-mapped _ (z .frames) most (frames .1 .0 .1);
       each = all-held frame-field SizedFrame frame-sized (z .frames) (frames .0) (frames .1 .1);
     }

@@ -21,6 +21,9 @@ use lib.Dec.{eqb}
 use lib.ListN.{length, getD}
 use Rattle.state.specs.Meaning.{All}
 use Rattle.lent.specs.Put.{put}
+use Rattle.runs.specs.Visits.{attributes}
+use Rattle.runs.specs.Machine.{most}
+use Rattle.state.specs.Bounds.{mostSets, setWidth, frameWidth, countAt, rootedAt, closedAt, depthAt, headWidth}
 use Rattle.state.specs.declared.Saved.{Saved}
 use Rattle.state.specs.declared.Frame.{Frame}
 use Rattle.state.specs.declared.State.{State}
@@ -80,7 +83,7 @@ abbrev pub numberAt : List ℕ → ℕ → ℕ
 numberAt b at = number (bytesAt b at 8)
 
 unfoldable pub savedAt : List ℕ → ℕ → Saved
-savedAt b at = record { values = bytesAt b at 4; echo = onAt b (at + 4) }
+savedAt b at = record { values = bytesAt b at attributes; echo = onAt b (at + attributes) }
 
 unfoldable pub frameAt : List ℕ → ℕ → Frame
 frameAt b at =
@@ -88,32 +91,32 @@ frameAt b at =
       production = byteAt b at;
       place = byteAt b (at + 1);
       «open» = byteAt b (at + 2);
-      saved = gathered (savedAt b) 5 (at + 3) 13;
+      saved = gathered (savedAt b) setWidth (at + 3) mostSets;
     }
 
 unfoldable pub stateFrom : List ℕ → State
 stateFrom b =
     record {
-      values = bytesAt b 0 4;
-      echo = onAt b 4;
-      count = numberAt b 5;
-      rooted = onAt b 13;
-      closed = byteAt b 14;
-      depth = numberAt b 15;
-      frames = gathered (frameAt b) 68 23 32;
+      values = bytesAt b 0 attributes;
+      echo = onAt b attributes;
+      count = numberAt b countAt;
+      rooted = onAt b rootedAt;
+      closed = byteAt b closedAt;
+      depth = numberAt b depthAt;
+      frames = gathered (frameAt b) frameWidth headWidth most;
     }
 
 -- every array is as long as its type says, and the two wide numbers fit theirs: so it is of every state that code holds
 pub record SizedSet (k : Saved) : Type 0 where
-  pub values : length (k .values) ≡ 4
+  pub values : length (k .values) ≡ attributes
 
 pub record SizedFrame (f : Frame) : Type 0 where
-  pub saved : length (f .saved) ≡ 13
+  pub saved : length (f .saved) ≡ mostSets
   pub sets : All SizedSet (f .saved)
 
 pub record Sized (s : State) : Type 0 where
-  pub values : length (s .values) ≡ 4
+  pub values : length (s .values) ≡ attributes
   pub count : s .count < 2 ^ 64
   pub depth : s .depth < 2 ^ 64
-  pub frames : length (s .frames) ≡ 32
+  pub frames : length (s .frames) ≡ most
   pub each : All SizedFrame (s .frames)

@@ -1,10 +1,13 @@
 -- What each change of a state makes of it, whole: the frames and the sets that are not in use too.
 -- Assumes nothing.
 use mathlib.Core.Bool.{Bool, true, false, cond}
-use mathlib.Core.List.{List}
+use mathlib.Core.List.{List, [], _∷_, map}
 use Prim.Native.Nat.{ℕ, zero, suc, _+_, _-_}
 use lib.Dec.{eqb, ltb}
 use lib.ListN.{getD, set, replicate}
+use Rattle.runs.specs.Visits.{attributes}
+use Rattle.runs.specs.Machine.{most}
+use Rattle.state.specs.Bounds.{mostSets}
 use Rattle.state.specs.declared.Saved.{Saved}
 use Rattle.state.specs.declared.Frame.{Frame}
 use Rattle.state.specs.declared.State.{State}
@@ -13,10 +16,10 @@ use Rattle.state.specs.declared.Restored.{Restored}
 
 -- what stands in a set and in a frame before they are first used
 abbrev pub bareSaved : Saved
-bareSaved = record { values = replicate 4 0; echo = false }
+bareSaved = record { values = replicate attributes 0; echo = false }
 
 unfoldable pub bareFrame : Frame
-bareFrame = record { production = 0; place = 0; «open» = 0; saved = replicate 13 bareSaved }
+bareFrame = record { production = 0; place = 0; «open» = 0; saved = replicate mostSets bareSaved }
 
 -- the closing number of a state that is not closed
 abbrev pub notClosed : ℕ
@@ -26,13 +29,13 @@ notClosed = 255
 unfoldable pub freshState : State
 freshState =
     record {
-      values = replicate 4 0;
+      values = replicate attributes 0;
       echo = false;
       count = 0;
       rooted = false;
       closed = notClosed;
       depth = 0;
-      frames = replicate 32 bareFrame;
+      frames = replicate most bareFrame;
     }
 
 -- of the first n of a list the last, or `other` where there is none; and another one in its place
@@ -46,12 +49,12 @@ putLast l (suc n) x = set l n x
 
 -- an element as its start tag opens it: at the start, with its production's set
 unfoldable pub started : ℕ → Saved → Frame
-started q k = record { production = q; place = 0; «open» = 1; saved = set (replicate 13 bareSaved) 0 k }
+started q k = record { production = q; place = 0; «open» = 1; saved = set (replicate mostSets bareSaved) 0 k }
 
 -- one more set kept, where there is room for it; the last one taken off
 unfoldable pub keeping : Frame → Saved → Frame
 keeping f k =
-    cond (ltb (f .«open») 13)
+    cond (ltb (f .«open») mostSets)
     (record { production = f .production; place = f .place; «open» = f .«open» + 1; saved = set (f .saved) (f .«open») k })
     f
 
@@ -80,7 +83,7 @@ withStack s rooted depth frames =
 -- a new innermost element, or, at 32, the state as it was
 unfoldable pub pushed : State → Frame → Pushed
 pushed s f =
-    cond (ltb (s .depth) 32)
+    cond (ltb (s .depth) most)
     (record { ok = true; state = withStack s (s .rooted) (s .depth + 1) (set (s .frames) (s .depth) f) })
     (record { ok = false; state = s })
 
@@ -130,3 +133,19 @@ closedWith s number =
       depth = s .depth;
       frames = s .frames;
     }
+
+-- the first n of a list as they are, the others bare
+unfoldable pub bareFrom : {X : Type 0} → X → ℕ → List X → List X
+bareFrom bare n [] = []
+bareFrom bare zero (x ∷ xs) = bare ∷ bareFrom bare zero xs
+bareFrom bare (suc n) (x ∷ xs) = x ∷ bareFrom bare n xs
+
+-- the same with nothing left in what is not in use: sets past a frame's last; frames past the innermost one, and while an element is open the flag that the
+-- root has been closed
+abbrev pub tidyFrame : Frame → Frame
+tidyFrame f =
+    record { production = f .production; place = f .place; «open» = f .«open»; saved = bareFrom bareSaved (f .«open») (f .saved) }
+
+abbrev pub tidied : State → State
+tidied s =
+    withStack s (cond (eqb (s .depth) 0) (s .rooted) false) (s .depth) (bareFrom bareFrame (s .depth) (map tidyFrame (s .frames)))

@@ -1,3 +1,5 @@
+pub mod Bounds
 pub mod Changes
 pub mod Meaning
 pub mod Bytes
+pub mod Canonical

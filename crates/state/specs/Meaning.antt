@@ -6,10 +6,11 @@ use mathlib.Core.Path.{_≡_}
 use Prim.Native.Nat.{_≤_}
 use lib.ListN.{length, take}
 use Rattle.runs.specs.Visits.{Env, Saved as Kept}
-use Rattle.runs.specs.Machine.{Open, Control, before, inside, after, State as Run}
+use Rattle.runs.specs.Machine.{Open, Control, before, inside, after, most, State as Run}
 use Rattle.state.specs.declared.Saved.{Saved}
 use Rattle.state.specs.declared.Frame.{Frame}
 use Rattle.state.specs.declared.State.{State}
+use Rattle.state.specs.Bounds.{mostSets}
 
 abbrev pub keptOf : Saved → Kept
 keptOf k = record { values = k .values; echo = k .echo }
@@ -53,10 +54,10 @@ pub data All {X : Type 0} (P : X → Type 0) : List X → Type 0 where
 
 -- a meaning makes sense where at most 32 elements are open, each with no more sets in use than its frame has room for
 pub record Fits (f : Frame) : Type 0 where
-  pub room : f .«open» ≤ 13
-  pub sets : length (f .saved) ≡ 13
+  pub room : f .«open» ≤ mostSets
+  pub sets : length (f .saved) ≡ mostSets
 
 pub record Shaped (s : State) : Type 0 where
-  pub deep : s .depth ≤ 32
-  pub frames : length (s .frames) ≡ 32
+  pub deep : s .depth ≤ most
+  pub frames : length (s .frames) ≡ most
   pub fits : All Fits (take (s .depth) (s .frames))

@@ -4,15 +4,21 @@ use super::Saved;
 use super::State;
 ghost use mathlib.Core.Path.{_≡_};
 ghost use mathlib.Core.List.{[], _∷_};
-ghost use Prim.Native.Nat.{_+_, _<_, _^_};
+ghost use Prim.Native.Nat.{_+_, _*_, _<_, _^_};
+ghost use Rattle.runs.specs.Visits.{attributes};
+ghost use Rattle.runs.specs.Machine.{most};
+ghost use Rattle.state.specs.Bounds.{mostSets, setWidth, frameWidth, stackWidth, stateWidth};
 ghost use Rattle.state.specs.Bytes.{flag, numberBytes, savedBytes, joined, frameBytes, bytesOf, Wrote};
 ghost use Rattle.state.specs.Bytes.{byteAt, onAt, bytesAt, numberAt, savedAt, frameAt, gathered, stateFrom};
 
-pub const STATE_BYTES: usize = 2199;
+// Where the parts of a state's head stand: echo follows the attributes.
+const COUNT: usize = State::ATTRIBUTES + 1;
 
-const SET_BYTES: usize = 5;
+const ROOTED: usize = COUNT + 8;
 
-pub const FRAME_BYTES: usize = 68;
+const CLOSED: usize = ROOTED + 1;
+
+const OPENED: usize = CLOSED + 1;
 
 fn put_one(memory: &mut [u8], at: usize, b: u8) -> usize
     requires { ⌜ at + 1 < 2 ^ 64 ⌝ }
@@ -33,9 +39,9 @@ fn put_flag(memory: &mut [u8], at: usize, on: bool) -> usize
     }
 }
 
-fn put_values(memory: &mut [u8], at: usize, values: [u8; 4]) -> usize
-    requires { ⌜ at + 4 < 2 ^ 64 ⌝ }
-    ensures { λ r. ⌜ Wrote 4 (now (memory .entry)) at values (now (memory .exit)) r ⌝ }
+fn put_values(memory: &mut [u8], at: usize, values: [u8; State::ATTRIBUTES]) -> usize
+    requires { ⌜ at + attributes < 2 ^ 64 ⌝ }
+    ensures { λ r. ⌜ Wrote attributes (now (memory .entry)) at values (now (memory .exit)) r ⌝ }
 {
     lent::put_bytes(memory, at, &values, true)
 }
@@ -55,17 +61,17 @@ fn put_number(memory: &mut [u8], at: usize, n: u64) -> usize
 }
 
 fn put_saved(memory: &mut [u8], at: usize, kept: Saved) -> usize
-    requires { ⌜ at + 5 < 2 ^ 64 ⌝ }
-    ensures { λ r. ⌜ Wrote 5 (now (memory .entry)) at (savedBytes kept) (now (memory .exit)) r ⌝ }
+    requires { ⌜ at + setWidth < 2 ^ 64 ⌝ }
+    ensures { λ r. ⌜ Wrote setWidth (now (memory .entry)) at (savedBytes kept) (now (memory .exit)) r ⌝ }
 {
     let values = kept.values;
     let next = put_values(memory, at, values);
     put_flag(memory, next, kept.echo)
 }
 
-fn put_sets(memory: &mut [u8], at: usize, sets: [Saved; 13]) -> usize
-    requires { ⌜ at + 65 < 2 ^ 64 ⌝ }
-    ensures { λ r. ⌜ Wrote 65 (now (memory .entry)) at (joined savedBytes sets) (now (memory .exit)) r ⌝ }
+fn put_sets(memory: &mut [u8], at: usize, sets: [Saved; Frame::SETS]) -> usize
+    requires { ⌜ at + setWidth * mostSets < 2 ^ 64 ⌝ }
+    ensures { λ r. ⌜ Wrote (setWidth * mostSets) (now (memory .entry)) at (joined savedBytes sets) (now (memory .exit)) r ⌝ }
 {
     let mut next = at;
     let mut i = 0;
@@ -78,8 +84,8 @@ fn put_sets(memory: &mut [u8], at: usize, sets: [Saved; 13]) -> usize
 }
 
 pub fn put_frame(memory: &mut [u8], at: usize, f: Frame) -> usize
-    requires { ⌜ at + 68 < 2 ^ 64 ⌝ }
-    ensures { λ r. ⌜ Wrote 68 (now (memory .entry)) at (frameBytes f) (now (memory .exit)) r ⌝ }
+    requires { ⌜ at + frameWidth < 2 ^ 64 ⌝ }
+    ensures { λ r. ⌜ Wrote frameWidth (now (memory .entry)) at (frameBytes f) (now (memory .exit)) r ⌝ }
 {
     let head = [f.production, f.place, f.open];
     let next = lent::put_bytes(memory, at, &head, true);
@@ -87,9 +93,9 @@ pub fn put_frame(memory: &mut [u8], at: usize, f: Frame) -> usize
     put_sets(memory, next, sets)
 }
 
-fn put_frames(memory: &mut [u8], at: usize, frames: [Frame; 32]) -> usize
-    requires { ⌜ at + 2176 < 2 ^ 64 ⌝ }
-    ensures { λ r. ⌜ Wrote 2176 (now (memory .entry)) at (joined frameBytes frames) (now (memory .exit)) r ⌝ }
+fn put_frames(memory: &mut [u8], at: usize, frames: [Frame; State::DEPTH]) -> usize
+    requires { ⌜ at + stackWidth < 2 ^ 64 ⌝ }
+    ensures { λ r. ⌜ Wrote stackWidth (now (memory .entry)) at (joined frameBytes frames) (now (memory .exit)) r ⌝ }
 {
     let mut next = at;
     let mut i = 0;
@@ -104,7 +110,7 @@ fn put_frames(memory: &mut [u8], at: usize, frames: [Frame; 32]) -> usize
 // Writes a state from the memory's first byte on, and answers how many bytes that takes. A byte past the memory's end is not stored.
 // What is written reads back as the state.
 pub fn to_bytes(state: State, memory: &mut [u8]) -> usize
-    ensures { λ r. ⌜ Wrote 2199 (now (memory .entry)) 0 (bytesOf state) (now (memory .exit)) r ⌝ }
+    ensures { λ r. ⌜ Wrote stateWidth (now (memory .entry)) 0 (bytesOf state) (now (memory .exit)) r ⌝ }
     ensures { λ _. ⌜ stateFrom (bytesOf state) ≡ state ⌝ }
 {
     let values = state.values;
@@ -149,32 +155,33 @@ fn number_at(bytes: &[u8], at: usize) -> u64
     n
 }
 
-fn values_at(bytes: &[u8], at: usize) -> [u8; 4]
-    requires { ⌜ at + 4 < 2 ^ 64 ⌝ }
-    ensures { λ r. ⌜ r ≡ bytesAt (now (bytes .entry)) at 4 ⌝ }
+fn values_at(bytes: &[u8], at: usize) -> [u8; State::ATTRIBUTES]
+    requires { ⌜ at + attributes < 2 ^ 64 ⌝ }
+    ensures { λ r. ⌜ r ≡ bytesAt (now (bytes .entry)) at attributes ⌝ }
 {
-    [
-        byte_at(bytes, at),
-        byte_at(bytes, at + 1),
-        byte_at(bytes, at + 2),
-        byte_at(bytes, at + 3),
-    ]
+    let mut values = [0u8; State::ATTRIBUTES];
+    let mut i = 0;
+    while i < State::ATTRIBUTES {
+        values[i] = byte_at(bytes, at + i);
+        i = i + 1;
+    }
+    values
 }
 
 fn saved_at(bytes: &[u8], at: usize) -> Saved
-    requires { ⌜ at + 5 < 2 ^ 64 ⌝ }
+    requires { ⌜ at + setWidth < 2 ^ 64 ⌝ }
     ensures { λ r. ⌜ r ≡ savedAt (now (bytes .entry)) at ⌝ }
 {
     let values = values_at(bytes, at);
     Saved {
         values: values,
-        echo: on_at(bytes, at + 4),
+        echo: on_at(bytes, at + State::ATTRIBUTES),
     }
 }
 
-fn sets_at(bytes: &[u8], at: usize) -> [Saved; 13]
-    requires { ⌜ at + 65 < 2 ^ 64 ⌝ }
-    ensures { λ r. ⌜ r ≡ gathered (savedAt (now (bytes .entry))) 5 at 13 ⌝ }
+fn sets_at(bytes: &[u8], at: usize) -> [Saved; Frame::SETS]
+    requires { ⌜ at + setWidth * mostSets < 2 ^ 64 ⌝ }
+    ensures { λ r. ⌜ r ≡ gathered (savedAt (now (bytes .entry))) setWidth at mostSets ⌝ }
 {
     let none = Saved::bare();
     let mut sets = [none; Frame::SETS];
@@ -182,14 +189,14 @@ fn sets_at(bytes: &[u8], at: usize) -> [Saved; 13]
     let mut i = 0;
     while i < Frame::SETS {
         sets[i] = saved_at(bytes, next);
-        next = next + SET_BYTES;
+        next = next + Saved::BYTES;
         i = i + 1;
     }
     sets
 }
 
 pub fn frame_at(bytes: &[u8], at: usize) -> Frame
-    requires { ⌜ at + 68 < 2 ^ 64 ⌝ }
+    requires { ⌜ at + frameWidth < 2 ^ 64 ⌝ }
     ensures { λ r. ⌜ r ≡ frameAt (now (bytes .entry)) at ⌝ }
 {
     let sets = sets_at(bytes, at + 3);
@@ -201,9 +208,9 @@ pub fn frame_at(bytes: &[u8], at: usize) -> Frame
     }
 }
 
-fn frames_at(bytes: &[u8], at: usize) -> [Frame; 32]
-    requires { ⌜ at + 2176 < 2 ^ 64 ⌝ }
-    ensures { λ r. ⌜ r ≡ gathered (frameAt (now (bytes .entry))) 68 at 32 ⌝ }
+fn frames_at(bytes: &[u8], at: usize) -> [Frame; State::DEPTH]
+    requires { ⌜ at + stackWidth < 2 ^ 64 ⌝ }
+    ensures { λ r. ⌜ r ≡ gathered (frameAt (now (bytes .entry))) frameWidth at most ⌝ }
 {
     let none = Frame::bare();
     let mut frames = [none; State::DEPTH];
@@ -211,7 +218,7 @@ fn frames_at(bytes: &[u8], at: usize) -> [Frame; 32]
     let mut i = 0;
     while i < State::DEPTH {
         frames[i] = frame_at(bytes, next);
-        next = next + FRAME_BYTES;
+        next = next + Frame::BYTES;
         i = i + 1;
     }
     frames
@@ -222,14 +229,14 @@ pub fn from_bytes(bytes: &[u8]) -> State
     ensures { λ r. ⌜ r ≡ stateFrom (now (bytes .entry)) ⌝ }
 {
     let values = values_at(bytes, 0);
-    let frames = frames_at(bytes, 23);
+    let frames = frames_at(bytes, State::HEAD);
     State {
         values: values,
-        echo: on_at(bytes, 4),
-        count: number_at(bytes, 5),
-        rooted: on_at(bytes, 13),
-        closed: byte_at(bytes, 14),
-        depth: number_at(bytes, 15) as usize,
+        echo: on_at(bytes, State::ATTRIBUTES),
+        count: number_at(bytes, COUNT),
+        rooted: on_at(bytes, ROOTED),
+        closed: byte_at(bytes, CLOSED),
+        depth: number_at(bytes, OPENED) as usize,
         frames: frames,
     }
 }

@@ -4,11 +4,11 @@ pub mod bytes;
 ghost use mathlib.Core.Path.{_≡_};
 ghost use Prim.Native.Nat.{_+_};
 ghost use Rattle.state.specs.Changes.{bareSaved, bareFrame, freshState, started, keeping, lastSet, withoutLast, atPlace};
-ghost use Rattle.state.specs.Changes.{pushed, popped, topOf, withTop, saving, restored, placed, withEnv, closedWith};
+ghost use Rattle.state.specs.Changes.{pushed, popped, topOf, withTop, saving, restored, placed, withEnv, closedWith, tidyFrame};
 
 // What is kept of a node from its first visit to its second: the attributes just after the first, echo just before it.
 pub struct Saved {
-    pub values: [u8; 4],
+    pub values: [u8; State::ATTRIBUTES],
     pub echo: bool,
 }
 
@@ -18,19 +18,19 @@ pub struct Frame {
     pub production: u8,
     pub place: u8,
     pub open: u8,
-    pub saved: [Saved; 13],
+    pub saved: [Saved; Frame::SETS],
 }
 
 // A run between two tokens: attributes, echo, the count of visits, whether the root has been closed, the closing number, and
 // how many elements are open, the root first.
 pub struct State {
-    pub values: [u8; 4],
+    pub values: [u8; State::ATTRIBUTES],
     pub echo: bool,
     pub count: u64,
     pub rooted: bool,
     pub closed: u8,
     pub depth: usize,
-    pub frames: [Frame; 32],
+    pub frames: [Frame; State::DEPTH],
 }
 
 pub struct Pushed {
@@ -44,11 +44,14 @@ pub struct Restored {
 }
 
 impl Saved {
+    // As bytes: the attributes, and echo.
+    pub const BYTES: usize = State::ATTRIBUTES + 1;
+
     // What stands in a set before it is first used.
     pub fn bare() -> Saved
         ensures { λ r. ⌜ r ≡ bareSaved ⌝ }
     {
-        let values = [0u8; 4];
+        let values = [0u8; State::ATTRIBUTES];
         Saved {
             values: values,
             echo: false,
@@ -59,6 +62,9 @@ impl Saved {
 impl Frame {
     // The production's set, and one for each open node.
     pub const SETS: usize = 13;
+
+    // As bytes: production, place, how many sets are in use, and the sets.
+    pub const BYTES: usize = 3 + Saved::BYTES * Self::SETS;
 
     // What stands in a frame before it is first used.
     pub fn bare() -> Frame
@@ -133,6 +139,25 @@ impl Frame {
         next
     }
 
+    // Nothing is left in the sets that are not in use.
+    pub fn tidy(self) -> Frame
+        ensures { λ r. ⌜ r ≡ tidyFrame self ⌝ }
+    {
+        let none = Saved::bare();
+        let mut saved = self.saved;
+        let mut i = self.open as usize;
+        while i < Self::SETS {
+            saved[i] = none;
+            i = i + 1;
+        }
+        Frame {
+            production: self.production,
+            place: self.place,
+            open: self.open,
+            saved: saved,
+        }
+    }
+
     pub fn at(self, place: u8) -> Frame
         ensures { λ r. ⌜ r ≡ atPlace self place ⌝ }
     {
@@ -152,6 +177,13 @@ impl State {
 
     // The closing number of a state that is not closed: none of 0, 20 to 27 and 30.
     pub const OPEN: u8 = 255;
+
+    // As bytes: what stands before the frames, all frames, and the whole.
+    pub const HEAD: usize = Self::ATTRIBUTES + 19;
+
+    pub const STACK: usize = Frame::BYTES * Self::DEPTH;
+
+    pub const BYTES: usize = Self::HEAD + Self::STACK;
 
     // No open element, all attributes 0, echo off, count 0.
     pub fn fresh() -> State
@@ -270,7 +302,7 @@ impl State {
     }
 
     // What visits change: attributes, echo and count.
-    pub fn with_env(self, values: [u8; 4], echo: bool, count: u64) -> State
+    pub fn with_env(self, values: [u8; State::ATTRIBUTES], echo: bool, count: u64) -> State
         ensures { λ r. ⌜ r ≡ withEnv self values echo count ⌝ }
     {
         let frames = self.frames;

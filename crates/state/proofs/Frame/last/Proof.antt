@@ -2,6 +2,7 @@
 use mathlib.Core.Path.{_≡_, sym, _∙_}
 use native.Mathlib.Omega.{arith}
 use lib.ListN.{length}
+use Rattle.state.specs.Bounds.{mostSets}
 use Rattle.state.specs.Changes.{bareSaved}
 use Rattle.state.proofs.Laws.{length-mapped, last-past, last-at}
 use borrow.Author.Needs.{needs}
@@ -13,12 +14,12 @@ use Rattle.state.proofs.Saved.bare.Reads as bare-reads
 
 returns-2 : tie.Need-returns-2
 returns-2 c = let s = c .before .before .before .args .t1 in
-    let n : length (s .saved) ≡ 13 = search (length-mapped, needs) in
+    let n : length (s .saved) ≡ mostSets = search (length-mapped, needs) in
     c .bare2 .ensures ∙ sym (last-past bareSaved (s .saved) (s .«open») (omega arith))
 
 returns-3 : tie.Need-returns-3
 returns-3 c = let s = c .before .before .before .args .t1 in
-    let n : length (s .saved) ≡ 13 = search (length-mapped, needs) in
+    let n : length (s .saved) ≡ mostSets = search (length-mapped, needs) in
     sym (last-at bareSaved _ (s .saved) (s .«open») (omega arith) (omega arith))
 
 pub last-spec : {M : Type 1} → statement M

@@ -2,6 +2,7 @@
 use mathlib.Core.Path.{_≡_, sym, _∙_}
 use native.Mathlib.Omega.{arith}
 use lib.ListN.{length}
+use Rattle.runs.specs.Machine.{most}
 use Rattle.state.specs.Changes.{bareFrame}
 use Rattle.state.proofs.Laws.{length-mapped, last-past, last-at}
 use borrow.Author.Needs.{needs}
@@ -13,12 +14,12 @@ use Rattle.state.proofs.Frame.bare.Reads as bare-reads
 
 returns-2 : tie.Need-returns-2
 returns-2 c = let s = c .before .before .before .args .t1 in
-    let n : length (s .frames) ≡ 32 = search (length-mapped, needs) in
+    let n : length (s .frames) ≡ most = search (length-mapped, needs) in
     c .bare2 .ensures ∙ sym (last-past bareFrame (s .frames) (s .depth) (omega arith))
 
 returns-3 : tie.Need-returns-3
 returns-3 c = let s = c .before .before .before .args .t1 in
-    let n : length (s .frames) ≡ 32 = search (length-mapped, needs) in
+    let n : length (s .frames) ≡ most = search (length-mapped, needs) in
     sym (last-at bareFrame _ (s .frames) (s .depth) (omega arith) (omega arith))
 
 pub top-spec : {M : Type 1} → statement M

@@ -3,6 +3,7 @@ use mathlib.Core.Path.{_≡_}
 use Prim.Native.Nat.{_<_}
 use native.Mathlib.Omega.{arith}
 use lib.ListN.{length}
+use Rattle.runs.specs.Machine.{most}
 use Rattle.state.proofs.Laws.{length-mapped, put-past, put-at}
 use borrow.Author.Needs.{needs}
 use Rattle.state.proofs.State.with_top.Statement.{statement}
@@ -15,7 +16,7 @@ returns c = rw (c .if1 .taken)
 
 returns-2 : tie.Need-returns-2
 returns-2 c = let s = c .before .before .args .self in
-    let n : length (s .frames) ≡ 32 = search (length-mapped, needs) in
+    let n : length (s .frames) ≡ most = search (length-mapped, needs) in
     let h : length (s .frames) < s .depth = omega arith in
     rw (put-past (s .frames) (s .depth))
 

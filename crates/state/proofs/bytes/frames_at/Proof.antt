@@ -3,6 +3,8 @@ use mathlib.Core.Path.{_≡_, refl, sym, _∙_}
 use Prim.Native.Nat.{_+_, _*_, _-_, _≤_}
 use native.Mathlib.Omega.{arith}
 use lib.Seq.{sets as stored}
+use Rattle.runs.specs.Machine.{most}
+use Rattle.state.specs.Bounds.{frameWidth}
 use Rattle.state.specs.Bytes.{frameAt, gathered}
 use Rattle.state.proofs.Gathered.{fill-all, fill-more, fill-none}
 use borrow.Author.Needs.{needs}
@@ -14,23 +16,23 @@ use Rattle.state.proofs.Frame.bare.Reads as bare-reads
 use Rattle.state.proofs.bytes.frame_at.Reads as frame-at-reads
 
 abbrev Inv-loop : tie.InvT-loop
-Inv-loop bytes at frames₀ next₀ i₀ frames next i = (i ≤ 32) × (next ≡ at + 68 * i) × (stored frames i (gathered (frameAt bytes) 68 next (32 - i)) ≡ gathered (frameAt bytes) 68 at 32)
+Inv-loop bytes at frames₀ next₀ i₀ frames next i = (i ≤ most) × (next ≡ at + frameWidth * i) × (stored frames i (gathered (frameAt bytes) frameWidth next (most - i)) ≡ gathered (frameAt bytes) frameWidth at most)
 
 abbrev μ-loop : tie.MeasureT-loop
-μ-loop bytes at frames₀ next₀ i₀ frames next i = 32 - i
+μ-loop bytes at frames₀ next₀ i₀ frames next i = most - i
 
 loop-holds : tie.Need-loop-holds Inv-loop μ-loop
-loop-holds c = (omega arith, omega arith, fill-all (frameAt _) 68 _ 32 _ refl)
+loop-holds c = (omega arith, omega arith, fill-all (frameAt _) frameWidth _ most _ refl)
 
 loop-again : tie.Need-loop-again Inv-loop μ-loop
 loop-again c = let l = c .before .before .loop in (
   omega arith,
   omega arith,
-  rw (c .frame-at .ensures) (fill-more (frameAt _) 68 _ 32 (l .i) _ (c .before .loop-test .taken) ∙ l .inv .2),
+  rw (c .frame-at .ensures) (fill-more (frameAt _) frameWidth _ most (l .i) _ (c .before .loop-test .taken) ∙ l .inv .2),
 )
 
 returns : tie.Need-returns Inv-loop μ-loop
-returns c = sym (fill-none (frameAt _) 68 _ 32 (c .before .loop .i) _ (c .loop-test .left)) ∙ c .before .loop .inv .2
+returns c = sym (fill-none (frameAt _) frameWidth _ most (c .before .loop .i) _ (c .loop-test .left)) ∙ c .before .loop .inv .2
 
 pub frames-at-spec : {M : Type 1} → statement M
 frames-at-spec =

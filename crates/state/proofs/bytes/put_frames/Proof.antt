@@ -1,5 +1,7 @@
 -- The loop is stated by what it has written: the first i frames.
 use mathlib.Core.Path.{_≡_, refl, _∙_}
+use Rattle.runs.specs.Machine.{most}
+use Rattle.state.specs.Bounds.{frameWidth}
 use Rattle.state.proofs.Written.{wrote-start, wrote-more, wrote-all}
 use Prim.Native.Nat.{_*_, _-_, _≤_}
 use native.Mathlib.Omega.{arith}
@@ -14,28 +16,28 @@ use Rattle.state.proofs.bytes.put_frames.Lts as lts
 use Rattle.state.proofs.bytes.put_frame.Reads as put-frame-reads
 
 abbrev Inv-loop : tie.InvT-loop
-Inv-loop memory₀ at frames next₀ i₀ memory next i = (i ≤ 32) × (length memory ≡ length memory₀) × Wrote (68 * i) memory₀ at (joined frameBytes (take i frames)) memory next
+Inv-loop memory₀ at frames next₀ i₀ memory next i = (i ≤ most) × (length memory ≡ length memory₀) × Wrote (frameWidth * i) memory₀ at (joined frameBytes (take i frames)) memory next
 
 abbrev μ-loop : tie.MeasureT-loop
-μ-loop memory₀ at frames next₀ i₀ memory next i = 32 - i
+μ-loop memory₀ at frames next₀ i₀ memory next i = most - i
 
 loop-holds : tie.Need-loop-holds Inv-loop μ-loop
-loop-holds c = (omega arith, refl, wrote-start frameBytes 68 (c .before .args .t3) _ _)
+loop-holds c = (omega arith, refl, wrote-start frameBytes frameWidth (c .before .args .t3) _ _)
 
 loop-again : tie.Need-loop-again Inv-loop μ-loop
 loop-again c = let l = c .before .before .before .before .before .before in
-    let n : length (c .before .before .before .before .before .before .before .before .args .t3) ≡ 32 = search (length-mapped, needs) in (
+    let n : length (c .before .before .before .before .before .before .before .before .args .t3) ≡ most = search (length-mapped, needs) in (
       omega arith,
       c .before .before .put-frame .kept .0 ∙ l .loop .inv .1,
-      wrote-more frameBytes 68 _ (l .loop .i) _ (omega arith) (l .loop .inv .2) (c .before .before .put-frame .ensures),
+      wrote-more frameBytes frameWidth _ (l .loop .i) _ (omega arith) (l .loop .inv .2) (c .before .before .put-frame .ensures),
     )
 
 same-length : tie.Need-same-length Inv-loop μ-loop
 same-length c = c .before .loop .inv .1
 
 returns : tie.Need-returns Inv-loop μ-loop
-returns c = let n : length (c .before .before .before .args .t3) ≡ 32 = search (length-mapped, needs) in
-    wrote-all frameBytes 68 _ 32 (c .before .loop .i) n (omega arith) (c .before .loop .inv .2)
+returns c = let n : length (c .before .before .before .args .t3) ≡ most = search (length-mapped, needs) in
+    wrote-all frameBytes frameWidth _ most (c .before .loop .i) n (omega arith) (c .before .loop .inv .2)
 
 pub put-frames-spec : {M : Type 1} → statement M
 put-frames-spec =

@@ -3,6 +3,7 @@ use mathlib.Core.Path.{_≡_, refl, sym, _∙_}
 use Prim.Native.Nat.{_+_, _*_, _-_, _≤_}
 use native.Mathlib.Omega.{arith}
 use lib.Seq.{sets as stored}
+use Rattle.state.specs.Bounds.{mostSets, setWidth}
 use Rattle.state.specs.Bytes.{savedAt, gathered}
 use Rattle.state.proofs.Gathered.{fill-all, fill-more, fill-none}
 use borrow.Author.Needs.{needs}
@@ -14,23 +15,23 @@ use Rattle.state.proofs.Saved.bare.Reads as bare-reads
 use Rattle.state.proofs.bytes.saved_at.Reads as saved-at-reads
 
 abbrev Inv-loop : tie.InvT-loop
-Inv-loop bytes at sets₀ next₀ i₀ sets next i = (i ≤ 13) × (next ≡ at + 5 * i) × (stored sets i (gathered (savedAt bytes) 5 next (13 - i)) ≡ gathered (savedAt bytes) 5 at 13)
+Inv-loop bytes at sets₀ next₀ i₀ sets next i = (i ≤ mostSets) × (next ≡ at + setWidth * i) × (stored sets i (gathered (savedAt bytes) setWidth next (mostSets - i)) ≡ gathered (savedAt bytes) setWidth at mostSets)
 
 abbrev μ-loop : tie.MeasureT-loop
-μ-loop bytes at sets₀ next₀ i₀ sets next i = 13 - i
+μ-loop bytes at sets₀ next₀ i₀ sets next i = mostSets - i
 
 loop-holds : tie.Need-loop-holds Inv-loop μ-loop
-loop-holds c = (omega arith, omega arith, fill-all (savedAt _) 5 _ 13 _ refl)
+loop-holds c = (omega arith, omega arith, fill-all (savedAt _) setWidth _ mostSets _ refl)
 
 loop-again : tie.Need-loop-again Inv-loop μ-loop
 loop-again c = let l = c .before .before .loop in (
   omega arith,
   omega arith,
-  rw (c .saved-at .ensures) (fill-more (savedAt _) 5 _ 13 (l .i) _ (c .before .loop-test .taken) ∙ l .inv .2),
+  rw (c .saved-at .ensures) (fill-more (savedAt _) setWidth _ mostSets (l .i) _ (c .before .loop-test .taken) ∙ l .inv .2),
 )
 
 returns : tie.Need-returns Inv-loop μ-loop
-returns c = sym (fill-none (savedAt _) 5 _ 13 (c .before .loop .i) _ (c .loop-test .left)) ∙ c .before .loop .inv .2
+returns c = sym (fill-none (savedAt _) setWidth _ mostSets (c .before .loop .i) _ (c .loop-test .left)) ∙ c .before .loop .inv .2
 
 pub sets-at-spec : {M : Type 1} → statement M
 sets-at-spec =
