@@ -40,7 +40,11 @@ uint64_t wickpollen_fresh(uint8_t *state, size_t state_len);
      28, 29     the stream had ended before; the state is none of this sheet's, or state_len is not what wickpollen_fresh answered.
 
    state[0 .. state_len) holds the state after the part; with 1 to 9, 28, 29, and where an earlier refusal is only repeated, nothing is
-   taken or written and every byte of the state is as it was. The sheet is tested in every call, so a part of some thousand bytes costs much less than as many small ones. */
+   taken or written and every byte of the state is as it was. A state that was handed back has one form: what is not in use is 0, so it
+   may be stored, and two of them hold the same exactly when their bytes are equal. A call that takes nothing and answers 16 or 17 leaves
+   the bytes of such a state as they were. counts[0] is at most part_len and counts[1] at most out_len.
+
+   The sheet is tested in every call, so a part of some thousand bytes costs much less than as many small ones. */
 uint64_t wickpollen_run(const uint8_t *sheet, size_t sheet_len, uint8_t *state, size_t state_len, const uint8_t *part, size_t part_len,
                         uint64_t ended, uint8_t *out, size_t out_len, uint64_t *counts);
 

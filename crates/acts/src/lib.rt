@@ -144,7 +144,7 @@ pub fn enter(
         values: values,
         echo: z.echo,
     };
-    let inside = after.push(Frame::start(q as u8, kept), stack);
+    let inside = after.push(Frame::start(q as u8, kept), stack, 0);
     Acted {
         ok: true,
         at: to,
@@ -186,7 +186,7 @@ pub fn leave(
     Acted {
         ok: true,
         at: to,
-        live: left.pop(stack),
+        live: left.pop(stack, 0),
     }
 }
 

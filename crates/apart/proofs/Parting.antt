@@ -19,7 +19,7 @@ use Rattle.state.specs.Meaning.{All, Fits, meaningOf, Shaped}
 use Rattle.state.proofs.Gathered.{length-gathered, fill-none}
 use Rattle.state.proofs.Tidy.{bare-is}
 use Rattle.live.specs.declared.Live.{Live}
-use Rattle.live.specs.Live.{stackOf, full}
+use Rattle.live.specs.Live.{stackAt, full}
 use Rattle.apart.specs.Apart.{upTo, ApartAs}
 
 -- one more of a list's first, the others bare
@@ -118,7 +118,7 @@ bare-past xs ys =
     bare-is bareFrame (length xs) (xs ++ ys) ∙ ap₂ (λ (l : List Frame) (m : ℕ). l ++ replicate m bareFrame) (take-append-seam xs ys) n
 
 -- the same frames are those of the state that the live part and the stack are, tidied
-stack-tidied : (d : ℕ) (f : Frame) (b : List ℕ) → stackBy (tidyAt b) d (tidyFrame f) ≡ bareFrom bareFrame d (map tidyFrame (stackOf d f b))
+stack-tidied : (d : ℕ) (f : Frame) (b : List ℕ) → stackBy (tidyAt b) d (tidyFrame f) ≡ bareFrom bareFrame d (map tidyFrame (stackAt 0 d f b))
 stack-tidied zero f b =
     let ys : List Frame = replicate most bareFrame in
     sym (bare-past [] (map tidyFrame ys) ∙ ap (λ (m : ℕ). replicate m bareFrame) (length-map ys tidyFrame ∙ length-replicate most bareFrame))
@@ -126,7 +126,7 @@ stack-tidied (suc n) f b =
     let xs : List Frame = gathered (tidyAt b) frameWidth 0 n in
     let ys : List Frame = replicate (most - suc n) bareFrame in
     let l : length (xs ++ tidyFrame f ∷ []) ≡ suc n = length-append xs (tidyFrame f ∷ []) ∙ omega (arith, length-gathered (tidyAt b) frameWidth 0 n) in
-    let m : map tidyFrame (stackOf (suc n) f b) ≡ (xs ++ tidyFrame f ∷ []) ++ map tidyFrame ys =
+    let m : map tidyFrame (stackAt 0 (suc n) f b) ≡ (xs ++ tidyFrame f ∷ []) ++ map tidyFrame ys =
     map-append tidyFrame (gathered (frameAt b) frameWidth 0 n) (f ∷ ys) ∙ ap (λ (z : List Frame). z ++ tidyFrame f ∷ map tidyFrame ys) (map-gathered b 0 n)
     ∙ sym (append-assoc xs (tidyFrame f ∷ []) (map tidyFrame ys)) in
     sym
@@ -141,7 +141,7 @@ all-bare x d b e = let q : d - 1 - 0 ≡ d - 1 = omega arith in rw (e, q)
 
 pub all-read : (d i next : ℕ) (f : Frame) (b : List ℕ) (frames : List Frame) → d ≤ most → d ≤ i + 1 →
     sets frames i (gathered (tidyAt b) frameWidth next (d - 1 - i)) ≡ sets (replicate most bareFrame) 0 (gathered (tidyAt b) frameWidth 0 (d - 1)) →
-    putLast frames d (tidyFrame f) ≡ bareFrom bareFrame d (map tidyFrame (stackOf d f b))
+    putLast frames d (tidyFrame f) ≡ bareFrom bareFrame d (map tidyFrame (stackAt 0 d f b))
 all-read d i next f b frames h k e =
     ap (λ (l : List Frame). putLast l d (tidyFrame f)) (sym (fill-none (tidyAt b) frameWidth next (d - 1) i frames (omega arith)) ∙ e)
     ∙ stack-built (tidyAt b) d (tidyFrame f) h ∙ stack-tidied d f b

@@ -36,7 +36,7 @@ pub fn apart(state: State, stack: &mut [u8]) -> Live
     let mut i = 0;
     while i < state.depth {
         let f = frames[i];
-        live = live.push(f, stack);
+        live = live.push(f, stack, 0);
         i = i + 1;
     }
     live

@@ -7,3 +7,4 @@ pub mod Main
 pub mod Parts
 pub mod Exactly
 pub mod Empty
+pub mod Fed

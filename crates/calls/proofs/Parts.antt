@@ -30,7 +30,7 @@ use Rattle.runs.specs.Visits.{mostVisits}
 use Rattle.calls.specs.Limits.{silent, outputOf, Taking, taken, refuses, no-room, limited, within, oneToken}
 use Rattle.calls.specs.Held.{Held, leavesOpen, closingOf, handed}
 use Rattle.calls.specs.Call.{Result, stopped, after-writing, numberAt, Runs, takes, stops, full, no-token, CalledBy, Called}
-use Rattle.calls.specs.Parts.{joined, Told, Continued, Feeds, at-once, closes, goes-on}
+use Rattle.calls.specs.Parts.{joined, Told, Continued, Feeds, at-once, closes, goes-on, Each, CallOf}
 use Rattle.calls.proofs.Answers.{AfterToken, split, to-number, call-one, call-some}
 use Rattle.calls.proofs.Frame.{countOf}
 use Rattle.calls.proofs.Steps.{RunToken, RunAnswer, takes-one, one-takes, refuses-over}
@@ -252,14 +252,38 @@ module _ (a : Sheet) (s r : List ℕ) (b more : Bool) (told : Told b r more) (ro
   in-parts h r₁ R d d′ = by-closing (h .run) (h .closing) r₁ R d d′
 
 -- so any calls that feed a stream answer what one call on all of it does
-pub feeds-as-one : (a : Sheet) (more : Bool) {whole : List ℕ} {room : ℕ} {h : Held} {r : Result} → Feeds a more whole room h r → Called a whole more room h r
-feeds-as-one a more (at-once d) = d
+pub feeds-as-one : (a : Sheet) (more : Bool) {whole : List ℕ} {room : ℕ} {h : Held} {r : Result} {v : ℕ} → Feeds (CallOf a) more whole room h r v → Called a whole more room h r
+feeds-as-one a more (at-once d) = d .called
 feeds-as-one a more (closes {h} room extra s later b r₁ n told d c) =
     let R = call-some a (s ++ later) more (room + extra) h in
-    let q = subst (Continued a (s ++ later) more (room + extra) r₁ (R .0)) c (in-parts a s later b more told room extra h r₁ (R .0) d (R .1)) in
+    let q = subst (Continued a (s ++ later) more (room + extra) r₁ (R .0)) c (in-parts a s later b more told room extra h r₁ (R .0) (d .called) (R .1)) in
     subst (Called a (s ++ later) more (room + extra) h) q (R .1)
-feeds-as-one a more (goes-on {h} {r₂} room extra s later b r₁ told d c f) =
+feeds-as-one a more (goes-on {h} {h′} {r₂} room extra s later b r₁ told d c f) =
     let R = call-some a (s ++ later) more (room + extra) h in
-    let q = subst (Continued a (s ++ later) more (room + extra) r₁ (R .0)) c (in-parts a s later b more told room extra h r₁ (R .0) d (R .1)) in
-    let e = call-one a (drop (r₁ .taken) (s ++ later)) more (room + extra - length (r₁ .output)) (r₁ .held) (q .0) r₂ (q .1) (feeds-as-one a more f) in
+    let q = subst (Continued a (s ++ later) more (room + extra) r₁ (R .0)) c (in-parts a s later b more told room extra h r₁ (R .0) (d .called) (R .1)) in
+    let t = subst (λ (k : Held). Called a (drop (r₁ .taken) (s ++ later)) more (room + extra - length (r₁ .output)) k r₂) (sym (d .handed-back)) (feeds-as-one a more f) in
+    let e = call-one a (drop (r₁ .taken) (s ++ later)) more (room + extra - length (r₁ .output)) (r₁ .held) (q .0) r₂ (q .1) t in
     subst (Called a (s ++ later) more (room + extra) h) (q .2 ∙ ap (joined r₁) e) (R .1)
+
+-- and the visits told are those counted
+pub feeds-visits : (a : Sheet) (more : Bool) {whole : List ℕ} {room : ℕ} {h : Held} {r : Result} {v : ℕ} → Feeds (CallOf a) more whole room h r v → v ≡ r .held .run .store .env .count
+feeds-visits a more (at-once d) = d .visits
+feeds-visits a more (closes room extra s later b r₁ n told d c) = d .visits
+feeds-visits a more (goes-on room extra s later b r₁ told d c f) = feeds-visits a more f
+
+-- calls that each answer as the definition's call on what is held feed as those do
+module _ {H : Type 0} {Call : List ℕ → Bool → ℕ → H → H → Result → ℕ → Type 0} (a : Sheet) (holds : H → Held) (Good : H → Type 0)
+    (each : (part : List ℕ) (b : Bool) (room : ℕ) (h h′ : H) (r : Result) (v : ℕ) → Good h → Call part b room h h′ r v → CallOf a part b room (holds h) (holds h′) r v × Good h′) where
+  pub feeds-held : {more : Bool} {whole : List ℕ} {room : ℕ} {h : H} {r : Result} {v : ℕ} → Good h → Feeds Call more whole room h r v → Feeds (CallOf a) more whole room (holds h) r v
+  feeds-held g (at-once d) = at-once (each _ _ _ _ _ _ _ g d .0)
+  feeds-held g (closes room extra s later b r₁ n told d c) = closes room extra s later b r₁ n told (each _ _ _ _ _ _ _ g d .0) c
+  feeds-held g (goes-on room extra s later b r₁ told d c f) = goes-on room extra s later b r₁ told (each _ _ _ _ _ _ _ g d .0) c (feeds-held (each _ _ _ _ _ _ _ g d .1) f)
+
+-- what holds of every call holds of each
+pub each-call : {H : Type 0} {Call : List ℕ → Bool → ℕ → H → H → Result → ℕ → Type 0}
+    (P : (part : List ℕ) (b : Bool) (room : ℕ) (h h′ : H) (r : Result) (v : ℕ) → Call part b room h h′ r v → Type 0) →
+    ((part : List ℕ) (b : Bool) (room : ℕ) (h h′ : H) (r : Result) (v : ℕ) (c : Call part b room h h′ r v) → P part b room h h′ r v c) →
+    {more : Bool} {whole : List ℕ} {room : ℕ} {h : H} {r : Result} {v : ℕ} (d : Feeds Call more whole room h r v) → Each P d
+each-call P k (at-once c) = k _ _ _ _ _ _ _ c
+each-call P k (closes room extra s later b r₁ n t c e) = k _ _ _ _ _ _ _ c
+each-call P k (goes-on room extra s later b r₁ t c e d) = (k _ _ _ _ _ _ _ c, each-call P k d)

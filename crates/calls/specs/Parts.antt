@@ -10,6 +10,8 @@ use lib.ListN.{length, drop}
 use Rattle.sheet.specs.Sheet.{Sheet}
 use Rattle.calls.specs.Held.{Held}
 use Rattle.calls.specs.Call.{Result, Called}
+use Rattle.runs.specs.Visits.{Env}
+use Rattle.calls.specs.Accepted.{accepted}
 
 -- what two calls answer together
 abbrev pub joined : Result → Result → Result
@@ -26,11 +28,32 @@ Continued a whole more room r₁ r none =
     (r₂ : Result) × Called a (drop (r₁ .taken) whole) more (room - length (r₁ .output)) (r₁ .held) r₂ × (r ≡ joined r₁ r₂)
 Continued a whole more room r₁ r (some n) = r ≡ r₁
 
--- calls one after another over a stream, whole being what is left of it and room what is left of all that is lent: each call gets some of both, and
--- presents again what the one before has left; together they answer r
-pub data Feeds (a : Sheet) (more : Bool) : List ℕ → ℕ → Held → Result → Type 0 where
-  at-once : {whole : List ℕ} {room : ℕ} {h : Held} {r : Result} → Called a whole more room h r → Feeds a more whole room h r
-  closes : {h : Held} (room extra : ℕ) (s later : List ℕ) (b : Bool) (r₁ : Result) (n : ℕ) → Told b later more → Called a s b room h r₁ → r₁ .held .closing ≡ some n →
-      Feeds a more (s ++ later) (room + extra) h r₁
-  goes-on : {h : Held} {r₂ : Result} (room extra : ℕ) (s later : List ℕ) (b : Bool) (r₁ : Result) → Told b later more → Called a s b room h r₁ → r₁ .held .closing ≡ none →
-      Feeds a more (drop (r₁ .taken) (s ++ later)) (room + extra - length (r₁ .output)) (r₁ .held) r₂ → Feeds a more (s ++ later) (room + extra) h (joined r₁ r₂)
+-- calls one after another over a stream. Call says what one of them answers: of a part, whether more is to come, the room lent and what is handed in, what is
+-- handed back, its result, and the visits that it tells. whole is what is left of the stream and room what is left of all that is lent: each call gets some of
+-- both, and presents again what the one before has left; together they answer r, and the last tells the visits v
+pub data Feeds {H : Type 0} (Call : List ℕ → Bool → ℕ → H → H → Result → ℕ → Type 0) (more : Bool) : List ℕ → ℕ → H → Result → ℕ → Type 0 where
+  at-once : {whole : List ℕ} {room : ℕ} {h h′ : H} {r : Result} {v : ℕ} → Call whole more room h h′ r v → Feeds Call more whole room h r v
+  closes : {h h′ : H} {v : ℕ} (room extra : ℕ) (s later : List ℕ) (b : Bool) (r₁ : Result) (n : ℕ) → Told b later more → Call s b room h h′ r₁ v →
+      r₁ .held .closing ≡ some n → Feeds Call more (s ++ later) (room + extra) h r₁ v
+  goes-on : {h h′ : H} {r₂ : Result} {u v : ℕ} (room extra : ℕ) (s later : List ℕ) (b : Bool) (r₁ : Result) → Told b later more → Call s b room h h′ r₁ u →
+      r₁ .held .closing ≡ none → Feeds Call more (drop (r₁ .taken) (s ++ later)) (room + extra - length (r₁ .output)) h′ r₂ v →
+      Feeds Call more (s ++ later) (room + extra) h (joined r₁ r₂) v
+
+-- P holds of each of the calls
+abbrev pub Each : {H : Type 0} {Call : List ℕ → Bool → ℕ → H → H → Result → ℕ → Type 0} →
+    (P : (part : List ℕ) (b : Bool) (room : ℕ) (h h′ : H) (r : Result) (v : ℕ) → Call part b room h h′ r v → Type 0) →
+    {more : Bool} {whole : List ℕ} {room : ℕ} {h : H} {r : Result} {v : ℕ} → Feeds Call more whole room h r v → Type 0
+Each P (at-once c) = P _ _ _ _ _ _ _ c
+Each P (closes room extra s later b r₁ n t c e) = P s b room _ _ r₁ _ c
+Each P (goes-on room extra s later b r₁ t c e d) = P s b room _ _ r₁ _ c × Each P d
+
+-- a call of the definition, by what is held
+pub record CallOf (a : Sheet) (part : List ℕ) (more : Bool) (room : ℕ) (h h′ : Held) (r : Result) (v : ℕ) : Type 0 where
+  pub called : Called a part more room h r
+  pub handed-back : r .held ≡ h′
+  pub visits : v ≡ r .held .run .store .env .count
+
+-- what a stream comes to that is accepted, in whatever parts and rooms: the answer of one call, with the visits of its tree
+pub record FedAccepted (whole : List ℕ) (e : Env) (r : Result) (v : ℕ) : Type 0 where
+  pub answer : r ≡ accepted whole e
+  pub visits : v ≡ e .count

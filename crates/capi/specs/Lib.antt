@@ -1,3 +1,4 @@
 pub mod Packed
 pub mod Started
 pub mod RunAnswer
+pub mod Hosts

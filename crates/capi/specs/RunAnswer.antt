@@ -3,8 +3,9 @@
 use mathlib.Core.Path.{_≡_}
 use mathlib.Core.Bool.{not}
 use mathlib.Core.List.{List, [], _∷_}
-use Prim.Native.Nat.{ℕ}
+use Prim.Native.Nat.{ℕ, _≤_}
 use lib.Dec.{eqb}
+use lib.ListN.{length}
 use Rattle.converter.specs.Bytes.{BytesAnsweredAs}
 use Rattle.converter.specs.declared.Counts.{Counts}
 
@@ -12,5 +13,7 @@ use Rattle.converter.specs.declared.Counts.{Counts}
 pub record RunAs (s b b′ part : List ℕ) (ended : ℕ) (lent after counts : List ℕ) (w : ℕ) : Type 0 where
   pub answer : Counts
   pub as-answered : BytesAnsweredAs s b b′ part (not (eqb ended 0)) lent after answer
+  pub taken-in : answer .taken ≤ length part
+  pub written-in : answer .written ≤ length lent
   pub number : w ≡ answer .number
   pub counted : counts ≡ answer .taken ∷ answer .written ∷ answer .visits ∷ []

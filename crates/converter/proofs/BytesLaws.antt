@@ -3,10 +3,11 @@
 -- Assumes nothing.
 use mathlib.Core.Path.{_≡_, refl, sym, ap, _∙_, subst}
 use mathlib.Core.Bool.{Bool}
-use mathlib.Core.List.{List}
+use mathlib.Core.List.{List, _++_}
 use mathlib.Core.Option.{Option, some}
-use Prim.Native.Nat.{ℕ}
-use lib.ListN.{length}
+use Prim.Native.Nat.{ℕ, _≤_}
+use native.Mathlib.Omega.{arith}
+use lib.ListN.{length, take, drop}
 use Rattle.sheet.specs.Sheet.{Sheet, IsSheet}
 use Rattle.runs.specs.Taken.{Passed}
 use Rattle.state.specs.Bounds.{stateWidth}
@@ -18,7 +19,7 @@ use Rattle.converter.specs.Answered.{FitsSheet, heldOf, GivenBack, Ran, 
 use Rattle.converter.specs.Bytes.{CountsOf, SameCounts, BytesAnsweredAs, as-given, runs}
 use Rattle.converter.proofs.Entering.{state-in}
 use Rattle.converter.proofs.Widths.{state-wide}
-use Rattle.converter.proofs.Replies.{one-given, not-both, one-run-reply, InTable, given-number, ran-number, fits-here}
+use Rattle.converter.proofs.Replies.{one-given, not-both, one-run-reply, written-first, InTable, given-number, ran-number, fits-here}
 
 same-counts : (r q : Counts) → r .number ≡ q .number → r .taken ≡ q .taken → r .written ≡ q .written → r .visits ≡ q .visits → r ≡ q
 same-counts r q n t w v = λ i. record { number = n i; taken = t i; written = w i; visits = v i }
@@ -77,6 +78,22 @@ module _ {s b part : List ℕ} {ended : Bool} {lent : List ℕ} where
   pub bytes-state : {b′ after : List ℕ} {r : Counts} → length b ≡ stateWidth → BytesAnsweredAs s b b′ part ended lent after r → length b′ ≡ stateWidth
   bytes-state h (as-given g u) = ap length (u .same) ∙ h
   bytes-state {b′} h (runs e q w c x y) = ap length (x ∙ ap bytesOf (sym y)) ∙ state-wide b′
+
+  -- the output stands first in the lent memory, and all past it is as lent; no more is taken or written than there is
+  pub bytes-first : {b′ after : List ℕ} {r : Counts} → BytesAnsweredAs s b b′ part ended lent after r →
+      (r .written ≡ length (take (r .written) after)) × (after ≡ take (r .written) after ++ drop (r .written) lent)
+  bytes-first {after = after} {r} (as-given g u) =
+      subst (λ (n : ℕ). (n ≡ length (take n after)) × (after ≡ take n after ++ drop n lent)) (sym (u .written)) (refl, u .left)
+  bytes-first {after = after} {r} (runs e q w c x y) =
+      subst (λ (n : ℕ). (n ≡ length (take n after)) × (after ≡ take n after ++ drop n lent)) (sym (c .written)) (written-first (value-runs (ran-counted w) refl))
+
+  bytes-within : {b′ after : List ℕ} {r : Counts} → BytesAnsweredAs s b b′ part ended lent after r → (r .taken ≤ length part) × (r .written ≤ length lent)
+  bytes-within (as-given g u) = (omega (arith, u .taken), omega (arith, u .written))
+  bytes-within (runs e q w c x y) = (omega (arith, c .taken, w .within), omega (arith, c .written, w .written, w .room))
+
+  pub and-within : {b′ after : List ℕ} {r : Counts} → BytesAnsweredAs s b b′ part ended lent after r →
+      BytesAnsweredAs s b b′ part ended lent after r × ((r .taken ≤ length part) × (r .written ≤ length lent))
+  and-within w = (w, bytes-within w)
 
   pub bytes-numbers : {b′ after : List ℕ} {r : Counts} → BytesAnsweredAs s b b′ part ended lent after r → InTable (r .number)
   bytes-numbers (as-given g u) = given-number g

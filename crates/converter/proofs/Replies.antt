@@ -215,3 +215,13 @@ pub visits-held : {s : List ℕ} {z : State} {part : List ℕ} {ended : Bool} {l
 unfolding meaningOf
 visits-held (as-given g k v) = v ∙ ap (λ (x : State). x .count) (sym (k .state))
 visits-held (runs w v) = v
+
+-- no more is taken or written than there is
+within-both : {s : List ℕ} {z : State} {part : List ℕ} {ended : Bool} {lent after : List ℕ} {r : Reply} → AnsweredAs s z part ended lent after r →
+    (r .taken ≤ length part) × (r .written ≤ length lent)
+within-both (as-given g k v) = (omega (arith, k .taken), omega (arith, k .written))
+within-both (runs w v) = (w .within, omega (arith, w .written, w .room))
+
+pub and-within : {s : List ℕ} {z : State} {part : List ℕ} {ended : Bool} {lent after : List ℕ} {r : Reply} → AnsweredAs s z part ended lent after r →
+    AnsweredAs s z part ended lent after r × ((r .taken ≤ length part) × (r .written ≤ length lent))
+and-within w = (w, within-both w)

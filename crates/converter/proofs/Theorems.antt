@@ -7,7 +7,7 @@ use mathlib.Core.Logic.{_↔_}
 use mathlib.Core.Bool.{Bool, true, false, not}
 use mathlib.Core.List.{List, _++_}
 use mathlib.Core.Option.{some, Option·none-ne-some as none-some}
-use Prim.Native.Nat.{ℕ, _+_, _-_, _≤_}
+use Prim.Native.Nat.{ℕ, _≤_}
 use lib.ListN.{length, take, drop}
 use Rattle.sheet.specs.Sheet.{Sheet, IsSheet}
 use Rattle.output.specs.Escape.{render}
@@ -16,17 +16,25 @@ use Rattle.runs.specs.Taken.{Passed}
 use Rattle.calls.specs.Held.{Held, fresh-held}
 use Rattle.calls.specs.Call.{Result, again, Called}
 use Rattle.calls.specs.Accepted.{Accepted, accepted}
-use Rattle.calls.specs.Parts.{Feeds, at-once as fed-at-once, closes as feeding-closes, goes-on as feeding-goes-on}
+use Rattle.calls.specs.Parts.{Feeds, Each, CallOf, FedAccepted}
 use Rattle.calls.proofs.Main.{accepted-iff}
 use Rattle.calls.proofs.Answers.{call-one}
-use Rattle.calls.proofs.Parts.{feeds-as-one}
+use Rattle.calls.proofs.Parts.{feeds-as-one, feeds-visits, feeds-held, each-call}
+use Rattle.calls.proofs.Fed as of-calls
 use Rattle.state.specs.Changes.{freshState}
+use Rattle.state.specs.Meaning.{meaningOf}
+use Rattle.state.specs.Bounds.{stateWidth}
+use Rattle.state.specs.Bytes.{bytesOf, stateFrom}
 use Rattle.state.specs.declared.State.{State}
 use Rattle.state.proofs.Meant.{meaning-fresh}
+use Rattle.state.proofs.Back.{state-back}
+use Rattle.state.proofs.Tidy.{fresh-sized}
 use Rattle.fit.proofs.Theorems.{fresh-fit}
 use Rattle.converter.specs.declared.Reply.{Reply}
 use Rattle.converter.specs.Answered.{FitsSheet, closingIn, heldOf, AsGiven, AnsweredAs, as-given, runs}
-use Rattle.converter.specs.Fed.{resultOf, Fed, at-once, closes, goes-on}
+use Rattle.converter.specs.Fed.{resultOf, resultIn, ValueCall, BytesCall, ValueAsLent, BytesAsLent}
+use Rattle.converter.proofs.Widths.{fresh-wide}
+use Rattle.converter.proofs.BytesLaws.{bytes-state, bytes-first, as-value}
 use Rattle.converter.proofs.Replies.{some-inj, given-closed, is-call, handed-back-fit, written-first, visits-held}
 
 held-fresh : heldOf freshState ≡ fresh-held
@@ -40,7 +48,51 @@ pub record Converted (part lent after : List ℕ) (r : Reply) (v : Env) : Type 0
   pub left : after ≡ render (v .out) ++ drop (length (render (v .out))) lent
   pub visits : r .visits ≡ v .count
 
+-- what a call leaves of the memory that is lent to it
+value-as-lent : {s : List ℕ} (part : List ℕ) (more : Bool) (room : ℕ) (z z′ : State) (x : Result) (v : ℕ) (c : ValueCall s part more room z z′ x v) →
+    ValueAsLent s part more room z z′ x v c
+value-as-lent part more room z z′ x v c =
+    let k = written-first (c .answered) in
+    let o = ap (λ (y : Result). y .output) (c .result) in
+    k .1 ∙ ap₂ (λ (l : List ℕ) (n : ℕ). l ++ drop n (c .lent)) (sym o) (k .0 ∙ ap length (sym o))
+
+-- a call whose state is bytes is one with the state that they are
+bytes-value : {s part : List ℕ} {more : Bool} {room : ℕ} {b b′ : List ℕ} {x : Result} {v : ℕ} → length b ≡ stateWidth → BytesCall s part more room b b′ x v →
+    ValueCall s part more room (stateFrom b) (stateFrom b′) x v
+unfolding meaningOf
+bytes-value {b′ = b′} h c =
+    let A = as-value h (c .answered) in
+    let r = A .reply in
+    let e : resultIn (c .after) b′ (c .counts) ≡ resultOf (c .after) r =
+    same-result (A .counts .number) (A .counts .taken) (ap (λ (n : ℕ). take n (c .after)) (A .counts .written)) (ap heldOf (A .reads-back)) in
+    record {
+      lent = c .lent;
+      after = c .after;
+      ended = c .ended;
+      reply = r;
+      answered = A .answered;
+      told = c .told;
+      as-long = c .as-long;
+      state = sym (A .reads-back);
+      result = c .result ∙ e;
+      visits = c .visits ∙ A .counts .visits ∙ sym (visits-held (A .answered));
+    }
+  where
+    same-result : {n m t u : ℕ} {o p : List ℕ} {h k : Held} → n ≡ m → t ≡ u → o ≡ p → h ≡ k →
+        _≡_ {A = Result} (record { number = n; taken = t; output = o; held = h }) (record { number = m; taken = u; output = p; held = k })
+    same-result p q r s = λ i. record { number = p i; taken = q i; output = r i; held = s i }
+
+pub bytes-as-lent : {s : List ℕ} (part : List ℕ) (more : Bool) (room : ℕ) (b b′ : List ℕ) (x : Result) (v : ℕ) (c : BytesCall s part more room b b′ x v) →
+    BytesAsLent s part more room b b′ x v c
+bytes-as-lent part more room b b′ x v c =
+    let k = bytes-first (c .answered) in
+    let o = ap (λ (y : Result). y .output) (c .result) in
+    k .1 ∙ ap₂ (λ (l : List ℕ) (n : ℕ). l ++ drop n (c .lent)) (sym o) (k .0 ∙ ap length (sym o))
+
 module _ {s : List ℕ} {a : Sheet} (i : IsSheet s a) (ok : Passed a) where
+  abbrev Good : List ℕ → Type 0
+  Good b = (length b ≡ stateWidth) × FitsSheet a (stateFrom b)
+
   module _ {part lent after : List ℕ} {r : Reply} (w : AnsweredAs s freshState part true lent after r) where
     from-fresh : Called a part false (length lent) fresh-held (resultOf after r)
     from-fresh =
@@ -71,37 +123,64 @@ module _ {s : List ℕ} {a : Sheet} (i : IsSheet s a) (ok : Passed a) where
           visits = visits-held w ∙ ap (λ (y : Result). y .held .run .store .env .count) e;
         }
 
-  -- calls of the code that feed a stream feed it in the sense of the calls
-  fed-feeds : {ended : Bool} {whole : List ℕ} {room : ℕ} {z : State} {x : Result} → Fed s ended whole room z x → FitsSheet a z → Feeds a (not ended) whole room (heldOf z) x
-  fed-feeds (at-once whole lent after r w) f = fed-at-once (is-call i ok f w)
-  fed-feeds {ended} (closes part later lent after b extra r n t w c) f = feeding-closes (length lent) extra part later (not b) (resultOf after r) n t (is-call i ok f w) c
-  fed-feeds {ended} (goes-on {x = x} part later lent after b extra r t w c d) f =
-      feeding-goes-on (length lent) extra part later (not b) (resultOf after r) t (is-call i ok f w) c
-      (subst (λ (m : ℕ). Feeds a (not ended) (drop (r .taken) (part ++ later)) (length lent + extra - m) (heldOf (r .state)) x) (written-first w .0)
-      (fed-feeds d (handed-back-fit i ok f w)))
+  -- a call of the code is one of the definition, on what is held
+  value-call : (part : List ℕ) (more : Bool) (room : ℕ) (z z′ : State) (x : Result) (v : ℕ) → FitsSheet a z → ValueCall s part more room z z′ x v →
+      CallOf a part more room (heldOf z) (heldOf z′) x v × FitsSheet a z′
+  value-call part more room z z′ x v f c =
+      let w = c .answered in (
+        record {
+          called = subst (Called a part more room (heldOf z)) (sym (c .result))
+              (subst (λ (n : ℕ). Called a part more n (heldOf z) (resultOf (c .after) (c .reply))) (c .as-long)
+              (subst (λ (b : Bool). Called a part b (length (c .lent)) (heldOf z) (resultOf (c .after) (c .reply))) (c .told) (is-call i ok f w)));
+          handed-back = ap (λ (y : Result). y .held) (c .result) ∙ ap heldOf (c .state);
+          visits = c .visits ∙ visits-held w ∙ sym (ap (λ (y : Result). y .held .run .store .env .count) (c .result));
+        },
+        subst (FitsSheet a) (c .state) (handed-back-fit i ok f w),
+      )
+
+  feeds-value : {more : Bool} {whole : List ℕ} {room : ℕ} {z : State} {x : Result} {v : ℕ} → FitsSheet a z → Feeds (ValueCall s) more whole room z x v →
+      Feeds (CallOf a) more whole room (heldOf z) x v
+  feeds-value f d = feeds-held a heldOf (FitsSheet a) value-call f d
 
   -- so a stream from the fresh state, fed in whatever parts and rooms, is answered with 0 in the end exactly when it is accepted and its output has room
   -- in all that is lent; and then all is as the tree says
-  module _ {whole : List ℕ} {room : ℕ} {x : Result} (d : Fed s true whole room freshState x) where
-    fed-called : Called a whole false room fresh-held x
-    fed-called =
-        subst (λ (h : Held). Called a whole false room h x) held-fresh (feeds-as-one a false (fed-feeds d (fresh-fit (grammar a) (a .start-nonterminal))))
+  module _ {whole : List ℕ} {room : ℕ} {x : Result} {v : ℕ} (d : Feeds (ValueCall s) false whole room freshState x v) where
+    fed-fresh : Feeds (CallOf a) false whole room fresh-held x v
+    fed-fresh = subst (λ (h : Held). Feeds (CallOf a) false whole room h x v) held-fresh (feeds-value (fresh-fit (grammar a) (a .start-nonterminal)) d)
 
-    pub fed-converted : (v : Env) → Accepted a whole v → length (render (v .out)) ≤ room → x ≡ accepted whole v
-    fed-converted v y f =
-        call-one a whole false room fresh-held x (accepted whole v) fed-called (accepted-iff a ok whole room (accepted whole v) .1 (v, (y, f, refl)) .0)
+    pub fed-converted : (e : Env) → Accepted a whole e → length (render (e .out)) ≤ room → FedAccepted whole e x v × Each (ValueAsLent s) d
+    fed-converted e y f = (of-calls.fed-converted ok fed-fresh e y f, each-call (ValueAsLent s) value-as-lent d)
 
-    pub fed-accepted : (x .number ≡ 0) ↔ ((v : Env) × (Accepted a whole v × (length (render (v .out)) ≤ room)))
-    fed-accepted = (
-      (λ e. let (v, (y, f, q)) = accepted-iff a ok whole room x .0 (fed-called, e) in (v, (y, f))),
-      (λ h. ap (λ (y : Result). y .number) (fed-converted (h .0) (h .1 .0) (h .1 .1))),
-    )
+    pub fed-accepted : (x .number ≡ 0) ↔ ((e : Env) × (Accepted a whole e × (length (render (e .out)) ≤ room)))
+    fed-accepted = of-calls.fed-accepted ok fed-fresh
+
+  -- the same where the state is bytes, from those of the fresh state
+  bytes-call : (part : List ℕ) (more : Bool) (room : ℕ) (b b′ : List ℕ) (x : Result) (v : ℕ) → Good b → BytesCall s part more room b b′ x v →
+      CallOf a part more room (heldOf (stateFrom b)) (heldOf (stateFrom b′)) x v × Good b′
+  bytes-call part more room b b′ x v g c =
+      let k = value-call part more room (stateFrom b) (stateFrom b′) x v (g .1) (bytes-value (g .0) c) in
+      (k .0, (bytes-state (g .0) (c .answered), k .1))
+
+  module _ {whole : List ℕ} {room : ℕ} {x : Result} {v : ℕ} (d : Feeds (BytesCall s) false whole room (bytesOf freshState) x v) where
+    bytes-fresh : Feeds (CallOf a) false whole room fresh-held x v
+    bytes-fresh =
+        let e = state-back freshState fresh-sized in
+        subst (λ (h : Held). Feeds (CallOf a) false whole room h x v) (ap heldOf e ∙ held-fresh)
+        (feeds-held a (λ (b : List ℕ). heldOf (stateFrom b)) Good bytes-call (fresh-wide, subst (FitsSheet a) (sym e) (fresh-fit (grammar a) (a .start-nonterminal))) d)
+
+    pub bytes-fed-converted : (e : Env) → Accepted a whole e → length (render (e .out)) ≤ room → FedAccepted whole e x v × Each (BytesAsLent s) d
+    bytes-fed-converted e y f = (of-calls.fed-converted ok bytes-fresh e y f, each-call (BytesAsLent s) bytes-as-lent d)
+
+    pub bytes-fed-accepted : (x .number ≡ 0) ↔ ((e : Env) × (Accepted a whole e × (length (render (e .out)) ≤ room)))
+    bytes-fed-accepted = of-calls.fed-accepted ok bytes-fresh
 
   -- a stream in parts gives what one call gives
-  pub parts-as-one : {ended : Bool} {whole lent after : List ℕ} {z : State} {x : Result} {r : Reply} → FitsSheet a z → Fed s ended whole (length lent) z x →
-      AnsweredAs s z whole ended lent after r → x ≡ resultOf after r
-  parts-as-one {ended} {whole} {lent} {after} {z} {x} {r} f d w =
-      call-one a whole (not ended) (length lent) (heldOf z) x (resultOf after r) (feeds-as-one a (not ended) (fed-feeds d f)) (is-call i ok f w)
+  pub parts-as-one : {ended : Bool} {whole lent after : List ℕ} {z : State} {x : Result} {v : ℕ} {r : Reply} → FitsSheet a z →
+      Feeds (ValueCall s) (not ended) whole (length lent) z x v → AnsweredAs s z whole ended lent after r → (x ≡ resultOf after r) × (v ≡ r .visits)
+  parts-as-one {ended} {whole} {lent} {after} {z} {x} {r = r} f d w =
+      let t = feeds-value f d in
+      let e = call-one a whole (not ended) (length lent) (heldOf z) x (resultOf after r) (feeds-as-one a (not ended) t) (is-call i ok f w) in
+      (e, feeds-visits a (not ended) t ∙ ap (λ (y : Result). y .held .run .store .env .count) e ∙ sym (visits-held w))
 
   -- a closed state repeats: 28 after 0, else the number again, and all is handed back as given
   pub closed-repeats : {z : State} {part : List ℕ} {ended : Bool} {lent after : List ℕ} {r : Reply} (n : ℕ) → FitsSheet a z → heldOf z .closing ≡ some n →

@@ -1,6 +1,6 @@
--- How many bytes a state's form has that is read from any bytes: as many as a state has.
+-- How many bytes a state has that is read from any bytes, and the fresh state: as many as every state.
 -- Assumes nothing.
-use mathlib.Core.Path.{_≡_, ap, _∙_}
+use mathlib.Core.Path.{_≡_, sym, ap, _∙_}
 use mathlib.Core.List.{List, [], _∷_, _++_}
 use Prim.Native.Nat.{ℕ, zero, suc, _+_, _*_}
 use native.Mathlib.Nat.{mul-suc}
@@ -11,10 +11,13 @@ use Rattle.runs.specs.Machine.{most}
 use Rattle.state.specs.declared.Frame.{Frame}
 use Rattle.state.specs.Bounds.{mostSets, setWidth, frameWidth, headWidth, stackWidth, stateWidth}
 use Rattle.state.specs.Bytes.{flag, numberBytes, joined, frameBytes, bytesOf, byteAt, bytesAt, onAt, numberAt, gathered, savedAt, frameAt, stateFrom, SizedFrame}
+use Rattle.state.specs.Changes.{freshState}
 use Rattle.state.specs.Meaning.{All, none, more}
+use Rattle.state.specs.declared.State.{State}
 use Rattle.state.proofs.Written.{number-wide}
 use Rattle.state.proofs.Gathered.{length-gathered}
-use Rattle.state.proofs.Back.{frame-back}
+use Rattle.state.proofs.Back.{frame-back, state-back}
+use Rattle.state.proofs.Tidy.{fresh-sized}
 
 all-gathered : {X : Type 0} {P : X → Type 0} (f : ℕ → X) (w at n : ℕ) → ((i : ℕ) → P (f i)) → All P (gathered f w at n)
 unfolding gathered
@@ -58,3 +61,6 @@ state-wide b =
       number-wide 8 (stateFrom b .depth),
       n,
     )
+
+pub fresh-wide : length (bytesOf freshState) ≡ stateWidth
+fresh-wide = ap (λ (z : State). length (bytesOf z)) (sym (state-back freshState fresh-sized)) ∙ state-wide (bytesOf freshState)

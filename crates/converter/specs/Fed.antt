@@ -1,27 +1,56 @@
--- A stream that comes in parts, or with room a little at a time: calls of the code, each with what the one before has left.
+-- One call of the code in a chain of them: what it is handed, what it hands back, and what it answers. How such calls feed a stream is `Feeds` of the calls.
 -- Assumes nothing.
 use mathlib.Core.Path.{_≡_}
 use mathlib.Core.Bool.{Bool, not}
 use mathlib.Core.List.{List, _++_}
-use mathlib.Core.Option.{none, some}
-use Prim.Native.Nat.{ℕ, _+_, _-_}
+use Prim.Native.Nat.{ℕ}
 use lib.ListN.{length, take, drop}
 use Rattle.calls.specs.Call.{Result}
-use Rattle.calls.specs.Parts.{joined, Told}
+use Rattle.state.specs.Bytes.{stateFrom}
 use Rattle.state.specs.declared.State.{State}
 use Rattle.converter.specs.declared.Reply.{Reply}
+use Rattle.converter.specs.declared.Counts.{Counts}
 use Rattle.converter.specs.Answered.{heldOf, AnsweredAs}
+use Rattle.converter.specs.Bytes.{BytesAnsweredAs}
 
 -- a reply as the answer of a call: the output is the first bytes of the lent memory, as many as are written
 abbrev pub resultOf : List ℕ → Reply → Result
 resultOf after r = record { number = r .number; taken = r .taken; output = take (r .written) after; held = heldOf (r .state) }
 
--- whole is what is left of the stream and room what is left of all that is lent. Each call gets some of both, and presents again what the one before has
--- left; together they answer x
-pub data Fed (s : List ℕ) (ended : Bool) : List ℕ → ℕ → State → Result → Type 0 where
-  at-once : {z : State} (whole lent after : List ℕ) (r : Reply) → AnsweredAs s z whole ended lent after r → Fed s ended whole (length lent) z (resultOf after r)
-  closes : {z : State} (part later lent after : List ℕ) (b : Bool) (extra : ℕ) (r : Reply) (n : ℕ) → Told (not b) later (not ended) →
-      AnsweredAs s z part b lent after r → heldOf (r .state) .closing ≡ some n → Fed s ended (part ++ later) (length lent + extra) z (resultOf after r)
-  goes-on : {z : State} {x : Result} (part later lent after : List ℕ) (b : Bool) (extra : ℕ) (r : Reply) → Told (not b) later (not ended) →
-      AnsweredAs s z part b lent after r → heldOf (r .state) .closing ≡ none →
-      Fed s ended (drop (r .taken) (part ++ later)) (length lent + extra - r .written) (r .state) x → Fed s ended (part ++ later) (length lent + extra) z (joined (resultOf after r) x)
+abbrev pub resultIn : List ℕ → List ℕ → Counts → Result
+resultIn after b r = record { number = r .number; taken = r .taken; output = take (r .written) after; held = heldOf (stateFrom b) }
+
+-- a call whose state is a value, with so much room lent; it is told whether the stream ends with the part
+pub record ValueCall (s part : List ℕ) (more : Bool) (room : ℕ) (z z′ : State) (x : Result) (v : ℕ) : Type 0 where
+  pub lent : List ℕ
+  pub after : List ℕ
+  pub ended : Bool
+  pub reply : Reply
+  pub answered : AnsweredAs s z part ended lent after reply
+  pub told : not ended ≡ more
+  pub as-long : length lent ≡ room
+  pub state : reply .state ≡ z′
+  pub result : x ≡ resultOf after reply
+  pub visits : v ≡ reply .visits
+
+-- a call whose state is bytes
+pub record BytesCall (s part : List ℕ) (more : Bool) (room : ℕ) (b b′ : List ℕ) (x : Result) (v : ℕ) : Type 0 where
+  pub lent : List ℕ
+  pub after : List ℕ
+  pub ended : Bool
+  pub counts : Counts
+  pub answered : BytesAnsweredAs s b b′ part ended lent after counts
+  pub told : not ended ≡ more
+  pub as-long : length lent ≡ room
+  pub result : x ≡ resultIn after b′ counts
+  pub visits : v ≡ counts .visits
+
+-- the output stands first in the memory that was lent, and every byte past it is as lent
+abbrev pub AsLent : List ℕ → List ℕ → Result → Type 0
+AsLent lent after x = after ≡ x .output ++ drop (length (x .output)) lent
+
+abbrev pub ValueAsLent : (s part : List ℕ) (more : Bool) (room : ℕ) (z z′ : State) (x : Result) (v : ℕ) → ValueCall s part more room z z′ x v → Type 0
+ValueAsLent s part more room z z′ x v c = AsLent (c .lent) (c .after) x
+
+abbrev pub BytesAsLent : (s part : List ℕ) (more : Bool) (room : ℕ) (b b′ : List ℕ) (x : Result) (v : ℕ) → BytesCall s part more room b b′ x v → Type 0
+BytesAsLent s part more room b b′ x v c = AsLent (c .lent) (c .after) x

@@ -216,6 +216,8 @@ fn run_tokens(s: &[u8], l: Layout, state: State, part: &[u8], ended: bool, out: 
 // One call: a sheet's bytes, a state, the next part of a stream and whether it ends there, and lent memory for the output.
 pub fn convert(sheet: &[u8], state: State, part: &[u8], ended: bool, out: &mut [u8]) -> Reply
     ensures { λ r. ⌜ AnsweredAs (now (sheet .entry)) state (now (part .entry)) ended (now (out .entry)) (now (out .exit)) r ⌝ }
+    ensures { λ r. ⌜ r .taken ≤ length (now (part .entry)) ⌝ }
+    ensures { λ r. ⌜ r .written ≤ length (now (out .entry)) ⌝ }
 {
     let number = given_back(sheet, state);
     if number != 0 {
@@ -255,6 +257,8 @@ pub fn convert_bytes(
     out: &mut [u8],
 ) -> Counts
     ensures { λ r. ⌜ BytesAnsweredAs (now (sheet .entry)) (now (state .entry)) (now (state .exit)) (now (part .entry)) ended (now (out .entry)) (now (out .exit)) r ⌝ }
+    ensures { λ r. ⌜ r .taken ≤ length (now (part .entry)) ⌝ }
+    ensures { λ r. ⌜ r .written ≤ length (now (out .entry)) ⌝ }
 {
     let given = from_bytes(state);
     let number = bytes_given_back(sheet, state, given);

@@ -27,7 +27,7 @@ use Rattle.state.proofs.Back.{Back, frame-back}
 use Rattle.state.proofs.Meant.{shaped-popped}
 use Rattle.live.specs.declared.Live.{Live}
 use Rattle.live.specs.declared.Restored.{Restored}
-use Rattle.live.specs.Live.{stackOf, full, SameBelow, topIn, keptIn, placedIn, RestoredIn, PushedAs, PoppedAs}
+use Rattle.live.specs.Live.{stackAt, fullAt, full, SameBelowAt, SameBelow, topIn, keptIn, placedIn, RestoredIn, PushedAs, PoppedAs}
 
 gathered-snoc : {X : Type 0} (f : ℕ → X) (w at n : ℕ) → gathered f w at (suc n) ≡ gathered f w at n ++ f (at + w * n) ∷ []
 unfolding gathered
@@ -65,27 +65,8 @@ module _ (m : ℕ) (b b′ : List ℕ) (A : Agree m b b′) where
         agree-gathered (savedAt b) (savedAt b′) setWidth m (at + 3) mostSets (omega arith) (λ j k. agree-saved j k),
       )
 
-  agree-stack : (n : ℕ) → frameWidth * n ≤ m → gathered (frameAt b) frameWidth 0 n ≡ gathered (frameAt b′) frameWidth 0 n
-  agree-stack n h = agree-gathered (frameAt b) (frameAt b′) frameWidth m 0 n (omega arith) (λ j k. agree-frame j k)
-
--- as many frames as a stack has
-pub stack-long : (d : ℕ) (f : Frame) (b : List ℕ) → d ≤ most → length (stackOf d f b) ≡ most
-stack-long zero f b h = length-replicate most bareFrame
-stack-long (suc n) f b h =
-    length-append (gathered (frameAt b) frameWidth 0 n) (f ∷ replicate (most - suc n) bareFrame)
-    ∙ omega (arith, length-gathered (frameAt b) frameWidth 0 n, length-replicate (most - suc n) bareFrame)
-
--- the frames below the innermost one, with one more
-stack-push : (n : ℕ) (top f : Frame) (b b′ : List ℕ) → suc n < most → Agree (frameWidth * n) b′ b → frameAt b′ (frameWidth * n) ≡ top →
-    stackOf (suc (suc n)) f b′ ≡ set (stackOf (suc n) top b) (suc n) f
-stack-push n top f b b′ h A e =
-    let xs : List Frame = gathered (frameAt b) frameWidth 0 n in
-    let ys : List Frame = replicate (most - suc (suc n)) bareFrame in
-    let same : gathered (frameAt b′) frameWidth 0 (suc n) ≡ xs ++ top ∷ [] =
-    gathered-snoc (frameAt b′) frameWidth 0 n ∙ ap₂ (λ (l : List Frame) (x : Frame). l ++ x ∷ []) (agree-stack (frameWidth * n) b′ b A n (omega arith)) (ap (frameAt b′) (omega arith) ∙ e) in
-    let r : most - suc n ≡ suc (most - suc (suc n)) = omega arith in
-    let l : length (xs ++ top ∷ []) ≡ suc n = length-append xs (top ∷ []) ∙ omega (arith, length-gathered (frameAt b) frameWidth 0 n) in
-    rw (same, r) (sym (ap (λ (z : List Frame). set z (suc n) f) (sym (append-assoc xs (top ∷ []) (bareFrame ∷ ys))) ∙ set-at (xs ++ top ∷ []) bareFrame ys f (suc n) l))
+  agree-stack : (base n : ℕ) → base + frameWidth * n ≤ m → gathered (frameAt b) frameWidth base n ≡ gathered (frameAt b′) frameWidth base n
+  agree-stack base n h = agree-gathered (frameAt b) (frameAt b′) frameWidth m base n h (λ j k. agree-frame j k)
 
 front-same : (xs ys zs : List ℕ) (i : ℕ) → i < length xs → byteAt (xs ++ ys) i ≡ byteAt (xs ++ zs) i
 front-same [] ys zs i h = absurd (omega arith)
@@ -113,156 +94,181 @@ module _ (b b′ : List ℕ) (at r : ℕ) (f : Frame) (sized : SizedFrame f) (ro
   reads-back : frameAt b′ at ≡ f
   reads-back = ap (λ (l : List ℕ). frameAt l at) written-is ∙ frame-back f sized .same (take at b) past at long-before
 
--- a state reads nothing past the elements around its innermost one
-stack-same : (d : ℕ) (f : Frame) (b b′ : List ℕ) → Agree (frameWidth * (d - 1)) b′ b → stackOf d f b′ ≡ stackOf d f b
-stack-same zero f b b′ A = refl
-stack-same (suc n) f b b′ A =
-    let e : suc n - 1 ≡ n = omega arith in
-    ap (λ (l : List Frame). l ++ f ∷ replicate (most - suc n) bareFrame) (agree-stack (frameWidth * n) b′ b (subst (λ (k : ℕ). Agree (frameWidth * k) b′ b) e A) n (omega arith))
-
-pub full-same : (h : Live) (b b′ : List ℕ) → SameBelow h b b′ → full h b′ ≡ full h b
-full-same h b b′ A = rw (stack-same (h .depth) (h .top) b b′ A)
-
-stack-pushed : (d : ℕ) (top f : Frame) (b b′ : List ℕ) → d < most → (0 < d → Agree (frameWidth * (d - 1)) b′ b) → (0 < d → frameAt b′ (frameWidth * (d - 1)) ≡ top) → stackOf (d + 1) f b′ ≡ set (stackOf d top b) d f
-unfolding gathered
-stack-pushed zero top f b b′ h A e = refl
-stack-pushed (suc n) top f b b′ h A e =
-    let q : suc n - 1 ≡ n = omega arith in
-    rw add-one
-    (stack-push n top f b b′ h (subst (λ (k : ℕ). Agree (frameWidth * k) b′ b) q (A (omega arith))) (subst (λ (k : ℕ). frameAt b′ (frameWidth * k) ≡ top) q (e (omega arith))))
-
-pub push-is : (h : Live) (f : Frame) (b b′ : List ℕ) → h .depth < most → (0 < h .depth → Agree (frameWidth * (h .depth - 1)) b′ b) → (0 < h .depth → frameAt b′ (frameWidth * (h .depth - 1)) ≡ h .top) → length b′ ≡ length b →
-    PushedAs h f b (topIn h (h .rooted) (h .depth + 1) f) b′
-unfolding pushed
-push-is h f b b′ p A e l =
-    record {
-      state = rw (lt-ltb (h .depth) most p, stack-pushed (h .depth) (h .top) f b b′ p A e);
-      as-was = by (h .depth) refl;
-      long = l;
-    }
-  where
-    none-before : (d : ℕ) → d ≡ 0 → Agree (frameWidth * (d - 1)) b′ b
-    none-before d z i q = absurd (omega arith)
-
-    by : (d : ℕ) → h .depth ≡ d → SameBelow h b b′
-    by zero z = none-before (h .depth) z
-    by (suc n) z = A (omega arith)
-
-pub push-first : (h : Live) (f : Frame) (b : List ℕ) → h .depth < most → h .depth ≡ 0 → PushedAs h f b (topIn h (h .rooted) (h .depth + 1) f) b
-push-first h f b p z = push-is h f b b p (λ q. absurd (omega arith)) (λ q. absurd (omega arith)) refl
-
-pub push-next : (h : Live) (f : Frame) (b b′ : List ℕ) (r : ℕ) → h .depth < most → stackWidth ≤ length b → SizedFrame (h .top) → Wrote frameWidth b (frameWidth * (h .depth - 1)) (frameBytes (h .top)) b′ r →
-    PushedAs h f b (topIn h (h .rooted) (h .depth + 1) f) b′
-push-next h f b b′ r p l s w =
-    let room : frameWidth * (h .depth - 1) + frameWidth ≤ length b = omega arith in
-    push-is h f b b′ p (λ q. agree-before b b′ (frameWidth * (h .depth - 1)) r (h .top) s room w) (λ q. reads-back b b′ (frameWidth * (h .depth - 1)) r (h .top) s room w)
-    (ap length (w .left) ∙ put-length true b (frameWidth * (h .depth - 1)) (frameBytes (h .top)))
-
--- the elements after a pop
-take-popped : (n : ℕ) (top : Frame) (b : List ℕ) → take n (stackOf (suc n) top b) ≡ gathered (frameAt b) frameWidth 0 n
-take-popped n top b =
-    ap (λ (k : ℕ). take k (stackOf (suc n) top b)) (sym (length-gathered (frameAt b) frameWidth 0 n)) ∙ take-append-seam (gathered (frameAt b) frameWidth 0 n) (top ∷ replicate (most - suc n) bareFrame)
-
-take-left : (n : ℕ) (b : List ℕ) → take (suc n) (stackOf (suc n) (frameAt b (frameWidth * n)) b) ≡ gathered (frameAt b) frameWidth 0 (suc n)
-take-left n b =
-    let xs : List Frame = gathered (frameAt b) frameWidth 0 n in
-    let f : Frame = frameAt b (frameWidth * n) in
-    let ys : List Frame = replicate (most - suc n) bareFrame in
-    let l : length (xs ++ f ∷ []) ≡ suc n = length-append xs (f ∷ []) ∙ omega (arith, length-gathered (frameAt b) frameWidth 0 n) in
-    ap₂ take (sym l) (sym (append-assoc xs (f ∷ []) ys)) ∙ take-append-seam (xs ++ f ∷ []) ys ∙ sym (gathered-snoc (frameAt b) frameWidth 0 n ∙ ap (λ (k : ℕ). xs ++ frameAt b k ∷ []) (omega arith))
-
--- the frame that a pop reads
-abbrev pub left-top : Live → List ℕ → Frame
-left-top h b = frameAt b (frameWidth * (h .depth - 2))
-
-same-elements : (d : ℕ) (top left : Frame) (b : List ℕ) → 0 < d → (1 < d → left ≡ frameAt b (frameWidth * (d - 2))) → take (d - 1) (stackOf (d - 1) left b) ≡ take (d - 1) (stackOf d top b)
-same-elements zero top left b p e = absurd (omega arith)
-same-elements (suc zero) top left b p e = refl
-same-elements (suc (suc n)) top left b p e =
-    let q : suc (suc n) - 1 ≡ suc n = omega arith in
-    let q′ : suc (suc n) - 2 ≡ n = omega arith in
-    let x : left ≡ frameAt b (frameWidth * n) = e (omega arith) ∙ ap (λ (k : ℕ). frameAt b (frameWidth * k)) q′ in
-    rw (q, x) (take-left n b ∙ sym (take-popped (suc n) top b))
-
-pub pop-is : (h : Live) (b : List ℕ) (left : Frame) → 0 < h .depth → h .depth ≤ most → (1 < h .depth → left ≡ left-top h b) →
-    PoppedAs h b (topIn h (cond (eqb (h .depth) 0) (h .rooted) (cond (eqb (h .depth) 1) true (h .rooted))) (h .depth - 1) left)
-unfolding popped meaningOf
-pop-is h b left p q e =
-    let t = same-elements (h .depth) (h .top) left b p e in
-    let z : eqb (h .depth) 0 ≡ false = ne-eqb (h .depth) 0 (λ x. omega arith) in
-    record {
-      is = refl;
-      means = λ _. rw (z, t);
-      shaped = λ _ s.
-          let w = shaped-popped (full h b) s p in
-          record {
-            deep = omega arith;
-            frames = stack-long (h .depth - 1) left b (omega arith);
-            fits = rw t (fits-of w z);
-          };
-    }
-  where
-    fits-of : Shaped (popped (full h b)) → eqb (h .depth) 0 ≡ false → All Fits (take (h .depth - 1) (stackOf (h .depth) (h .top) b))
-    fits-of w z = subst (λ (x : Bool). All Fits (take (cond x (full h b) (record { values = h .values; echo = h .echo; count = h .count; rooted = cond (eqb (h .depth) 1) true (h .rooted); closed = h .closed; depth = h .depth - 1; frames = stackOf (h .depth) (h .top) b }) .depth) (cond x (full h b) (record { values = h .values; echo = h .echo; count = h .count; rooted = cond (eqb (h .depth) 1) true (h .rooted); closed = h .closed; depth = h .depth - 1; frames = stackOf (h .depth) (h .top) b }) .frames))) z (w .fits)
-
-pub pop-none : (h : Live) (b : List ℕ) → h .depth ≡ 0 → PoppedAs h b h
-pop-none h b z =
-    record {
-      is = let d : h .depth ≡ h .depth - 1 = omega arith in let x : eqb (h .depth) 0 ≡ true = rw z in rw x (ap (λ (k : ℕ). topIn h (h .rooted) k (h .top)) d);
-      means = λ p. absurd (omega arith);
-      shaped = λ p. absurd (omega arith);
-    }
-
-pub pop-root : (h : Live) (b : List ℕ) → h .depth ≡ 1 → PoppedAs h b (topIn h true (h .depth - 1) (h .top))
-pop-root h b z =
-    let x : cond (eqb (h .depth) 0) (h .rooted) (cond (eqb (h .depth) 1) true (h .rooted)) ≡ true = rw z in
-    subst (λ (r : Bool). PoppedAs h b (topIn h r (h .depth - 1) (h .top))) x (pop-is h b (h .top) (omega arith) (omega arith) (λ q. absurd (omega arith)))
-
-pub pop-inner : (h : Live) (b : List ℕ) (left : Frame) → (h .depth ≡ 0 → ⊥) → (h .depth ≡ 1 → ⊥) → h .depth ≤ most → left ≡ left-top h b → PoppedAs h b (topIn h (h .rooted) (h .depth - 1) left)
-pop-inner h b left p q l e =
-    let x : cond (eqb (h .depth) 0) (h .rooted) (cond (eqb (h .depth) 1) true (h .rooted)) ≡ h .rooted = rw (ne-eqb (h .depth) 0 p, ne-eqb (h .depth) 1 q) in
-    subst (λ (r : Bool). PoppedAs h b (topIn h r (h .depth - 1) left)) x (pop-is h b left (omega arith) l (λ _. e))
-
--- changes of the innermost element
-stack-put : (d : ℕ) (f g : Frame) (b : List ℕ) → stackOf d g b ≡ putLast (stackOf d f b) d g
-stack-put zero f g b = refl
-stack-put (suc n) f g b =
-    let xs : List Frame = gathered (frameAt b) frameWidth 0 n in
-    let ys : List Frame = replicate (most - suc n) bareFrame in
-    sym (ap (λ (k : ℕ). set (xs ++ f ∷ ys) k g) (sym (length-gathered (frameAt b) frameWidth 0 n)) ∙ set-append-seam xs f ys g)
-
-stack-top : (d : ℕ) (f : Frame) (b : List ℕ) → 0 < d → lastOf bareFrame (stackOf d f b) d ≡ f
-stack-top zero f b p = absurd (omega arith)
-stack-top (suc n) f b p =
-    let xs : List Frame = gathered (frameAt b) frameWidth 0 n in
-    let ys : List Frame = replicate (most - suc n) bareFrame in
-    ap (λ (k : ℕ). getD (xs ++ f ∷ ys) k bareFrame) (sym (length-gathered (frameAt b) frameWidth 0 n)) ∙ getD-append-seam xs f ys bareFrame
-
-pub top-full : (h : Live) (b : List ℕ) → 0 < h .depth → topOf (full h b) ≡ h .top
-top-full h b p = stack-top (h .depth) (h .top) b p
-
--- of any depth: where no element is open neither side changes anything
-stack-changed : (c : Frame → Frame) (d : ℕ) (f : Frame) (b : List ℕ) → stackOf d (c f) b ≡ putLast (stackOf d f b) d (c (lastOf bareFrame (stackOf d f b) d))
-stack-changed c zero f b = refl
-stack-changed c (suc n) f b = stack-put (suc n) f (c f) b ∙ ap (λ (g : Frame). putLast (stackOf (suc n) f b) (suc n) (c g)) (sym (stack-top (suc n) f b (omega arith)))
-
 with-frames : (h : Live) (l m : List Frame) → l ≡ m →
     _≡_ {A = State} (record { values = h .values; echo = h .echo; count = h .count; rooted = h .rooted; closed = h .closed; depth = h .depth; frames = l })
     (record { values = h .values; echo = h .echo; count = h .count; rooted = h .rooted; closed = h .closed; depth = h .depth; frames = m })
 with-frames h l m e = ap (λ (x : List Frame). record { values = h .values; echo = h .echo; count = h .count; rooted = h .rooted; closed = h .closed; depth = h .depth; frames = x }) e
 
+module _ (base : ℕ) where
+  -- as many frames as a stack has
+  pub stack-long : (d : ℕ) (f : Frame) (b : List ℕ) → d ≤ most → length (stackAt base d f b) ≡ most
+  stack-long zero f b h = length-replicate most bareFrame
+  stack-long (suc n) f b h =
+      length-append (gathered (frameAt b) frameWidth base n) (f ∷ replicate (most - suc n) bareFrame)
+      ∙ omega (arith, length-gathered (frameAt b) frameWidth base n, length-replicate (most - suc n) bareFrame)
+
+  -- the frames below the innermost one, with one more
+  stack-push : (n : ℕ) (top f : Frame) (b b′ : List ℕ) → suc n < most → Agree (base + frameWidth * n) b′ b → frameAt b′ (base + frameWidth * n) ≡ top →
+      stackAt base (suc (suc n)) f b′ ≡ set (stackAt base (suc n) top b) (suc n) f
+  stack-push n top f b b′ h A e =
+      let xs : List Frame = gathered (frameAt b) frameWidth base n in
+      let ys : List Frame = replicate (most - suc (suc n)) bareFrame in
+      let same : gathered (frameAt b′) frameWidth base (suc n) ≡ xs ++ top ∷ [] =
+      gathered-snoc (frameAt b′) frameWidth base n ∙ ap₂ (λ (l : List Frame) (x : Frame). l ++ x ∷ []) (agree-stack (base + frameWidth * n) b′ b A base n (omega arith)) e in
+      let r : most - suc n ≡ suc (most - suc (suc n)) = omega arith in
+      let l : length (xs ++ top ∷ []) ≡ suc n = length-append xs (top ∷ []) ∙ omega (arith, length-gathered (frameAt b) frameWidth base n) in
+      rw (same, r) (sym (ap (λ (z : List Frame). set z (suc n) f) (sym (append-assoc xs (top ∷ []) (bareFrame ∷ ys))) ∙ set-at (xs ++ top ∷ []) bareFrame ys f (suc n) l))
+
+  -- a state reads nothing past the elements around its innermost one
+  stack-same : (d : ℕ) (f : Frame) (b b′ : List ℕ) → Agree (base + frameWidth * (d - 1)) b′ b → stackAt base d f b′ ≡ stackAt base d f b
+  stack-same zero f b b′ A = refl
+  stack-same (suc n) f b b′ A =
+      let e : suc n - 1 ≡ n = omega arith in
+      ap (λ (l : List Frame). l ++ f ∷ replicate (most - suc n) bareFrame) (agree-stack (base + frameWidth * n) b′ b (subst (λ (k : ℕ). Agree (base + frameWidth * k) b′ b) e A) base n (omega arith))
+
+  full-same-at : (h : Live) (b b′ : List ℕ) → SameBelowAt base h b b′ → fullAt base h b′ ≡ fullAt base h b
+  full-same-at h b b′ A = rw (stack-same (h .depth) (h .top) b b′ A)
+
+  stack-pushed : (d : ℕ) (top f : Frame) (b b′ : List ℕ) → d < most → (0 < d → Agree (base + frameWidth * (d - 1)) b′ b) → (0 < d → frameAt b′ (base + frameWidth * (d - 1)) ≡ top) → stackAt base (d + 1) f b′ ≡ set (stackAt base d top b) d f
+  unfolding gathered
+  stack-pushed zero top f b b′ h A e = refl
+  stack-pushed (suc n) top f b b′ h A e =
+      let q : suc n - 1 ≡ n = omega arith in
+      rw add-one
+      (stack-push n top f b b′ h (subst (λ (k : ℕ). Agree (base + frameWidth * k) b′ b) q (A (omega arith))) (subst (λ (k : ℕ). frameAt b′ (base + frameWidth * k) ≡ top) q (e (omega arith))))
+
+  push-is : (h : Live) (f : Frame) (b b′ : List ℕ) → h .depth < most → Agree (base + frameWidth * (h .depth - 1)) b′ b →
+      (0 < h .depth → frameAt b′ (base + frameWidth * (h .depth - 1)) ≡ h .top) → length b′ ≡ length b → PushedAs base h f b (topIn h (h .rooted) (h .depth + 1) f) b′
+  unfolding pushed
+  push-is h f b b′ p A e l =
+      record { state = rw (lt-ltb (h .depth) most p, stack-pushed (h .depth) (h .top) f b b′ p (λ q. A) e); as-was = A; long = l }
+
+  pub push-first : (h : Live) (f : Frame) (b : List ℕ) → h .depth < most → h .depth ≡ 0 → PushedAs base h f b (topIn h (h .rooted) (h .depth + 1) f) b
+  push-first h f b p z = push-is h f b b p (λ i q. refl) (λ q. absurd (omega arith)) refl
+
+  pub push-next : (h : Live) (f : Frame) (b b′ : List ℕ) (r : ℕ) → h .depth < most → base + stackWidth ≤ length b → SizedFrame (h .top) → Wrote frameWidth b (base + frameWidth * (h .depth - 1)) (frameBytes (h .top)) b′ r →
+      PushedAs base h f b (topIn h (h .rooted) (h .depth + 1) f) b′
+  push-next h f b b′ r p l s w =
+      let room : base + frameWidth * (h .depth - 1) + frameWidth ≤ length b = omega arith in
+      push-is h f b b′ p (agree-before b b′ (base + frameWidth * (h .depth - 1)) r (h .top) s room w) (λ q. reads-back b b′ (base + frameWidth * (h .depth - 1)) r (h .top) s room w)
+      (ap length (w .left) ∙ put-length true b (base + frameWidth * (h .depth - 1)) (frameBytes (h .top)))
+
+  -- the elements after a pop
+  take-popped : (n : ℕ) (top : Frame) (b : List ℕ) → take n (stackAt base (suc n) top b) ≡ gathered (frameAt b) frameWidth base n
+  take-popped n top b =
+      ap (λ (k : ℕ). take k (stackAt base (suc n) top b)) (sym (length-gathered (frameAt b) frameWidth base n)) ∙ take-append-seam (gathered (frameAt b) frameWidth base n) (top ∷ replicate (most - suc n) bareFrame)
+
+  take-left : (n : ℕ) (b : List ℕ) → take (suc n) (stackAt base (suc n) (frameAt b (base + frameWidth * n)) b) ≡ gathered (frameAt b) frameWidth base (suc n)
+  take-left n b =
+      let xs : List Frame = gathered (frameAt b) frameWidth base n in
+      let f : Frame = frameAt b (base + frameWidth * n) in
+      let ys : List Frame = replicate (most - suc n) bareFrame in
+      let l : length (xs ++ f ∷ []) ≡ suc n = length-append xs (f ∷ []) ∙ omega (arith, length-gathered (frameAt b) frameWidth base n) in
+      ap₂ take (sym l) (sym (append-assoc xs (f ∷ []) ys)) ∙ take-append-seam (xs ++ f ∷ []) ys ∙ sym (gathered-snoc (frameAt b) frameWidth base n)
+
+  -- the frame that a pop reads
+  abbrev pub left-top : Live → List ℕ → Frame
+  left-top h b = frameAt b (base + frameWidth * (h .depth - 2))
+
+  same-elements : (d : ℕ) (top left : Frame) (b : List ℕ) → 0 < d → (1 < d → left ≡ frameAt b (base + frameWidth * (d - 2))) → take (d - 1) (stackAt base (d - 1) left b) ≡ take (d - 1) (stackAt base d top b)
+  same-elements zero top left b p e = absurd (omega arith)
+  same-elements (suc zero) top left b p e = refl
+  same-elements (suc (suc n)) top left b p e =
+      let q : suc (suc n) - 1 ≡ suc n = omega arith in
+      let q′ : suc (suc n) - 2 ≡ n = omega arith in
+      let x : left ≡ frameAt b (base + frameWidth * n) = e (omega arith) ∙ ap (λ (k : ℕ). frameAt b (base + frameWidth * k)) q′ in
+      rw (q, x) (take-left n b ∙ sym (take-popped (suc n) top b))
+
+  pub pop-is : (h : Live) (b : List ℕ) (left : Frame) → 0 < h .depth → h .depth ≤ most → (1 < h .depth → left ≡ left-top h b) →
+      PoppedAs base h b (topIn h (cond (eqb (h .depth) 0) (h .rooted) (cond (eqb (h .depth) 1) true (h .rooted))) (h .depth - 1) left)
+  unfolding popped meaningOf
+  pop-is h b left p q e =
+      let t = same-elements (h .depth) (h .top) left b p e in
+      let z : eqb (h .depth) 0 ≡ false = ne-eqb (h .depth) 0 (λ x. omega arith) in
+      record {
+        is = refl;
+        means = λ _. rw (z, t);
+        shaped = λ _ s.
+            let w = shaped-popped (fullAt base h b) s p in
+            record {
+              deep = omega arith;
+              frames = stack-long (h .depth - 1) left b (omega arith);
+              fits = rw t (fits-of w z);
+            };
+      }
+    where
+      fits-of : Shaped (popped (fullAt base h b)) → eqb (h .depth) 0 ≡ false → All Fits (take (h .depth - 1) (stackAt base (h .depth) (h .top) b))
+      fits-of w z = subst (λ (x : Bool). All Fits (take (cond x (fullAt base h b) (record { values = h .values; echo = h .echo; count = h .count; rooted = cond (eqb (h .depth) 1) true (h .rooted); closed = h .closed; depth = h .depth - 1; frames = stackAt base (h .depth) (h .top) b }) .depth) (cond x (fullAt base h b) (record { values = h .values; echo = h .echo; count = h .count; rooted = cond (eqb (h .depth) 1) true (h .rooted); closed = h .closed; depth = h .depth - 1; frames = stackAt base (h .depth) (h .top) b }) .frames))) z (w .fits)
+
+  pub pop-none : (h : Live) (b : List ℕ) → h .depth ≡ 0 → PoppedAs base h b h
+  pop-none h b z =
+      record {
+        is = let d : h .depth ≡ h .depth - 1 = omega arith in let x : eqb (h .depth) 0 ≡ true = rw z in rw x (ap (λ (k : ℕ). topIn h (h .rooted) k (h .top)) d);
+        means = λ p. absurd (omega arith);
+        shaped = λ p. absurd (omega arith);
+      }
+
+  pub pop-root : (h : Live) (b : List ℕ) → h .depth ≡ 1 → PoppedAs base h b (topIn h true (h .depth - 1) (h .top))
+  pop-root h b z =
+      let x : cond (eqb (h .depth) 0) (h .rooted) (cond (eqb (h .depth) 1) true (h .rooted)) ≡ true = rw z in
+      subst (λ (r : Bool). PoppedAs base h b (topIn h r (h .depth - 1) (h .top))) x (pop-is h b (h .top) (omega arith) (omega arith) (λ q. absurd (omega arith)))
+
+  pub pop-inner : (h : Live) (b : List ℕ) (left : Frame) → (h .depth ≡ 0 → ⊥) → (h .depth ≡ 1 → ⊥) → h .depth ≤ most → left ≡ left-top h b → PoppedAs base h b (topIn h (h .rooted) (h .depth - 1) left)
+  pop-inner h b left p q l e =
+      let x : cond (eqb (h .depth) 0) (h .rooted) (cond (eqb (h .depth) 1) true (h .rooted)) ≡ h .rooted = rw (ne-eqb (h .depth) 0 p, ne-eqb (h .depth) 1 q) in
+      subst (λ (r : Bool). PoppedAs base h b (topIn h r (h .depth - 1) left)) x (pop-is h b left (omega arith) l (λ _. e))
+
+  -- changes of the innermost element
+  stack-put : (d : ℕ) (f g : Frame) (b : List ℕ) → stackAt base d g b ≡ putLast (stackAt base d f b) d g
+  stack-put zero f g b = refl
+  stack-put (suc n) f g b =
+      let xs : List Frame = gathered (frameAt b) frameWidth base n in
+      let ys : List Frame = replicate (most - suc n) bareFrame in
+      sym (ap (λ (k : ℕ). set (xs ++ f ∷ ys) k g) (sym (length-gathered (frameAt b) frameWidth base n)) ∙ set-append-seam xs f ys g)
+
+  stack-top : (d : ℕ) (f : Frame) (b : List ℕ) → 0 < d → lastOf bareFrame (stackAt base d f b) d ≡ f
+  stack-top zero f b p = absurd (omega arith)
+  stack-top (suc n) f b p =
+      let xs : List Frame = gathered (frameAt b) frameWidth base n in
+      let ys : List Frame = replicate (most - suc n) bareFrame in
+      ap (λ (k : ℕ). getD (xs ++ f ∷ ys) k bareFrame) (sym (length-gathered (frameAt b) frameWidth base n)) ∙ getD-append-seam xs f ys bareFrame
+
+  top-full-at : (h : Live) (b : List ℕ) → 0 < h .depth → topOf (fullAt base h b) ≡ h .top
+  top-full-at h b p = stack-top (h .depth) (h .top) b p
+
+  -- of any depth: where no element is open neither side changes anything
+  stack-changed : (c : Frame → Frame) (d : ℕ) (f : Frame) (b : List ℕ) → stackAt base d (c f) b ≡ putLast (stackAt base d f b) d (c (lastOf bareFrame (stackAt base d f b) d))
+  stack-changed c zero f b = refl
+  stack-changed c (suc n) f b = stack-put (suc n) f (c f) b ∙ ap (λ (g : Frame). putLast (stackAt base (suc n) f b) (suc n) (c g)) (sym (stack-top (suc n) f b (omega arith)))
+
+  full-kept-at : (h : Live) (k : Saved) (b : List ℕ) → fullAt base (keptIn h k) b ≡ saving (fullAt base h b) k
+  full-kept-at h k b = with-frames h _ _ (stack-changed (λ f. keeping f k) (h .depth) (h .top) b)
+
+  full-placed-at : (h : Live) (p : ℕ) (b : List ℕ) → fullAt base (placedIn h p) b ≡ placed (fullAt base h b) p
+  full-placed-at h p b = with-frames h _ _ (stack-changed (λ f. atPlace f p) (h .depth) (h .top) b)
+
+  last-kept : (d : ℕ) (f : Frame) (b : List ℕ) → cond (eqb d 0) bareSaved (lastSet f) ≡ lastSet (lastOf bareFrame (stackAt base d f b) d)
+  unfolding bareFrame
+  last-kept zero f b = refl
+  last-kept (suc n) f b = rw (ne-eqb (suc n) 0 (λ e. omega arith)) (ap lastSet (sym (stack-top (suc n) f b (omega arith))))
+
+  full-restored-at : (h : Live) (r : Restored) (b : List ℕ) → RestoredIn h r → record { saved = r .saved; state = fullAt base (r .live) b } ≡ restored (fullAt base h b)
+  full-restored-at h r b R =
+      ap₂ (λ (k : Saved) (z : State). record { saved = k; state = z }) (R .saved ∙ last-kept (h .depth) (h .top) b)
+      (ap (λ (l : Live). fullAt base l b) (R .live) ∙ with-frames h _ _ (stack-changed withoutLast (h .depth) (h .top) b))
+
+-- the same of a run's own stack
+pub full-same : (h : Live) (b b′ : List ℕ) → SameBelow h b b′ → full h b′ ≡ full h b
+full-same h b b′ A = full-same-at 0 h b b′ A
+
+pub top-full : (h : Live) (b : List ℕ) → 0 < h .depth → topOf (full h b) ≡ h .top
+top-full h b p = top-full-at 0 h b p
+
 pub full-kept : (h : Live) (k : Saved) (b : List ℕ) → full (keptIn h k) b ≡ saving (full h b) k
-full-kept h k b = with-frames h _ _ (stack-changed (λ f. keeping f k) (h .depth) (h .top) b)
+full-kept h k b = full-kept-at 0 h k b
 
 pub full-placed : (h : Live) (p : ℕ) (b : List ℕ) → full (placedIn h p) b ≡ placed (full h b) p
-full-placed h p b = with-frames h _ _ (stack-changed (λ f. atPlace f p) (h .depth) (h .top) b)
-
-last-kept : (d : ℕ) (f : Frame) (b : List ℕ) → cond (eqb d 0) bareSaved (lastSet f) ≡ lastSet (lastOf bareFrame (stackOf d f b) d)
-unfolding bareFrame
-last-kept zero f b = refl
-last-kept (suc n) f b = rw (ne-eqb (suc n) 0 (λ e. omega arith)) (ap lastSet (sym (stack-top (suc n) f b (omega arith))))
+full-placed h p b = full-placed-at 0 h p b
 
 pub full-restored : (h : Live) (r : Restored) (b : List ℕ) → RestoredIn h r → record { saved = r .saved; state = full (r .live) b } ≡ restored (full h b)
-full-restored h r b R =
-    ap₂ (λ (k : Saved) (z : State). record { saved = k; state = z }) (R .saved ∙ last-kept (h .depth) (h .top) b)
-    (ap (λ (l : Live). full l b) (R .live) ∙ with-frames h _ _ (stack-changed withoutLast (h .depth) (h .top) b))
+full-restored h r b R = full-restored-at 0 h r b R

@@ -17,14 +17,14 @@ use Rattle.state.specs.Meaning.{meaningOf, Shaped}
 use Rattle.live.specs.declared.Live.{Live}
 use Rattle.live.specs.declared.Restored.{Restored}
 
--- all frames: those around the innermost element as they lie in the stack, the root's first, then the innermost one; none past it is in use
-abbrev pub stackOf : ℕ → Frame → List ℕ → List Frame
-stackOf zero f b = replicate most bareFrame
-stackOf (suc n) f b = gathered (frameAt b) frameWidth 0 n ++ f ∷ replicate (most - suc n) bareFrame
+-- all frames: those around the innermost element as they lie in the stack, the root's first, at `base` and up; then the innermost one; none past it is in use
+abbrev pub stackAt : ℕ → ℕ → Frame → List ℕ → List Frame
+stackAt base zero f b = replicate most bareFrame
+stackAt base (suc n) f b = gathered (frameAt b) frameWidth base n ++ f ∷ replicate (most - suc n) bareFrame
 
--- the state that the live part h and the stack's bytes b are
-abbrev pub full : Live → List ℕ → State
-full h b =
+-- the state that the live part h and the stack's bytes b are, where its frames begin at `base`; and at 0, as a run has them
+abbrev pub fullAt : ℕ → Live → List ℕ → State
+fullAt base h b =
     record {
       values = h .values;
       echo = h .echo;
@@ -32,8 +32,11 @@ full h b =
       rooted = h .rooted;
       closed = h .closed;
       depth = h .depth;
-      frames = stackOf (h .depth) (h .top) b;
+      frames = stackAt base (h .depth) (h .top) b;
     }
+
+abbrev pub full : Live → List ℕ → State
+full h b = fullAt 0 h b
 
 -- another innermost element, at another depth; other attributes
 abbrev pub topIn : Live → Bool → ℕ → Frame → Live
@@ -54,21 +57,21 @@ pub record RestoredIn (h : Live) (r : Restored) : Type 0 where
   pub saved : r .saved ≡ cond (eqb (h .depth) 0) bareSaved (lastSet (h .top))
   pub live : r .live ≡ topIn h (h .rooted) (h .depth) (withoutLast (h .top))
 
--- the stack's bytes that the state h reads: those of the elements around its innermost one
-abbrev pub inUse : Live → ℕ
-inUse h = frameWidth * (h .depth - 1)
+-- the stack's bytes below the end of those that the state h reads: those of the elements around its innermost one, and all before `base`
+abbrev pub SameBelowAt : ℕ → Live → List ℕ → List ℕ → Type 0
+SameBelowAt base h b b′ = (i : ℕ) → i < base + frameWidth * (h .depth - 1) → byteAt b′ i ≡ byteAt b i
 
 abbrev pub SameBelow : Live → List ℕ → List ℕ → Type 0
-SameBelow h b b′ = (i : ℕ) → i < inUse h → byteAt b′ i ≡ byteAt b i
+SameBelow h b b′ = SameBelowAt 0 h b b′
 
--- a push: the state is the one with the new element, and what the state before it reads of the stack is as it was
-pub record PushedAs (h : Live) (f : Frame) (b : List ℕ) (r : Live) (b′ : List ℕ) : Type 0 where
-  pub state : full r b′ ≡ pushed (full h b) f .state
-  pub as-was : SameBelow h b b′
+-- a push: the state is the one with the new element, and what the state before it reads of the stack, and all before that, is as it was
+pub record PushedAs (base : ℕ) (h : Live) (f : Frame) (b : List ℕ) (r : Live) (b′ : List ℕ) : Type 0 where
+  pub state : fullAt base r b′ ≡ pushed (fullAt base h b) f .state
+  pub as-was : SameBelowAt base h b b′
   pub long : length b′ ≡ length b
 
 -- a pop: the state stands for the run with the innermost element off
-pub record PoppedAs (h : Live) (b : List ℕ) (r : Live) : Type 0 where
+pub record PoppedAs (base : ℕ) (h : Live) (b : List ℕ) (r : Live) : Type 0 where
   pub is : r ≡ topIn h (cond (eqb (h .depth) 0) (h .rooted) (cond (eqb (h .depth) 1) true (h .rooted))) (h .depth - 1) (r .top)
-  pub means : 0 < h .depth → meaningOf (full r b) ≡ meaningOf (popped (full h b))
-  pub shaped : 0 < h .depth → Shaped (full h b) → Shaped (full r b)
+  pub means : 0 < h .depth → meaningOf (fullAt base r b) ≡ meaningOf (popped (fullAt base h b))
+  pub shaped : 0 < h .depth → Shaped (fullAt base h b) → Shaped (fullAt base r b)

@@ -1,6 +1,6 @@
 // The live part of a state: all that a token can change, by value. The elements around the innermost one lie in lent memory, and are touched by a push and a pop alone.
 ghost use mathlib.Core.Path.{_≡_};
-ghost use Prim.Native.Nat.{_≤_, _<_};
+ghost use Prim.Native.Nat.{_+_, _≤_, _<_, _^_};
 ghost use lib.ListN.{length};
 ghost use Rattle.runs.specs.Machine.{most};
 ghost use Rattle.state.specs.Bounds.{stackWidth};
@@ -38,11 +38,11 @@ impl Live {
         self.top
     }
 
-    // A new innermost element. The one that it stands in is put where it lies in the stack.
-    pub fn push(self, f: Frame, stack: &mut [u8]) -> Live
+    // A new innermost element. The one that it stands in is put where it lies in the stack, whose frames begin at `base`.
+    pub fn push(self, f: Frame, stack: &mut [u8], base: usize) -> Live
         requires { ⌜ self .depth < most ⌝ }
-        requires { ⌜ stackWidth ≤ length (now stack) ⌝ }
-        ensures { λ r. ⌜ PushedAs self f (now (stack .entry)) r (now (stack .exit)) ⌝ }
+        requires { ⌜ base + stackWidth ≤ length (now stack) ⌝ }
+        ensures { λ r. ⌜ PushedAs base self f (now (stack .entry)) r (now (stack .exit)) ⌝ }
     {
         let d = self.depth;
         let outer = self.top;
@@ -52,14 +52,15 @@ impl Live {
         if d == 0 {
             return next;
         }
-        put_frame(stack, Frame::BYTES * (d - 1), outer);
+        put_frame(stack, base + Frame::BYTES * (d - 1), outer);
         next
     }
 
     // The innermost element is closed. The one that it stood in is read from the stack.
-    pub fn pop(self, stack: &[u8]) -> Live
+    pub fn pop(self, stack: &[u8], base: usize) -> Live
         requires { ⌜ self .depth ≤ most ⌝ }
-        ensures { λ r. ⌜ PoppedAs self (now (stack .entry)) r ⌝ }
+        requires { ⌜ base + stackWidth < 2 ^ 64 ⌝ }
+        ensures { λ r. ⌜ PoppedAs base self (now (stack .entry)) r ⌝ }
     {
         let d = self.depth;
         if d == 0 {
@@ -71,7 +72,7 @@ impl Live {
             next.rooted = true;
             return next;
         }
-        next.top = frame_at(stack, Frame::BYTES * (d - 2));
+        next.top = frame_at(stack, base + Frame::BYTES * (d - 2));
         next
     }
 

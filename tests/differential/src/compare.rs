@@ -59,7 +59,7 @@ impl Compare {
         self.count("fresh", fits as u8);
         let right = if fits {
             let (state, rest) = said.area.split_at(LENGTH);
-            said.answer == LENGTH as u64 && same_state(&State::fresh(), state) && rest.iter().all(|&b| b == fill)
+            said.answer == LENGTH as u64 && state == State::fresh().write() && rest.iter().all(|&b| b == fill)
         } else {
             said.answer == 0 && said.area.iter().all(|&b| b == fill)
         };
@@ -120,19 +120,9 @@ fn difference(call: &Call, said: &Said, given: &[u8], fill: u8) -> Option<&'stat
     }
     let state_is_right = match &call.state {
         None => said.area == given,
-        Some(state) => same_state(state, &said.area),
+        Some(state) => said.area == state.write(),
     };
     (!state_is_right).then_some("the state")
-}
-
-/// Whether the bytes hold the state, in all that is in use: the flag of the closed root only with no element open, the frames of the
-/// open elements, and of each of them the sets in use.
-fn same_state(state: &State, bytes: &[u8]) -> bool {
-    let expected = state.write();
-    let unused_flag = if state.stack.is_empty() { None } else { Some(13) };
-    let head = (0..23).filter(|&i| Some(i) != unused_flag);
-    let frames = state.stack.iter().enumerate().flat_map(|(i, frame)| (0..3 + 5 * frame.sets.len()).map(move |k| 23 + 68 * i + k));
-    bytes.len() == LENGTH && head.chain(frames).all(|i| bytes[i] == expected[i])
 }
 
 fn show(answer: u64) -> String {

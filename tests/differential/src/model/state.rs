@@ -67,11 +67,12 @@ impl State {
         })
     }
 
+    /// The one form in which a state is handed back: what is not in use is 0 (docs/DECISIONS.md 6.4).
     pub fn write(&self) -> Vec<u8> {
         let mut bytes = self.attributes.to_vec();
         bytes.push(self.echo as u8);
         bytes.extend(self.visits.to_le_bytes());
-        bytes.push(self.rooted as u8);
+        bytes.push((self.rooted && self.stack.is_empty()) as u8);
         bytes.push(self.closing);
         bytes.extend((self.stack.len() as u64).to_le_bytes());
         for frame in &self.stack {

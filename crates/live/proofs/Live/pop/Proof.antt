@@ -10,7 +10,7 @@ use Rattle.state.proofs.bytes.frame_at.Reads as frame-at-reads
 
 -- src/lib.rt:56:13
 returns : tie.Need-returns
-returns c = let b = c .before .before in pop-none (b .args .self) (b .args .stack .now) (c .if1 .taken)
+returns c = let b = c .before .before in pop-none (b .args .base) (b .args .self) (b .args .stack .now) (c .if1 .taken)
 
 -- src/lib.rt:59:22
 sub-next : tie.Need-sub-next
@@ -18,7 +18,7 @@ sub-next c = search needs
 
 -- src/lib.rt:62:13
 returns-2 : tie.Need-returns-2
-returns-2 c = let b = c .before .before .before in pop-root (b .args .self) (b .args .stack .now) (c .if2 .taken)
+returns-2 c = let b = c .before .before .before in pop-root (b .args .base) (b .args .self) (b .args .stack .now) (c .if2 .taken)
 
 -- src/lib.rt:64:51
 sub-frame-at : tie.Need-sub-frame-at
@@ -29,14 +29,17 @@ mul-frame-at : tie.Need-mul-frame-at
 mul-frame-at c = search needs
 
 -- src/lib.rt:64:9
+add-frame-at : tie.Need-add-frame-at
+add-frame-at c = search needs
+
 frame-at-requires : tie.Need-frame-at-requires
 frame-at-requires c κs = search needs
 
 -- src/lib.rt:50:5
 returns-3 : tie.Need-returns-3
-returns-3 c = let b = c .before .before .before .before in pop-inner (b .args .self) (b .args .stack .now) _ (c .before .before .if1 .left) (c .before .if2 .left) (b .pre) (c .frame-at .ensures)
+returns-3 c = let b = c .before .before .before .before in pop-inner (b .args .base) (b .args .self) (b .args .stack .now) _ (c .before .before .if1 .left) (c .before .if2 .left) (b .pre .0) (c .frame-at .ensures)
 
 pub pop-spec : {M : Type 1} → statement M
 pop-spec =
     tie.close
-    (tie.spec returns sub-next returns-2 sub-frame-at mul-frame-at frame-at-requires returns-3)
+    (tie.spec returns sub-next returns-2 sub-frame-at mul-frame-at add-frame-at frame-at-requires returns-3)

@@ -15,7 +15,7 @@ add-next c = search needs
 
 -- src/lib.rt:43:13
 returns : tie.Need-returns
-returns c = let b = c .before .before .before in push-first (b .args .self) (b .args .f) (b .args .stack .now) (b .pre .0) (c .if1 .taken)
+returns c = let b = c .before .before .before in push-first (b .args .base) (b .args .self) (b .args .f) (b .args .stack .now) (b .pre .0) (c .if1 .taken)
 
 -- src/lib.rt:45:41
 sub-put-frame : tie.Need-sub-put-frame
@@ -26,6 +26,9 @@ mul-put-frame : tie.Need-mul-put-frame
 mul-put-frame c = search needs
 
 -- src/lib.rt:45:9
+add-put-frame : tie.Need-add-put-frame
+add-put-frame c = search needs
+
 put-frame-requires : tie.Need-put-frame-requires
 put-frame-requires c κs = search needs
 
@@ -38,7 +41,7 @@ returns-2 : tie.Need-returns-2
 returns-2 c =
     let k = c .before .before in
     let b = k .before .before .before .before .before in
-    push-next (b .args .self) (b .args .f) (b .args .stack .now) _ _ (b .pre .0) (b .pre .1) (frame-sized (b .args .self .top) _ (b .good .0 .1 .1 .1 .1 .1 .1 .1 .1 .0)) (k .put-frame .ensures)
+    push-next (b .args .base) (b .args .self) (b .args .f) (b .args .stack .now) _ _ (b .pre .0) (b .pre .1) (frame-sized (b .args .self .top) _ (b .good .0 .1 .1 .1 .1 .1 .1 .1 .1 .0)) (k .put-frame .ensures)
 
 pub push-spec : {M : Type 1} → statement M
 push-spec =
@@ -48,6 +51,7 @@ push-spec =
     returns
     sub-put-frame
     mul-put-frame
+    add-put-frame
     put-frame-requires
     same-length
     returns-2)

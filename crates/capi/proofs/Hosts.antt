@@ -1,0 +1,79 @@
+-- For hosts in C, end to end: a stream fed to wickpollen_run in whatever parts and rooms, from the bytes that wickpollen_fresh writes, is answered with 0 in the
+-- end exactly when it is accepted and its output has room in all that is lent; and then all is as the tree says.
+-- Assumes nothing.
+use mathlib.Core.Path.{_≡_, refl, sym, ap, ap₂, _∙_, subst}
+use mathlib.Core.Logic.{_↔_}
+use mathlib.Core.Bool.{Bool, true, false, not}
+use mathlib.Core.List.{List, _++_}
+use Prim.Native.Nat.{ℕ, _<_, _≤_}
+use native.Mathlib.Omega.{arith}
+use lib.Dec.{eqb}
+use lib.ListN.{length, take, drop, getD}
+use lib.Seq.{take-at}
+use Rattle.sheet.specs.Sheet.{Sheet, IsSheet}
+use Rattle.output.specs.Escape.{render}
+use Rattle.runs.specs.Visits.{Env}
+use Rattle.runs.specs.Taken.{Passed}
+use Rattle.calls.specs.Call.{Result}
+use Rattle.calls.specs.Accepted.{Accepted}
+use Rattle.calls.specs.Parts.{Feeds, at-once, closes, goes-on, Each, FedAccepted}
+use Rattle.calls.proofs.Parts.{each-call}
+use Rattle.state.specs.Bounds.{stateWidth}
+use Rattle.state.specs.Bytes.{bytesOf, stateFrom}
+use Rattle.state.specs.Changes.{freshState}
+use Rattle.converter.specs.Answered.{heldOf}
+use Rattle.converter.specs.Fed.{resultIn, BytesCall}
+use Rattle.converter.proofs.Widths.{fresh-wide}
+use Rattle.converter.proofs.Theorems.{bytes-fed-converted, bytes-fed-accepted, bytes-as-lent}
+use Rattle.capi.specs.Started.{StartedAs, too-short, fresh}
+use Rattle.capi.specs.Hosts.{RunCall, RunAsLent}
+
+twice-not : (b : Bool) → not (not b) ≡ b
+twice-not true = refl
+twice-not false = refl
+
+-- a call of wickpollen_run is one of the call over bytes
+module _ {s part : List ℕ} {more : Bool} {room : ℕ} {b b′ : List ℕ} {x : Result} {v : ℕ} (c : RunCall s part more room b b′ x v) where
+  run-bytes : BytesCall s part more room b b′ x v
+  run-bytes =
+      let w = c .answered in
+      let e : _≡_ {A = Result} (record { number = c .number; taken = getD (c .counts) 0 0; output = take (getD (c .counts) 1 0) (c .after); held = heldOf (stateFrom b′) })
+      (resultIn (c .after) b′ (w .answer)) =
+      ap₂ (λ (n : ℕ) (l : List ℕ). record { number = n; taken = getD l 0 0; output = take (getD l 1 0) (c .after); held = heldOf (stateFrom b′) }) (w .number) (w .counted) in
+      record {
+        lent = c .lent;
+        after = c .after;
+        ended = not (eqb (c .ended) 0);
+        counts = w .answer;
+        answered = w .as-answered;
+        told = twice-not (eqb (c .ended) 0) ∙ c .told;
+        as-long = c .as-long;
+        result = c .result ∙ e;
+        visits = c .visits ∙ ap (λ (l : List ℕ). getD l 2 0) (w .counted);
+      }
+
+runs-bytes : {s : List ℕ} {more : Bool} {whole : List ℕ} {room : ℕ} {b : List ℕ} {x : Result} {v : ℕ} → Feeds (RunCall s) more whole room b x v → Feeds (BytesCall s) more whole room b x v
+runs-bytes (at-once c) = at-once (run-bytes c)
+runs-bytes (closes room extra p later b r n t c e) = closes room extra p later b r n t (run-bytes c) e
+runs-bytes (goes-on room extra p later b r t c e d) = goes-on room extra p later b r t (run-bytes c) e (runs-bytes d)
+
+run-as-lent : {s : List ℕ} (part : List ℕ) (more : Bool) (room : ℕ) (b b′ : List ℕ) (x : Result) (v : ℕ) (c : RunCall s part more room b b′ x v) →
+    RunAsLent s part more room b b′ x v c
+unfolding run-bytes
+run-as-lent part more room b b′ x v c = bytes-as-lent part more room b b′ x v (run-bytes c)
+
+-- what wickpollen_fresh writes, where it writes
+fresh-there : {lent area : List ℕ} {w : ℕ} → StartedAs lent area w → 0 < w → take stateWidth area ≡ bytesOf freshState
+fresh-there (too-short h e) p = absurd (omega arith)
+fresh-there {lent} (fresh h e n) p = ap (take stateWidth) e ∙ take-at (bytesOf freshState) (drop stateWidth lent) stateWidth fresh-wide
+
+module _ {s : List ℕ} {a : Sheet} (i : IsSheet s a) (ok : Passed a) {lent area : List ℕ} {w : ℕ} (started : StartedAs lent area w) (written : 0 < w)
+    {whole : List ℕ} {room : ℕ} {x : Result} {v : ℕ} (d : Feeds (RunCall s) false whole room (take stateWidth area) x v) where
+  host-fed : Feeds (BytesCall s) false whole room (bytesOf freshState) x v
+  host-fed = subst (λ (b : List ℕ). Feeds (BytesCall s) false whole room b x v) (fresh-there started written) (runs-bytes d)
+
+  pub host-converted : (e : Env) → Accepted a whole e → length (render (e .out)) ≤ room → FedAccepted whole e x v × Each (RunAsLent s) d
+  host-converted e y f = (bytes-fed-converted i ok host-fed e y f .0, each-call (RunAsLent s) run-as-lent d)
+
+  pub host-accepted : (x .number ≡ 0) ↔ ((e : Env) × (Accepted a whole e × (length (render (e .out)) ≤ room)))
+  host-accepted = bytes-fed-accepted i ok host-fed
