@@ -9,7 +9,7 @@ use native.Mathlib.Nat.{zero-add}
 use native.Mathlib.Omega.{arith}
 use lib.ListN.{length, drop, length-append}
 use Rattle.expressions.specs.Grammar.{Production, Small}
-use Rattle.expressions.specs.FaultList.{TFault, KeepsT, IsFaultList, listBytes}
+use Rattle.expressions.specs.FaultList.{TFault, SFault, KeepsT, IsFaultList, listBytes, FaultNumber, passes, t-fault, s-faults}
 use Rattle.expressions.specs.Listed.{tFaults, faultList}
 use Rattle.expressions.proofs.Order.{Bytes}
 use Rattle.expressions.proofs.ListedT.{t-iff}
@@ -23,8 +23,8 @@ use Rattle.trees.specs.GrammarAt.{GrammarIs}
 use Rattle.sheet.specs.Sheet.{Sheet, grammarOf, IsSheet}
 use Rattle.sheet.proofs.SheetLaws.{numbered-productions, sheet-grammar}
 use Rattle.faults.specs.Part.{AllPut, NumberBy, some-T, only-S, neither}
-use Rattle.faults.specs.Checked.{ListedAs, passes, too-short, t-fault, s-faults-only, CheckedAs, well-formed as faults-of}
-use Rattle.faults.specs.Verdict.{VerdictIs, passes as keeps-both, breaks-T, breaks-S}
+use Rattle.faults.specs.Checked.{ListedAs, too-short, all-listed, CheckedAs, well-formed as faults-of}
+use Rattle.faults.specs.Verdict.{VerdictIs, of-sheet}
 use Rattle.faults.specs.declared.Ends.{Ends}
 
 -- an entry is no longer than the list that it stands in
@@ -52,6 +52,11 @@ module _ (n : ℕ) (g : List Production) (small : Small n g) where
 no-fault : (l : List Bytes) → 4 * length l ≡ 0 → l ≡ []
 no-fault [] e = refl
 no-fault (b ∷ l) e = absurd (omega (arith, e))
+
+-- faults that are none of rule T's
+pub some-s : (g : List Production) (l : List Bytes) → IsFaultList g l → (l ≡ [] → ⊥) → KeepsT g → (b : Bytes) × SFault g b
+some-s g [] i h k = absurd (h refl)
+some-s g (b ∷ l) i h k = ⊎-elim (λ f. absurd (k b f)) (λ f. (b, f)) (i .holds b .1 (List·Memᴰ·head refl))
 
 -- the answers on the sheet a, from its grammar with the list of faults
 module _ {s lent mid : List ℕ} {e : Ends} {a : Sheet} (i : IsSheet s a) (dry : AllPut s false lent mid e) where
@@ -91,19 +96,25 @@ module _ {s lent mid : List ℕ} {e : Ends} {a : Sheet} (i : IsSheet s a) (dry :
   some-listed : (e .all ≡ 0 → ⊥) → l ≡ [] → ⊥
   some-listed z q = z (end-is ∙ ap (λ (x : List Bytes). 4 * length x) q)
 
+  -- the number is that of the grammar's faults
+  number-by : {n : ℕ} → NumberBy e n → FaultNumber g n
+  number-by (some-T z) = let b = a-t-fault z in t-fault {b = b .0} (b .1)
+  number-by (only-S t z) = let f = some-s g l is-list (some-listed z) (keeps-t t) in s-faults {b = f .0} (keeps-t t) (f .1)
+  number-by (neither t z) = let k = none-iff g l is-list .0 (none-listed z) in passes (k .0) (k .1)
+
   -- where no list is lent the number is all
   pub verdict-by : {n : ℕ} → NumberBy e n → VerdictIs s n
-  verdict-by (some-T z) = let b = a-t-fault z in breaks-T a i {b = b .0} (b .1)
-  verdict-by (only-S t z) = breaks-S a i (keeps-t t) (λ k. some-listed z (none-iff g l is-list .1 (keeps-t t, k)))
-  verdict-by (neither t z) = let k = none-iff g l is-list .0 (none-listed z) in keeps-both a i (k .0) (k .1)
+  verdict-by h = of-sheet a i (number-by h)
 
   pub answer-0 : {n : ℕ} → NumberBy e n → n ≡ 0 → CheckedAs s lent mid (record { number = 0; count = e .all / 4 })
   answer-0 (some-T z) q = absurd (omega (arith, q))
   answer-0 (only-S t z) q = absurd (omega (arith, q))
-  answer-0 (neither t z) q = answer (passes (none-listed z) as-lent)
+  answer-0 (neither t z) q =
+      let n = none-listed z in
+      answer (all-listed (omega (arith, z, end-is)) (number-by (neither t z)) (as-lent ∙ ap (λ (x : List Bytes). listBytes x ++ drop (4 * length x) lent) (sym n)))
 
   pub answer-10 : length mid < e .all → CheckedAs s lent mid (record { number = 10; count = e .all / 4 })
-  answer-10 z = answer (too-short (let m : length mid ≡ length lent = ap length as-lent in omega (arith, z, m, end-is)) as-lent)
+  answer-10 z = answer (too-short (let m : length mid ≡ length lent = ap length as-lent in omega (arith, z, m, end-is)) refl as-lent)
 
   -- the list where it fits
   module _ {after : List ℕ} {f : Ends} (wet : AllPut s true mid after f) (room : e .all ≤ length mid) where
@@ -117,6 +128,4 @@ module _ {s lent mid : List ℕ} {e : Ends} {a : Sheet} (i : IsSheet s a) (dry :
         put-at ∙ put-all lent 0 (listBytes l) (omega (arith, long, fits)) ∙ ap (λ (k : ℕ). listBytes l ++ drop k lent) (zero-add _ ∙ long)
 
     pub answer-8-or-9 : {n : ℕ} → NumberBy e n → (n ≡ 0 → ⊥) → CheckedAs s lent after (record { number = n; count = e .all / 4 })
-    answer-8-or-9 (some-T z) q = let b = a-t-fault z in answer (t-fault {b = b .0} (b .1) fits written)
-    answer-8-or-9 (only-S t z) q = answer (s-faults-only (some-listed z) (keeps-t t) fits written)
-    answer-8-or-9 (neither t z) q = absurd (q refl)
+    answer-8-or-9 h q = answer (all-listed fits (number-by h) written)

@@ -1,18 +1,19 @@
 -- Laws of the passes. A part that is gathered over a range is put by what is left of it: putting the rest now leaves what putting the
 -- whole part would have left (Left: begun, a step, done). Parts that follow each other join. Assumes nothing.
 use mathlib.Core.Path.{_≡_, refl, sym, ap, subst, _∙_}
-use mathlib.Core.Bool.{Bool, true, false}
+use mathlib.Core.Bool.{Bool, true, false, true≢false, not, cond}
 use mathlib.Core.List.{List, [], _∷_, _++_}
 use Prim.Native.Nat.{ℕ, suc, _+_, _-_, _*_, _≤_, _<_}
 use native.Mathlib.Nat.{add-zero, zero-add, mul-suc}
 use native.Mathlib.Omega.{arith}
 use native.Mathlib.Numerals.{add-one}
-use lib.Dec.{leb}
-use lib.ListN.{length, length-append}
-use borrow.Author.Tests.{le-leb, lt-leb}
-use Rattle.expressions.specs.Grammar.{Production, contentOf, onlyIf, tagsOf}
-use Rattle.expressions.specs.Expr.{Content, places, atomsOf}
-use Rattle.expressions.specs.Decide.{count}
+use lib.Dec.{leb, ltb}
+use lib.ListN.{length, getD, length-append}
+use borrow.Author.Tests.{le-leb, lt-leb, lt-ltb, ltb-true, ltb-false, not-false}
+use Rattle.expressions.specs.Grammar.{Production, contentOf, onlyIf, tagsOf, tag, character}
+use Rattle.expressions.specs.Expr.{places, atomsOf}
+use Rattle.expressions.specs.Count.{Count, none, one, many}
+use Rattle.expressions.specs.Decide.{toAtom, count}
 use Rattle.expressions.specs.FaultList.{listBytes}
 use Rattle.expressions.specs.Listed.{gather, alike, isMany, sFaultsOf, sFaultsFrom}
 use Rattle.expressions.proofs.Room.{bytes-append}
@@ -22,28 +23,29 @@ use Rattle.layout.specs.Layout.{productionCount}
 use Rattle.layout.specs.LaidOut.{LaidOut}
 use Rattle.layout.specs.declared.Layout.{Layout}
 use Rattle.trees.specs.GrammarAt.{GrammarIs}
-use Rattle.trees.specs.Answers.{AlikeIs, ManyIs, AtomsIs}
-use Rattle.trees.specs.Symbol.{nextOf}
-use Rattle.trees.specs.declared.Symbol.{Symbol}
-use Rattle.trees.proofs.Grammars.{length-grammar, nth-there, content-nth, alike-of-grammar}
-use Rattle.faults.specs.Part.{PartPut}
+use Rattle.trees.specs.Answers.{AtomsIs}
+use Rattle.trees.specs.Sums.{AllAlike, Zeros, raised, symbolOf, CountedFrom}
+use Rattle.trees.specs.declared.Number.{Number}
+use Rattle.trees.proofs.Grammars.{length-grammar, nth-there, content-nth, alike-there}
+use Rattle.faults.specs.Part.{SumsAre, PartPut}
 
--- a part whose entries a test lets in or not
-module _ {s : List ℕ} {write : Bool} {lent : List ℕ} {at : ℕ} where
-  pub no-entry : (test : List Production → Bool) (e : List ℕ) → ((g : List Production) → GrammarIs s g → test g ≡ false) → PartPut s (λ g. onlyIf (test g) e) 4 write lent at lent at
-  no-entry test e h = record {
-    low = omega arith;
-    high = omega arith;
-    is = λ g i. subst (λ (b : Bool). PutAs write lent at (listBytes (onlyIf b e)) lent at) (sym (h g i)) (nothing-put write lent at);
-  }
+-- an entry that is put where there is a fault, else nothing; and a part that is such an entry
+module _ {write : Bool} {lent : List ℕ} {at : ℕ} where
+  pub no-entry : (fault : Bool) (entry : List ℕ) → not fault ≡ true → PutAs write lent at (listBytes (onlyIf fault entry)) lent at
+  no-entry true entry h = absurd (true≢false (sym h))
+  no-entry false entry h = nothing-put write lent at
 
-  pub an-entry : {after : List ℕ} {r : ℕ} (test : List Production → Bool) (a b c d : ℕ) → ((g : List Production) → GrammarIs s g → test g ≡ true) →
-      PutAs write lent at (a ∷ b ∷ c ∷ d ∷ []) after r → PartPut s (λ g. onlyIf (test g) (a ∷ b ∷ c ∷ d ∷ [])) 4 write lent at after r
-  an-entry {after} {r} test a b c d h p = record {
-    low = omega (arith, p .next);
-    high = omega (arith, p .next);
-    is = λ g i. subst (λ (z : Bool). PutAs write lent at (listBytes (onlyIf z (a ∷ b ∷ c ∷ d ∷ []))) after r) (sym (h g i)) p;
-  }
+  module _ {after : List ℕ} {r : ℕ} (a b c d : ℕ) (fault : Bool) where
+    pub an-entry : not fault ≡ false → PutAs write lent at (a ∷ b ∷ c ∷ d ∷ []) after r → PutAs write lent at (listBytes (onlyIf fault (a ∷ b ∷ c ∷ d ∷ []))) after r
+    an-entry h p = let e : true ≡ fault = sym (not-false fault h) in subst (λ (z : Bool). PutAs write lent at (listBytes (onlyIf z (a ∷ b ∷ c ∷ d ∷ []))) after r) e p
+
+    pub entry-put : {s : List ℕ} (test : List Production → Bool) → ((g : List Production) → GrammarIs s g → fault ≡ test g) →
+        (PutAs write lent at (listBytes (onlyIf fault (a ∷ b ∷ c ∷ d ∷ []))) after r) × (r ≤ at + 4) → PartPut s (λ g. onlyIf (test g) (a ∷ b ∷ c ∷ d ∷ [])) 4 write lent at after r
+    entry-put test h p = record {
+      low = omega (arith, p .0 .next);
+      high = p .1;
+      is = λ g i. subst (λ (z : Bool). PutAs write lent at (listBytes (onlyIf z (a ∷ b ∷ c ∷ d ∷ []))) after r) (h g i) (p .0);
+    }
 
 -- putting goes on where it stopped
 pub put-join : {write : Bool} {lent mid after xs ys : List ℕ} {at n r : ℕ} → PutAs write lent at xs mid n → PutAs write mid n ys after r → PutAs write lent at (xs ++ ys) after r
@@ -107,24 +109,41 @@ module _ {s : List ℕ} {part : List Production → List (List ℕ)} {f : List P
   pub loop-done : (k unit i room : ℕ) {n : ℕ} {mid : List ℕ} → k ≤ i → unit * i ≤ room → Loop s part f k unit write lent at mid n i → PartPut s part room write lent at mid n
   loop-done k unit i room h u v = record { low = v .1; high = omega (arith, v .2, u); is = done k i h (v .4) }
 
--- two productions or more are alike, or not
-module _ {s : List ℕ} {m t r : ℕ} (a : AlikeIs s m t r) where
-  pub alike-few : r < 2 → (g : List Production) → GrammarIs s g → leb 2 (alike g m t) ≡ false
-  alike-few h g i = lt-leb 2 (alike g m t) (omega (arith, alike-of-grammar s m t g i r a))
+-- what a cell tells of productions alike, and a sum of bracket strings
+two-told : (k : ℕ) (b : Bool) → ltb 1 k ≡ b → b ≡ leb 2 k
+two-told k true e = sym (le-leb 2 k (ltb-true 1 k e))
+two-told k false e = sym (lt-leb 2 k (omega (arith, ltb-false 1 k e)))
 
-  pub alike-two : 2 ≤ r → (g : List Production) → GrammarIs s g → leb 2 (alike g m t) ≡ true
-  alike-two h g i = le-leb 2 (alike g m t) (omega (arith, alike-of-grammar s m t g i r a))
+pub alike-told : {s known : List ℕ} {m t : ℕ} → AllAlike s known → m < 64 → t < 64 → (g : List Production) → GrammarIs s g → ltb 1 (getD known (64 * m + t) 0) ≡ leb 2 (alike g m t)
+alike-told {s} {known} {m} {t} all a b g i =
+    ap (ltb 1) (all .is m t (omega arith) (omega arith) ∙ alike-there s m t g i) ∙ two-told (alike g m t) (ltb 1 (alike g m t)) refl
+
+many-told : (n : Count) → ltb 1 (raised 0 n) ≡ isMany n
+many-told none = refl
+many-told one = refl
+many-told many = refl
+
+module _ {s : List ℕ} {q p : ℕ} {sums : List ℕ} (are : SumsAre s q p sums) (g : List Production) (i : GrammarIs s g) where
+  pub tag-told : {t : ℕ} → t < 64 → ltb 1 (getD sums t 0) ≡ isMany (count (tagsOf g) (contentOf g q) p (tag t))
+  tag-told {t} b =
+      ap (ltb 1) (are .is g i t (omega arith) ∙ ap (λ (z : Bool). raised 0 (toAtom (tagsOf g) (contentOf g q) p (cond z (tag t) character))) (lt-ltb t 64 b))
+      ∙ many-told (toAtom (tagsOf g) (contentOf g q) p (tag t))
+
+  pub character-told : ltb 1 (getD sums 64 0) ≡ isMany (count (tagsOf g) (contentOf g q) p character)
+  character-told = ap (ltb 1) (are .is g i 64 (omega arith)) ∙ many-told (toAtom (tagsOf g) (contentOf g q) p character)
+
+-- sums that were lent as zeros
+pub counted-sums : {s : List ℕ} {q p : ℕ} {before after : List ℕ} {r : Number} → CountedFrom s q p before after r → Zeros before → length after ≡ 65 → SumsAre s q p after
+counted-sums {s} {q} {p} {before} c z l = record {
+  long = l;
+  is = λ g i k b. c .sums-are g i .each k b ∙ ap (λ (n : ℕ). raised n (toAtom (tagsOf g) (contentOf g q) p (symbolOf k))) (z .each k);
+}
 
 -- the productions by number
 pub there : {s : List ℕ} {l : Layout} {q : ℕ} → LaidOut s l → q < l .productions → q < productionCount s
 there d h = omega (arith, d .layout-is .productions-is .is)
 
 module _ {s : List ℕ} {q : ℕ} (there : q < productionCount s) where
-  pub many-in : {p : ℕ} {x : Symbol} {r : Bool} → ManyIs s q p x r → (g : List Production) → GrammarIs s g → r ≡ isMany (count (tagsOf g) (contentOf g q) p (nextOf x))
-  many-in {p} {x} {r} m g h =
-      let d = nth-there s g h q there in
-      m .is g h (d .0) (d .1) ∙ ap (λ (e : Content). isMany (count (tagsOf g) e p (nextOf x))) (sym (content-nth g q (d .0) (d .1)))
-
   pub places-in : {r : ℕ} → AtomsIs s q r → (g : List Production) → GrammarIs s g → places (contentOf g q) ≡ r + 1
   places-in a g h =
       let d = nth-there s g h q there in

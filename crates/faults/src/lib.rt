@@ -2,25 +2,25 @@
 ghost use mathlib.Core.Path.{_≡_};
 ghost use mathlib.Core.List.{[], _∷_};
 ghost use Prim.Native.Nat.{_+_, _<_, _≤_, _^_};
-ghost use Rattle.expressions.specs.Grammar.{tagsOf};
-ghost use Rattle.expressions.specs.Listed.{tFaultAt, tFaultsOf, tFaults, sFaultAt, sFaultsAt, sFaultsOf, sFaultsFrom};
+ghost use Rattle.expressions.specs.Grammar.{contentOf, onlyIf, tagsOf};
+ghost use Rattle.expressions.specs.FaultList.{listBytes};
+ghost use Rattle.expressions.specs.Listed.{tFaultsOf, tFaults, sFaultsAt, sFaultsOf, sFaultsFrom};
 ghost use Rattle.lent.specs.Put.{PutAs};
 ghost use Rattle.layout.specs.Layout.{tagCount};
 ghost use Rattle.layout.specs.LaidOut.{LaidOut};
-ghost use Rattle.trees.specs.Symbol.{nextOf, symbolByte};
+ghost use Rattle.trees.specs.Sums.{AllAlike};
 ghost use Rattle.sheet.specs.Defect.{WellFormed};
-ghost use Rattle.expressions.specs.Grammar.{contentOf};
-ghost use Rattle.faults.specs.Part.{sByTag, PartPut, AllPut, NumberBy};
+ghost use Rattle.faults.specs.Part.{sByTag, SumsAre, PartPut, AllPut, NumberBy};
 ghost use Rattle.faults.specs.Checked.{CheckedAs};
 ghost use Rattle.faults.specs.Verdict.{VerdictIs};
 use layout::Layout;
 use layout::layout_of;
 use lent::put_bytes;
 use sheet::defect;
-use trees::Symbol;
-use trees::alike;
+use trees::all_alike;
 use trees::atoms_of;
-use trees::many_at;
+use trees::count_from;
+use trees::is_many;
 
 // The number of the table, and how many faults there are.
 pub struct Checked {
@@ -34,7 +34,8 @@ const NONTERMINALS: usize = 64;
 // An entry of the list is four bytes.
 const ENTRY: usize = 4;
 
-// Puts one entry. Each function below that puts entries writes none of them in a dry run, and answers where the next byte goes.
+// Puts one entry where there is such a fault. Each function below that puts entries writes none of them in a dry run, and answers where the next
+// byte goes.
 fn put_entry(
     list: &mut [u8],
     at: usize,
@@ -42,112 +43,70 @@ fn put_entry(
     first: usize,
     second: usize,
     third: usize,
+    fault: bool,
     write: bool,
 ) -> usize
     requires { ⌜ at + 4 < 2 ^ 64 ⌝ }
     requires { ⌜ first < 256 ⌝ }
     requires { ⌜ second < 256 ⌝ }
     requires { ⌜ third < 256 ⌝ }
-    ensures { λ r. ⌜ PutAs write (now (list .entry)) at (rule ∷ first ∷ second ∷ third ∷ []) (now (list .exit)) r ⌝ }
+    ensures { λ r. ⌜ PutAs write (now (list .entry)) at (listBytes (onlyIf fault (rule ∷ first ∷ second ∷ third ∷ []))) (now (list .exit)) r ⌝ }
+    ensures { λ r. ⌜ r ≤ at + 4 ⌝ }
 {
+    if !fault {
+        return at;
+    }
     let entry = [rule, first as u8, second as u8, third as u8];
     put_bytes(list, at, &entry, write)
 }
 
-// Rule T's fault of nonterminal m and tag t, if two productions share both.
-fn t_fault_at(
+// The T faults of nonterminal m: the tags that two productions of it share.
+fn t_faults_of(
     s: &[u8],
     l: Layout,
+    known: &[u8],
     list: &mut [u8],
     at: usize,
     m: usize,
-    t: usize,
     write: bool,
 ) -> usize
     requires { ⌜ LaidOut (now s) l ⌝ }
-    requires { ⌜ at + 4 < 2 ^ 64 ⌝ }
-    requires { ⌜ m < 256 ⌝ }
-    requires { ⌜ t < 256 ⌝ }
-    ensures { λ r. ⌜ PartPut (now (s .entry)) (λ g. tFaultAt g m t) 4 write (now (list .entry)) at (now (list .exit)) r ⌝ }
-{
-    if alike(s, l, m, t) < 2 {
-        return at;
-    }
-    put_entry(list, at, 8, m, t, 0, write)
-}
-
-// The T faults of nonterminal m.
-fn t_faults_of(s: &[u8], l: Layout, list: &mut [u8], at: usize, m: usize, write: bool) -> usize
-    requires { ⌜ LaidOut (now s) l ⌝ }
+    requires { ⌜ AllAlike (now s) (now known) ⌝ }
     requires { ⌜ at + 256 < 2 ^ 64 ⌝ }
-    requires { ⌜ m < 256 ⌝ }
+    requires { ⌜ m < 64 ⌝ }
     ensures { λ r. ⌜ PartPut (now (s .entry)) (λ g. tFaultsOf (tagCount (now (s .entry))) g m) 256 write (now (list .entry)) at (now (list .exit)) r ⌝ }
 {
     let mut n = at;
     let mut t = 0;
     while t < l.tags {
-        n = t_fault_at(s, l, list, n, m, t, write);
+        let alike = known[64 * m + t];
+        n = put_entry(list, n, 8, m, t, 0, alike > 1, write);
         t += 1;
     }
     n
 }
 
 // All T faults.
-fn t_faults(s: &[u8], l: Layout, list: &mut [u8], at: usize, write: bool) -> usize
+fn t_faults(s: &[u8], l: Layout, known: &[u8], list: &mut [u8], at: usize, write: bool) -> usize
     requires { ⌜ LaidOut (now s) l ⌝ }
+    requires { ⌜ AllAlike (now s) (now known) ⌝ }
     requires { ⌜ at + 16384 < 2 ^ 64 ⌝ }
     ensures { λ r. ⌜ PartPut (now (s .entry)) (λ g. tFaults (tagCount (now (s .entry))) g) 16384 write (now (list .entry)) at (now (list .exit)) r ⌝ }
 {
     let mut n = at;
     let mut m = 0;
     while m < NONTERMINALS {
-        n = t_faults_of(s, l, list, n, m, write);
+        n = t_faults_of(s, l, known, list, n, m, write);
         m += 1;
     }
     n
 }
 
-// A next symbol's byte in an entry.
-fn symbol_byte(x: Symbol) -> usize
-    ensures { λ r. ⌜ r ≡ symbolByte x ⌝ }
-{
-    match x {
-        Symbol::Tag(t) => t,
-        Symbol::Character => 254,
-        Symbol::End => 255,
-    }
-}
-
-// Rule S's fault at place p of production q, with the next symbol x, if there is one.
-fn s_fault_at(
-    s: &[u8],
-    l: Layout,
-    list: &mut [u8],
-    at: usize,
-    q: usize,
-    p: usize,
-    x: Symbol,
-    write: bool,
-) -> usize
-    requires { ⌜ LaidOut (now s) l ⌝ }
-    requires { ⌜ WellFormed (now s) ⌝ }
-    requires { ⌜ at + 4 < 2 ^ 64 ⌝ }
-    requires { ⌜ q < l .productions ⌝ }
-    requires { ⌜ p < 256 ⌝ }
-    requires { ⌜ symbolByte x < 256 ⌝ }
-    ensures { λ r. ⌜ PartPut (now (s .entry)) (λ g. sFaultAt (tagsOf g) (contentOf g q) q p (nextOf x)) 4 write (now (list .entry)) at (now (list .exit)) r ⌝ }
-{
-    if many_at(s, l, q, p, x) {
-        let next = symbol_byte(x);
-        return put_entry(list, at, 9, q, p, next, write);
-    }
-    at
-}
-
-// The S faults at a place with a tag next.
+// The S faults at a place with a tag next, by the sums of that place.
 fn s_faults_by_tag(
     s: &[u8],
     l: Layout,
+    sums: &[u8],
     list: &mut [u8],
     at: usize,
     q: usize,
@@ -155,25 +114,27 @@ fn s_faults_by_tag(
     write: bool,
 ) -> usize
     requires { ⌜ LaidOut (now s) l ⌝ }
-    requires { ⌜ WellFormed (now s) ⌝ }
+    requires { ⌜ SumsAre (now s) q p (now sums) ⌝ }
     requires { ⌜ at + 256 < 2 ^ 64 ⌝ }
-    requires { ⌜ q < l .productions ⌝ }
+    requires { ⌜ q < 256 ⌝ }
     requires { ⌜ p < 256 ⌝ }
     ensures { λ r. ⌜ PartPut (now (s .entry)) (λ g. sByTag (tagCount (now (s .entry))) (tagsOf g) (contentOf g q) q p) 256 write (now (list .entry)) at (now (list .exit)) r ⌝ }
 {
     let mut n = at;
     let mut t = 0;
     while t < l.tags {
-        n = s_fault_at(s, l, list, n, q, p, Symbol::Tag(t), write);
+        let sum = sums[t];
+        n = put_entry(list, n, 9, q, p, t, sum > 1, write);
         t += 1;
     }
     n
 }
 
-// The S faults at a place: a tag, a character or the end is next.
+// The S faults at a place: a tag, a character or the end is next. One walk counts for all of them.
 fn s_faults_at(
     s: &[u8],
     l: Layout,
+    known: &[u8],
     list: &mut [u8],
     at: usize,
     q: usize,
@@ -182,20 +143,34 @@ fn s_faults_at(
 ) -> usize
     requires { ⌜ LaidOut (now s) l ⌝ }
     requires { ⌜ WellFormed (now s) ⌝ }
+    requires { ⌜ AllAlike (now s) (now known) ⌝ }
     requires { ⌜ at + 264 < 2 ^ 64 ⌝ }
     requires { ⌜ q < l .productions ⌝ }
     requires { ⌜ p < 256 ⌝ }
     ensures { λ r. ⌜ PartPut (now (s .entry)) (λ g. sFaultsAt (tagCount (now (s .entry))) (tagsOf g) (contentOf g q) q p) 264 write (now (list .entry)) at (now (list .exit)) r ⌝ }
 {
-    let tags = s_faults_by_tag(s, l, list, at, q, p, write);
-    let character = s_fault_at(s, l, list, tags, q, p, Symbol::Character, write);
-    s_fault_at(s, l, list, character, q, p, Symbol::End, write)
+    let mut sums = [0; 65];
+    let ends = count_from(s, l, known, &mut sums, q, p);
+    let tags = s_faults_by_tag(s, l, &sums, list, at, q, p, write);
+    let sum = sums[64];
+    let character = put_entry(list, tags, 9, q, p, 254, sum > 1, write);
+    let many = is_many(ends);
+    put_entry(list, character, 9, q, p, 255, many, write)
 }
 
 // The S faults of production q.
-fn s_faults_of(s: &[u8], l: Layout, list: &mut [u8], at: usize, q: usize, write: bool) -> usize
+fn s_faults_of(
+    s: &[u8],
+    l: Layout,
+    known: &[u8],
+    list: &mut [u8],
+    at: usize,
+    q: usize,
+    write: bool,
+) -> usize
     requires { ⌜ LaidOut (now s) l ⌝ }
     requires { ⌜ WellFormed (now s) ⌝ }
+    requires { ⌜ AllAlike (now s) (now known) ⌝ }
     requires { ⌜ at + 8712 < 2 ^ 64 ⌝ }
     requires { ⌜ q < l .productions ⌝ }
     ensures { λ r. ⌜ PartPut (now (s .entry)) (λ g. sFaultsOf (tagCount (now (s .entry))) (tagsOf g) q (contentOf g q)) 8712 write (now (list .entry)) at (now (list .exit)) r ⌝ }
@@ -204,23 +179,24 @@ fn s_faults_of(s: &[u8], l: Layout, list: &mut [u8], at: usize, q: usize, write:
     let mut n = at;
     let mut p = 0;
     while p <= atoms {
-        n = s_faults_at(s, l, list, n, q, p, write);
+        n = s_faults_at(s, l, known, list, n, q, p, write);
         p += 1;
     }
     n
 }
 
 // All S faults.
-fn s_faults(s: &[u8], l: Layout, list: &mut [u8], at: usize, write: bool) -> usize
+fn s_faults(s: &[u8], l: Layout, known: &[u8], list: &mut [u8], at: usize, write: bool) -> usize
     requires { ⌜ LaidOut (now s) l ⌝ }
     requires { ⌜ WellFormed (now s) ⌝ }
+    requires { ⌜ AllAlike (now s) (now known) ⌝ }
     requires { ⌜ at + 557568 < 2 ^ 64 ⌝ }
     ensures { λ r. ⌜ PartPut (now (s .entry)) (λ g. sFaultsFrom (tagCount (now (s .entry))) (tagsOf g) 0 g) 557568 write (now (list .entry)) at (now (list .exit)) r ⌝ }
 {
     let mut n = at;
     let mut q = 0;
     while q < l.productions {
-        n = s_faults_of(s, l, list, n, q, write);
+        n = s_faults_of(s, l, known, list, n, q, write);
         q += 1;
     }
     n
@@ -238,8 +214,10 @@ fn list_faults(s: &[u8], l: Layout, list: &mut [u8], write: bool) -> Ends
     requires { ⌜ WellFormed (now s) ⌝ }
     ensures { λ r. ⌜ AllPut (now (s .entry)) write (now (list .entry)) (now (list .exit)) r ⌝ }
 {
-    let t = t_faults(s, l, list, 0, write);
-    let all = s_faults(s, l, list, t, write);
+    let mut known = [0; 4096];
+    all_alike(s, l, &mut known);
+    let t = t_faults(s, l, &known, list, 0, write);
+    let all = s_faults(s, l, &known, list, t, write);
     Ends { t: t, all: all }
 }
 

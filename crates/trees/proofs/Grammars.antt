@@ -15,7 +15,7 @@ use Rattle.expressions.specs.Listed.{alike}
 use Rattle.layout.specs.Layout.{productionCount, tagCount, Sections}
 use Rattle.layout.specs.Records.{nonterminalOf, tagNumberOf, nodeCountOf, nodesBefore}
 use Rattle.trees.specs.Trees.{ContentAt, Trees}
-use Rattle.trees.specs.Answers.{alikeBefore, AlikeIs}
+use Rattle.trees.specs.Answers.{alikeBefore}
 use Rattle.trees.specs.GrammarAt.{ProductionIs, GrammarFrom, GrammarIs}
 use Rattle.trees.proofs.Unique.{from-most, one-production}
 
@@ -106,8 +106,8 @@ module _ (s : List ℕ) where
         rw (x, y) (omega arith)
 
     -- a grammar's productions alike are the records alike
-    pub alike-of-grammar : (g : List Production) → GrammarIs s g → (r : ℕ) → AlikeIs s m t r → r ≡ alike g m t
-    alike-of-grammar g h r a = omega (arith, alike-from 0 g h, a .is)
+    pub alike-there : (g : List Production) → GrammarIs s g → alikeBefore s m t (productionCount s) ≡ alike g m t
+    alike-there g h = omega (arith, alike-from 0 g h)
 
 -- a tag is one of a nonterminal's where a production is of both
 module _ (t : ℕ) (ts : List ℕ) (k : ℕ) (rest : memb t ts ≡ ltb 0 k) where

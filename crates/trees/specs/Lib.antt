@@ -4,3 +4,4 @@ pub mod Symbol
 pub mod Parsed
 pub mod Tally
 pub mod Answers
+pub mod Sums

@@ -1,6 +1,5 @@
--- The next symbol as the code holds it: its meaning, and its byte in an entry of rule S. Assumes nothing.
-use Prim.Native.Nat.{ℕ}
-use Rattle.expressions.specs.Grammar.{Next, tag, character, end, byteOf}
+-- The next symbol as the code holds it: its meaning. Assumes nothing.
+use Rattle.expressions.specs.Grammar.{Next, tag, character, end}
 use Rattle.trees.specs.declared.Symbol.{Symbol}
 use Rattle.trees.specs.declared.Symbol.the-variants.{Tag, Character, End}
 
@@ -8,6 +7,3 @@ abbrev pub nextOf : Symbol → Next
 nextOf (Tag t) = tag t
 nextOf Character = character
 nextOf End = end
-
-abbrev pub symbolByte : Symbol → ℕ
-symbolByte x = byteOf (nextOf x)

@@ -2,15 +2,18 @@
 ghost use mathlib.Core.Path.{_≡_};
 ghost use mathlib.Core.Bool.{cond, _&&_};
 ghost use Prim.Native.Nat.{_+_, _≤_, _<_};
+ghost use lib.Dec.{ltb};
+ghost use lib.ListN.{length};
 ghost use Rattle.expressions.specs.Expr.{cat as catExp, alt as altExp};
-ghost use Rattle.expressions.specs.Count.{add, mul, rep, bit as bitCount};
+ghost use Rattle.expressions.specs.Count.{one, add, mul, rep, bit as bitCount};
 ghost use Rattle.expressions.specs.Listed.{isMany};
 ghost use Rattle.tells.specs.Tells.{Tells};
 ghost use Rattle.layout.specs.LaidOut.{LaidOut};
 ghost use Rattle.trees.specs.Trees.{Trees};
 ghost use Rattle.trees.specs.Parsed.{RunsInside, NodeFits, ParsedAt, HasContent};
 ghost use Rattle.trees.specs.Tally.{countOf, LeafOf, StarOf, JoinOf, TreeIn, Tallied};
-ghost use Rattle.trees.specs.Answers.{AlikeIs, CanBeIs, CharacterIs, Picked, ManyIs, AtomsIs};
+ghost use Rattle.trees.specs.Answers.{AlikeIs, CanBeIs, CharacterIs, AtomsIs};
+ghost use Rattle.trees.specs.Sums.{Zeros, Room, OneAlike, AllAlike, raised, TagsRaised, PassedAs, EitherAs, Spread, CountedFrom};
 use layout::Layout;
 use layout::argument_of;
 use layout::first_node_of;
@@ -43,14 +46,19 @@ pub enum Number {
     Many,
 }
 
-// The four counts of a tree for one place and one next symbol, the node past the tree, and the atom past its atoms.
+// The counts to a tree's end, from its start and from just after a place, the node past the tree, and the atom past its atoms.
 pub struct Tally {
     pub null: Number,
-    pub first: Number,
     pub last: Number,
-    pub follow: Number,
     pub next: usize,
     pub atom: usize,
+}
+
+// The bracket strings from a place to a tree's end, whether it is in the tree or before it, the node past the tree, and the atom past its atoms.
+struct Onward {
+    out: Number,
+    next: usize,
+    atom: usize,
 }
 
 // Whether a node has the argument that its kind asks for.
@@ -227,17 +235,25 @@ fn bit(b: bool) -> Number
     if b { Number::One } else { Number::None }
 }
 
-// An atom: whether it can be the next symbol, and whether it is the place.
-fn leaf(hit: bool, here: bool, next: usize, atom: usize) -> Tally
-    ensures { λ t. ⌜ LeafOf hit here next atom t ⌝ }
+// Whether two different strings go the same way: then the next symbol does not tell which.
+pub fn is_many(n: Number) -> bool
+    ensures { λ r. ⌜ r ≡ isMany (countOf n) ⌝ }
 {
-    let first = bit(hit);
+    match n {
+        Number::None => false,
+        Number::One => false,
+        Number::Many => true,
+    }
+}
+
+// An atom: whether it is the place.
+fn leaf(here: bool, next: usize, atom: usize) -> Tally
+    ensures { λ t. ⌜ LeafOf here next atom t ⌝ }
+{
     let last = bit(here);
     Tally {
         null: Number::None,
-        first: first,
         last: last,
-        follow: Number::None,
         next: next,
         atom: atom,
     }
@@ -248,19 +264,12 @@ fn star(l: Tally) -> Tally
     ensures { λ r. ⌜ StarOf l r ⌝ }
 {
     let n = l.null;
-    let f = l.first;
     let s = l.last;
-    let w = l.follow;
     let turns = again(n, Number::One);
-    let start = again(n, f);
     let end = times(s, turns);
-    let round = times(s, start);
-    let on = plus(w, round);
     Tally {
         null: turns,
-        first: start,
         last: end,
-        follow: on,
         next: l.next,
         atom: l.atom,
     }
@@ -271,26 +280,15 @@ fn cat(l: Tally, r: Tally) -> Tally
     ensures { λ t. ⌜ JoinOf catExp l r t ⌝ }
 {
     let ln = l.null;
-    let lf = l.first;
     let ls = l.last;
-    let lw = l.follow;
     let rn = r.null;
-    let rf = r.first;
     let rs = r.last;
-    let rw = r.follow;
     let null = times(ln, rn);
-    let over = times(ln, rf);
-    let first = plus(lf, over);
     let out = times(ls, rn);
     let last = plus(out, rs);
-    let across = times(ls, rf);
-    let near = plus(lw, across);
-    let follow = plus(near, rw);
     Tally {
         null: null,
-        first: first,
         last: last,
-        follow: follow,
         next: r.next,
         atom: r.atom,
     }
@@ -301,102 +299,208 @@ fn alt(l: Tally, r: Tally) -> Tally
     ensures { λ t. ⌜ JoinOf altExp l r t ⌝ }
 {
     let ln = l.null;
-    let lf = l.first;
     let ls = l.last;
-    let lw = l.follow;
     let rn = r.null;
-    let rf = r.first;
     let rs = r.last;
-    let rw = r.follow;
     let null = plus(ln, rn);
-    let first = plus(lf, rf);
     let last = plus(ls, rs);
-    let follow = plus(lw, rw);
     Tally {
         null: null,
-        first: first,
         last: last,
-        follow: follow,
         next: r.next,
         atom: r.atom,
     }
 }
 
-// The counts of the tree at node `at`, of at most `left` nodes, whose first atom is j, from the place p to x.
-pub fn walk_tree(
-    s: &[u8],
-    l: Layout,
-    x: Symbol,
-    p: usize,
-    at: usize,
-    left: usize,
-    j: usize,
-) -> Tally
+// The counts to the end of the tree at node `at`, of at most `left` nodes, whose first atom is j: from its start, and from just after atom p.
+pub fn walk_tree(s: &[u8], l: Layout, p: usize, at: usize, left: usize, j: usize) -> Tally
     requires { ⌜ LaidOut (now s) l ⌝ }
     requires { ⌜ TreeIn (now s) at left j ⌝ }
-    ensures { λ t. ⌜ Tallied (now (s .entry)) x p at j t ⌝ }
+    ensures { λ t. ⌜ Tallied (now (s .entry)) p at j t ⌝ }
 {
     let kind = kind_of(s, l, at);
-    if kind == 1 {
-        let n = argument_of(s, l, at);
-        let hit = can_be(s, l, n, x);
-        return leaf(hit, p == j, at + 1, j + 1);
+    if kind < 3 {
+        return leaf(p == j, at + 1, j + 1);
     }
-    if kind == 2 {
-        let hit = is_character(x);
-        return leaf(hit, p == j, at + 1, j + 1);
-    }
-    let first = walk_tree(s, l, x, p, at + 1, left - 1, j);
+    let first = walk_tree(s, l, p, at + 1, left - 1, j);
     if kind == 5 {
         return star(first);
     }
     let middle = first.next;
     let atom = first.atom;
-    let second = walk_tree(s, l, x, p, middle, left - 1, atom);
+    let second = walk_tree(s, l, p, middle, left - 1, atom);
     if kind == 3 {
         return cat(first, second);
     }
     alt(first, second)
 }
 
-// Of a whole tree's four counts, the one from the place p to x.
-fn picked(t: Tally, p: usize, x: Symbol) -> Number
-    ensures { λ r. ⌜ Picked t p x r ⌝ }
+// One more production of nonterminal m and tag t. No sheet that fits has other numbers.
+fn one_alike(known: &mut [u8], m: usize, t: usize)
+    requires { ⌜ length (now known) ≡ 4096 ⌝ }
+    requires { ⌜ Room (now known) ⌝ }
+    ensures { λ _. ⌜ OneAlike m t (now (known .entry)) (now (known .exit)) ⌝ }
 {
-    match x {
-        Symbol::Tag(_) => { if p == 0 { t.first } else { t.follow } }
-        Symbol::Character => { if p == 0 { t.first } else { t.follow } }
-        Symbol::End => { if p == 0 { t.null } else { t.last } }
+    if m > 63 {
+        return;
+    }
+    if t > 63 {
+        return;
+    }
+    let i = 64 * m + t;
+    known[i] = known[i] + 1;
+}
+
+// For each nonterminal and tag the number of productions of both, into memory that is lent as zeros: nonterminal m's tags from 64 * m on.
+pub fn all_alike(s: &[u8], l: Layout, known: &mut [u8])
+    requires { ⌜ LaidOut (now s) l ⌝ }
+    requires { ⌜ length (now known) ≡ 4096 ⌝ }
+    requires { ⌜ Zeros (now known) ⌝ }
+    ensures { λ _. ⌜ AllAlike (now (s .entry)) (now (known .exit)) ⌝ }
+{
+    let mut q = 0;
+    while q < l.productions {
+        let m = nonterminal_of(s, l, q);
+        let t = tag_number_of(s, l, q);
+        one_alike(known, m, t);
+        q += 1;
     }
 }
 
-// Whether two different strings go the same way: then the next symbol does not tell which.
-fn is_many(n: Number) -> bool
-    ensures { λ r. ⌜ r ≡ isMany (countOf n) ⌝ }
+// A sum with n more, where the symbol is one that the atom can be.
+fn raise(sum: u8, alike: u8, n: Number) -> u8
+    ensures { λ r. ⌜ r ≡ raised sum (mul (countOf n) (bitCount (ltb 0 alike))) ⌝ }
 {
-    match n {
-        Number::None => false,
-        Number::One => false,
-        Number::Many => true,
+    let hit = bit(alike > 0);
+    let more = times(n, hit);
+    match more {
+        Number::None => sum,
+        Number::One => { if sum == 0 { 1 } else { 2 } }
+        Number::Many => 2,
     }
 }
 
-// Whether many bracket strings go from the place p to x in production q: rule S's fault there.
-pub fn many_at(s: &[u8], l: Layout, q: usize, p: usize, x: Symbol) -> bool
+// n bracket strings lead to an atom of nonterminal m: the sum of each of its tags is raised.
+fn raise_tags(known: &[u8], sums: &mut [u8], m: usize, n: Number)
+    requires { ⌜ length (now known) ≡ 4096 ⌝ }
+    requires { ⌜ length (now sums) ≡ 65 ⌝ }
+    requires { ⌜ m ≤ 63 ⌝ }
+    ensures { λ _. ⌜ TagsRaised (now (known .entry)) m (countOf n) (now (sums .entry)) (now (sums .exit)) ⌝ }
+{
+    let from = 64 * m;
+    let mut t = 0;
+    while t < 64 {
+        sums[t] = raise(sums[t], known[from + t], n);
+        t += 1;
+    }
+}
+
+// The bracket strings from p to the start of a star's part: those to the star, and those from p in it back to its start, then any number of empty turns.
+fn turned(n: Number, part: Tally) -> Number
+    ensures { λ r. ⌜ countOf r ≡ mul (add (countOf n) (countOf (part .last))) (rep (countOf (part .null)) one) ⌝ }
+{
+    let null = part.null;
+    let last = part.last;
+    let turns = again(null, Number::One);
+    let starts = plus(n, last);
+    times(starts, turns)
+}
+
+// An atom is behind: what leads to its end starts there.
+fn passed(here: bool, next: usize, atom: usize) -> Onward
+    ensures { λ r. ⌜ PassedAs here next atom r ⌝ }
+{
+    let out = bit(here);
+    Onward {
+        out: out,
+        next: next,
+        atom: atom,
+    }
+}
+
+// Both parts of a union are behind: n lead to the end of the first.
+fn either(n: Number, second: Onward) -> Onward
+    ensures { λ r. ⌜ EitherAs (countOf n) second r ⌝ }
+{
+    let m = second.out;
+    let out = plus(n, m);
+    Onward {
+        out: out,
+        next: second.next,
+        atom: second.atom,
+    }
+}
+
+// Where n bracket strings lead from the place p to the start of the tree at node `at`: each sum is raised by the number of those that lead on
+// to an atom of the tree that can be its symbol, with those from p in the tree itself.
+fn spread(
+    s: &[u8],
+    l: Layout,
+    known: &[u8],
+    sums: &mut [u8],
+    p: usize,
+    at: usize,
+    left: usize,
+    j: usize,
+    n: Number,
+) -> Onward
+    requires { ⌜ LaidOut (now s) l ⌝ }
+    requires { ⌜ Trees (now s) ⌝ }
+    requires { ⌜ AllAlike (now s) (now known) ⌝ }
+    requires { ⌜ length (now sums) ≡ 65 ⌝ }
+    requires { ⌜ TreeIn (now s) at left j ⌝ }
+    ensures { λ r. ⌜ Spread (now (s .entry)) p at j (countOf n) (now (sums .entry)) (now (sums .exit)) r ⌝ }
+{
+    let kind = kind_of(s, l, at);
+    if kind == 1 {
+        let m = argument_of(s, l, at);
+        raise_tags(known, sums, m, n);
+        return passed(p == j, at + 1, j + 1);
+    }
+    if kind == 2 {
+        sums[64] = raise(sums[64], 1, n);
+        return passed(p == j, at + 1, j + 1);
+    }
+    if kind == 5 {
+        let part = walk_tree(s, l, p, at + 1, left - 1, j);
+        let starts = turned(n, part);
+        spread(s, l, known, sums, p, at + 1, left - 1, j, starts);
+        return Onward {
+            out: starts,
+            next: part.next,
+            atom: part.atom,
+        };
+    }
+    let first = spread(s, l, known, sums, p, at + 1, left - 1, j, n);
+    let middle = first.next;
+    let atom = first.atom;
+    let out = first.out;
+    if kind == 3 {
+        return spread(s, l, known, sums, p, middle, left - 1, atom, out);
+    }
+    let second = spread(s, l, known, sums, p, middle, left - 1, atom, n);
+    either(out, second)
+}
+
+// The bracket strings from the place p of production q, counted for each next symbol at once: each sum is raised by the number of those to an
+// atom that can be its symbol, and the answer is the number of those to the end.
+pub fn count_from(s: &[u8], l: Layout, known: &[u8], sums: &mut [u8], q: usize, p: usize) -> Number
     requires { ⌜ LaidOut (now s) l ⌝ }
     requires { ⌜ RunsInside (now s) ⌝ }
     requires { ⌜ Trees (now s) ⌝ }
+    requires { ⌜ AllAlike (now s) (now known) ⌝ }
+    requires { ⌜ length (now sums) ≡ 65 ⌝ }
     requires { ⌜ q < l .productions ⌝ }
-    ensures { λ r. ⌜ ManyIs (now (s .entry)) q p x r ⌝ }
+    ensures { λ r. ⌜ CountedFrom (now (s .entry)) q p (now (sums .entry)) (now (sums .exit)) r ⌝ }
 {
+    let start = bit(p == 0);
     let nodes = node_count_of(s, l, q);
     if nodes == 0 {
-        return false;
+        return start;
     }
     let first = first_node_of(s, l, q);
-    let t = walk_tree(s, l, x, p, first, nodes, 1);
-    let n = picked(t, p, x);
-    is_many(n)
+    let onward = spread(s, l, known, sums, p, first, nodes, 1, start);
+    onward.out
 }
 
 // The number of production q's atoms: its places are 0 to that.
@@ -412,6 +516,6 @@ pub fn atoms_of(s: &[u8], l: Layout, q: usize) -> usize
         return 0;
     }
     let first = first_node_of(s, l, q);
-    let t = walk_tree(s, l, Symbol::End, 0, first, nodes, 1);
+    let t = walk_tree(s, l, 0, first, nodes, 1);
     t.atom - 1
 }

@@ -16,6 +16,7 @@ use Rattle.trees.specs.declared.Symbol.{Symbol}
 use Rattle.trees.specs.GrammarAt.{GrammarIs}
 use Rattle.trees.specs.Symbol.{nextOf}
 use Rattle.trees.specs.Answers.{CanBeIs, CharacterIs}
+use Rattle.trees.proofs.Answers.{can-be-of-grammar}
 use Rattle.ways.specs.declared.Line.{Line}
 use Rattle.ways.specs.declared.Way.{Way}
 use Rattle.ways.specs.declared.Spot.{Spot}
@@ -27,7 +28,7 @@ use Rattle.ways.proofs.Holds.{line-moved, way-moved}
 
 module _ (s : List ℕ) (k n : ℕ) (x : Symbol) (r : Bool) where
   nonterminal-of : k ≡ 1 → CanBeIs s n x r → (g : List Production) → GrammarIs s g → (a : Atom) → k ≡ kindNumber a → n ≡ argumentNumber a → r ≡ canBe (tagsOf g) a (nextOf x)
-  nonterminal-of e c g γ (nonterminal m) p q = c .is g γ ∙ ap (λ (z : ℕ). canBe (tagsOf g) (nonterminal z) (nextOf x)) q
+  nonterminal-of e c g γ (nonterminal m) p q = c .is ∙ can-be-of-grammar s n x g γ ∙ ap (λ (z : ℕ). canBe (tagsOf g) (nonterminal z) (nextOf x)) q
   nonterminal-of e c g γ anychar p q = absurd (omega arith)
 
   pub can-nonterminal : k ≡ 1 → CanBeIs s n x r → CanIs s k n x r

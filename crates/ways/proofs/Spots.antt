@@ -8,7 +8,6 @@ use native.Mathlib.Numerals.{add-one}
 use Rattle.expressions.specs.Expr.{Atom, Exp, atom, cat, alt, star, empty, nonterminal, anychar, nodes, atoms}
 use Rattle.layout.specs.Layout.{nodeCount}
 use Rattle.layout.specs.Records.{kindOf}
-use Rattle.trees.specs.declared.Symbol.{Symbol}
 use Rattle.trees.specs.declared.Tally.{Tally}
 use Rattle.trees.specs.Trees.{TreeAt}
 use Rattle.trees.specs.Tally.{TreeIn, Tallied}
@@ -106,7 +105,7 @@ module _ (s : List ℕ) (t : Spot) (low : 3 ≤ kindOf s (t .node)) (high : kind
       let v = two-in h in
       record { expression = v .left; stands = rw add-one (v .left-stands); few = omega (arith, v .all); inside = omega (arith, v .all); number = omega arith }
 
-  module _ (h : SpotIn s t) (x : Symbol) (p : ℕ) (w : Tally) (passed : Tallied s x p (t .node + 1) 0 w) where
+  module _ (h : SpotIn s t) (p : ℕ) (w : Tally) (passed : Tallied s p (t .node + 1) 0 w) where
     -- and what it tells
     pub record Passed : Type 0 where
       pub next-is : w .next ≡ suc (t .node) + nodes (two-in h .left)

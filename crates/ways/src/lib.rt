@@ -140,7 +140,7 @@ fn parts_of(s: &[u8], l: Layout, t: Spot) -> Parts
     ensures { λ r. ⌜ PartsOf (now (s .entry)) t r ⌝ }
 {
     let at = t.node + 1;
-    let passed = walk_tree(s, l, Symbol::End, 0, at, t.nodes - 1, 0);
+    let passed = walk_tree(s, l, 0, at, t.nodes - 1, 0);
     let past = passed.next;
     let nodes = past - at;
     let first = Spot {

@@ -17,29 +17,29 @@ use Rattle.faults.proofs.s_faults.Lts as lts
 use Rattle.faults.proofs.s_faults_of.Reads as s-faults-of-reads
 
 abbrev Inv-loop : tie.InvT-loop
-Inv-loop s l list₀ at write n₀ q₀ list n q =
+Inv-loop s l known list₀ at write n₀ q₀ list n q =
     Loop s (λ (g : List Production). sFaultsFrom (tagCount s) (tagsOf g) 0 g)
     (λ (g : List Production) (q : ℕ). sFaultsOf (tagCount s) (tagsOf g) q (contentOf g q)) (l .productions) 8712 write list₀ at list n q
 
 abbrev μ-loop : tie.MeasureT-loop
-μ-loop s l list₀ at write n₀ q₀ list n q = l .productions - q
+μ-loop s l known list₀ at write n₀ q₀ list n q = l .productions - q
 
 loop-holds : tie.Need-loop-holds Inv-loop μ-loop
 loop-holds c =
-    let a = c .before .before in
+    let a = c .before .before .before in
     let s = now (a .args .s) in
     let e : productionCount s ≡ a .args .l .productions = omega (arith, a .pre .0 .layout-is .productions-is .is) in
     loop-begun _ 8712 (λ g i. s-gathered s (tagCount s) g i ∙ ap (λ (k : ℕ). gather 0 k (λ q. sFaultsOf (tagCount s) (tagsOf g) q (contentOf g q))) e)
 
 s-faults-of-requires : tie.Need-s-faults-of-requires Inv-loop μ-loop
 s-faults-of-requires c κs =
-    let a = c .before .before .before .before .before .before .pre in
-    (a .0, (a .1 .0, (omega arith, omega arith)))
+    let a = c .before .before .before .before .before .before .before .pre in
+    (a .0, (a .1 .0, (a .1 .1 .0, (omega arith, omega arith))))
 
 loop-again : tie.Need-loop-again Inv-loop μ-loop
 loop-again c =
     let b = c .before .before .before .before in
-    loop-on _ 8712 _ (b .if1 .taken) (b .before .before .loop .inv) (c .before .before .s-faults-of .ensures) (c .before .before .s-faults-of .kept .1 .1 .0)
+    loop-on _ 8712 _ (b .if1 .taken) (b .before .before .loop .inv) (c .before .before .s-faults-of .ensures) (c .before .before .s-faults-of .kept .1 .1 .1 .0)
 
 same-length : tie.Need-same-length Inv-loop μ-loop
 same-length c = c .before .before .loop .inv .3

@@ -19,20 +19,20 @@ use Rattle.faults.proofs.s_faults_at.Reads as s-faults-at-reads
 use Rattle.trees.proofs.atoms_of.Reads as atoms-of-reads
 
 abbrev Inv-loop : tie.InvT-loop
-Inv-loop s l list₀ at q write atoms n₀ p₀ list n p =
+Inv-loop s l known list₀ at q write atoms n₀ p₀ list n p =
     (atoms ≤ 32) × Loop s (λ (g : List Production). sFaultsOf (tagCount s) (tagsOf g) q (contentOf g q))
     (λ (g : List Production). sFaultsAt (tagCount s) (tagsOf g) (contentOf g q) q) (atoms + 1) 264 write list₀ at list n p
 
 abbrev μ-loop : tie.MeasureT-loop
-μ-loop s l list₀ at q write atoms n₀ p₀ list n p = atoms + 1 - p
+μ-loop s l known list₀ at q write atoms n₀ p₀ list n p = atoms + 1 - p
 
 atoms-of-requires : tie.Need-atoms-of-requires Inv-loop μ-loop
-atoms-of-requires c κs = let a = c .before .before .pre in (a .0, (runs-inside _ (a .1 .0 .productions), (a .1 .0 .trees, a .1 .1 .1)))
+atoms-of-requires c κs = let a = c .before .before .before .pre in (a .0, (runs-inside _ (a .1 .0 .productions), (a .1 .0 .trees, a .1 .1 .1 .1)))
 
 loop-holds : tie.Need-loop-holds Inv-loop μ-loop
 loop-holds c =
-    let b = c .before .before .before in
-    let q = there (b .pre .0) (b .pre .1 .1 .1) in
+    let b = c .before .before .before .before in
+    let q = there (b .pre .0) (b .pre .1 .1 .1 .1) in
     let few = b .pre .1 .0 .productions .each (b .args .q) q .few-nodes in (
       omega (arith, c .atoms-of .ensures .few, few),
       loop-begun _ 264 (λ g i. ap (λ (k : ℕ). gather 0 k (sFaultsAt (tagCount (now (b .args .s))) (tagsOf g) (contentOf g (b .args .q)) (b .args .q))) (places-in q (c .atoms-of .ensures) g i)),
@@ -40,14 +40,14 @@ loop-holds c =
 
 s-faults-at-requires : tie.Need-s-faults-at-requires Inv-loop μ-loop
 s-faults-at-requires c κs =
-    let a = c .before .before .before .before .before .before .pre in
-    (a .0, (a .1 .0, (omega arith, (a .1 .1 .1, omega arith))))
+    let a = c .before .before .before .before .before .before .before .pre in
+    (a .0, (a .1 .0, (a .1 .1 .0, (omega arith, (a .1 .1 .1 .1, omega arith)))))
 
 loop-again : tie.Need-loop-again Inv-loop μ-loop
 loop-again c =
     let b = c .before .before .before .before in
     let v = b .before .loop .inv in
-    (v .0, loop-on _ 264 _ (omega arith) (v .1) (c .before .before .s-faults-at .ensures) (c .before .before .s-faults-at .kept .1 .1 .0))
+    (v .0, loop-on _ 264 _ (omega arith) (v .1) (c .before .before .s-faults-at .ensures) (c .before .before .s-faults-at .kept .1 .1 .1 .0))
 
 same-length : tie.Need-same-length Inv-loop μ-loop
 same-length c = c .before .loop .inv .1 .3

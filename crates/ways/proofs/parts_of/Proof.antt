@@ -15,31 +15,31 @@ walk-tree-requires c κs =
 sub-nodes : tie.Need-sub-nodes
 sub-nodes c =
     let w = c .before .before .before .before in
-    let m = passed-by _ _ (w .pre .1 .1 .0) (w .pre .1 .1 .1) (w .pre .1 .0) _ _ _ (c .walk-tree .ensures) in
+    let m = passed-by _ _ (w .pre .1 .1 .0) (w .pre .1 .1 .1) (w .pre .1 .0) _ _ (c .walk-tree .ensures) in
     omega (arith, m .past)
 
 sub-t12 : tie.Need-sub-t12
 sub-t12 c =
     let w = c .before .before .before .before .before .before in
-    let m = passed-by _ _ (w .pre .1 .1 .0) (w .pre .1 .1 .1) (w .pre .1 .0) _ _ _ (c .before .before .walk-tree .ensures) in
+    let m = passed-by _ _ (w .pre .1 .1 .0) (w .pre .1 .1 .1) (w .pre .1 .0) _ _ (c .before .before .walk-tree .ensures) in
     omega (arith, m .past, m .room)
 
 add-t14 : tie.Need-add-t14
 add-t14 c =
     let w = c .before .before .before .before .before .before .before in
-    let m = passed-by _ _ (w .pre .1 .1 .0) (w .pre .1 .1 .1) (w .pre .1 .0) _ _ _ (c .before .before .before .walk-tree .ensures) in
+    let m = passed-by _ _ (w .pre .1 .1 .0) (w .pre .1 .1 .1) (w .pre .1 .0) _ _ (c .before .before .before .walk-tree .ensures) in
     omega (arith, m .past, m .room)
 
 add-t15 : tie.Need-add-t15
 add-t15 c =
     let w = c .before .before .before .before .before .before .before .before .before in
-    let m = passed-by _ _ (w .pre .1 .1 .0) (w .pre .1 .1 .1) (w .pre .1 .0) _ _ _ (c .before .before .before .before .before .walk-tree .ensures) in
+    let m = passed-by _ _ (w .pre .1 .1 .0) (w .pre .1 .1 .1) (w .pre .1 .0) _ _ (c .before .before .before .before .before .walk-tree .ensures) in
     omega (arith, m .past, m .room, m .few)
 
 returns : tie.Need-returns
 returns c =
     let w = c .before .before .before .before .before .before .before .before .before in
-    parts-are _ _ (w .pre .1 .1 .0) (w .pre .1 .1 .1) (w .pre .1 .0) _ _ _ (c .before .before .before .before .before .walk-tree .ensures) _ refl refl refl refl refl refl refl refl
+    parts-are _ _ (w .pre .1 .1 .0) (w .pre .1 .1 .1) (w .pre .1 .0) _ _ (c .before .before .before .before .before .walk-tree .ensures) _ refl refl refl refl refl refl refl refl
 
 pub parts-of-spec : {M : Type 1} → statement M
 parts-of-spec =
