@@ -18,20 +18,20 @@ sub-nodes c =
     let m = passed-by _ _ (w .pre .1 .1 .0) (w .pre .1 .1 .1) (w .pre .1 .0) _ _ (c .walk-tree .ensures) in
     omega (arith, m .past)
 
-sub-t12 : tie.Need-sub-t12
-sub-t12 c =
+sub-t11 : tie.Need-sub-t11
+sub-t11 c =
     let w = c .before .before .before .before .before .before in
     let m = passed-by _ _ (w .pre .1 .1 .0) (w .pre .1 .1 .1) (w .pre .1 .0) _ _ (c .before .before .walk-tree .ensures) in
     omega (arith, m .past, m .room)
 
-add-t14 : tie.Need-add-t14
-add-t14 c =
+add-t13 : tie.Need-add-t13
+add-t13 c =
     let w = c .before .before .before .before .before .before .before in
     let m = passed-by _ _ (w .pre .1 .1 .0) (w .pre .1 .1 .1) (w .pre .1 .0) _ _ (c .before .before .before .walk-tree .ensures) in
     omega (arith, m .past, m .room)
 
-add-t15 : tie.Need-add-t15
-add-t15 c =
+add-t14 : tie.Need-add-t14
+add-t14 c =
     let w = c .before .before .before .before .before .before .before .before .before in
     let m = passed-by _ _ (w .pre .1 .1 .0) (w .pre .1 .1 .1) (w .pre .1 .0) _ _ (c .before .before .before .before .before .walk-tree .ensures) in
     omega (arith, m .past, m .room, m .few)
@@ -51,8 +51,8 @@ parts-of-spec =
     sub-nodes
     (λ c. search needs)
     (λ c. search needs)
-    sub-t12
+    sub-t11
     (λ c. search needs)
+    add-t13
     add-t14
-    add-t15
     returns)
