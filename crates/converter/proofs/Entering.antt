@@ -14,9 +14,10 @@ use borrow.Author.Tests.{ne-eqb, eq-eqb, eqb-true}
 use Rattle.lent.proofs.Laws.{put-all}
 use Rattle.tells.proofs.Laws.{held, failed}
 use Rattle.tokens.specs.declared.Answer.the-variants.{Begun}
-use Rattle.sheet.specs.Sheet.{Sheet, IsSheet}
+use Rattle.expressions.specs.FaultList.{FaultNumber, passes, t-fault, s-faults}
+use Rattle.sheet.specs.Sheet.{Sheet, grammarOf, IsSheet}
 use Rattle.sheet.proofs.SheetLaws.{sheet-grammar}
-use Rattle.faults.specs.Verdict.{VerdictIs, malformed, passes, breaks-T, breaks-S}
+use Rattle.faults.specs.Verdict.{VerdictIs, malformed, of-sheet}
 use Rattle.runs.specs.Taken.{Passed}
 use Rattle.runs.specs.Machine.{Control}
 use Rattle.calls.specs.Call.{atEnd, numberAt, again}
@@ -42,11 +43,14 @@ pub record PassedSheet (s : List ℕ) : Type 0 where
   pub is-sheet : IsSheet s sheet
   pub passed : Passed sheet
 
+passed-by : {s : List ℕ} {n : ℕ} (a : Sheet) → IsSheet s a → FaultNumber (grammarOf (a .rules)) n → n ≡ 0 → PassedSheet s
+passed-by a i (passes t u) e = record { sheet = a; is-sheet = i; passed = record { keeps-T = t; keeps-S = u } }
+passed-by a i (t-fault f) e = absurd (omega arith)
+passed-by a i (s-faults t f) e = absurd (omega arith)
+
 pub passed-sheet : {s : List ℕ} {n : ℕ} → VerdictIs s n → n ≡ 0 → PassedSheet s
 passed-sheet (malformed h d) e = absurd (omega arith)
-passed-sheet (passes a i t u) e = record { sheet = a; is-sheet = i; passed = record { keeps-T = t; keeps-S = u } }
-passed-sheet (breaks-T a i f) e = absurd (omega arith)
-passed-sheet (breaks-S a i t u) e = absurd (omega arith)
+passed-sheet (of-sheet a i q) e = passed-by a i q e
 
 pub entered-failing : {s : List ℕ} {o : Option State} {n : ℕ} → VerdictIs s n → (n ≡ 0 → ⊥) → Entered s o n
 entered-failing v h = let k = over-zero h in given-back k (sheet-fails k v)

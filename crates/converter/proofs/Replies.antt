@@ -13,9 +13,10 @@ use lib.Dec.{eqb}
 use lib.ListN.{length, take, drop}
 use lib.Seq.{take-append-seam}
 use borrow.Author.Tests.{eqb-true, eq-eqb}
+use Rattle.expressions.specs.FaultList.{passes}
 use Rattle.sheet.specs.Sheet.{Sheet, IsSheet}
 use Rattle.sheet.proofs.SheetLaws.{one-sheet}
-use Rattle.faults.specs.Verdict.{VerdictIs, passes}
+use Rattle.faults.specs.Verdict.{VerdictIs, of-sheet}
 use Rattle.faults.proofs.Theorems.{one-verdict, verdict-most}
 use Rattle.runs.specs.Taken.{Passed}
 use Rattle.runs.specs.Machine.{State as Run}
@@ -36,7 +37,7 @@ some-inj e = cc
 
 module _ {s : List ℕ} {a : Sheet} (i : IsSheet s a) (ok : Passed a) where
   not-failed : {n : ℕ} → 1 ≤ n → VerdictIs s n → ⊥
-  not-failed h v = omega (arith, h, one-verdict v (passes a i (ok .keeps-T) (ok .keeps-S)))
+  not-failed h v = omega (arith, h, one-verdict v (of-sheet a i (passes (ok .keeps-T) (ok .keeps-S))))
 
   pub fits-here : {b : Sheet} {z : State} → IsSheet s b → FitsSheet b z → FitsSheet a z
   fits-here {b} {z} j f = subst (λ (x : Sheet). FitsSheet x z) (one-sheet j i) f

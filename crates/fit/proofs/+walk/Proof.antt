@@ -11,7 +11,7 @@ use borrow.Fn.Kinds.{In}
 use borrow.Fn.PlainCycle.{Measures, is, falls, and}
 use Rattle.layout.proofs.argument_of.Reads as argument-of-reads
 use Rattle.layout.proofs.kind_of.Reads as kind-of-reads
-use Rattle.trees.proofs.Tallies.{room, inner}
+use Rattle.trees.proofs.Tallies.{room, inner, no-atom}
 use Rattle.fit.proofs.Spots.{nonterminal-walked, character-walked, star-walked, second-tree, pair-walked}
 use Rattle.fit.proofs.walk.Reads as walk
 use Rattle.fit.proofs.walk.Kinds as walk-kinds
@@ -85,7 +85,7 @@ walk-sub-walk t c = room _ _ _ _ (c .before .before .before .before .pre .1 .1) 
 walk-walk-requires : (t : ℕ) → walk-lts.Need-walk-requires (callees t) (walk-at t) walk.Post
 walk-walk-requires t c κs =
     let w = c .before .before .before .before in
-    (omega (arith, room _ _ _ _ (w .pre .1 .1), w .pre .0), (w .pre .1 .0, inner _ _ _ (c .before .before .kind-of .ensures .is) (c .before .if1 .left) (c .if2 .left) _ _ (w .pre .1 .1)))
+    (omega (arith, room _ _ _ _ (w .pre .1 .1), w .pre .0), (w .pre .1 .0, inner _ _ _ (c .before .before .kind-of .ensures .is) (no-atom _ _ _ (c .before .before .kind-of .ensures .is) (w .pre .1 .1 .expression) (w .pre .1 .1 .stands) (c .before .if1 .left) (c .if2 .left)) _ _ (w .pre .1 .1)))
 
 walk-around-requires : (t : ℕ) → walk-lts.Need-around-requires (callees t) (walk-at t) walk.Post
 walk-around-requires t c κs =
