@@ -27,8 +27,8 @@ uint64_t wickpollen_fresh(uint8_t *state, size_t state_len);
 
    counts[0]: how many bytes of the part were taken. Present the others again, in front of what comes next.
    counts[1]: how many bytes were written, at the start of out. Every byte of out past them is as lent.
-   counts[2]: the visits since the state was fresh. A call adds at most 130 for each token that it takes: 65 for a start or an end tag, 130 for an
-   empty tag, 64 for a character. Where the whole stream was taken they are exactly twice the nodes of its tree.
+   counts[2]: the visits since the state was fresh. A call adds at most 130 for each token that it takes. Where the whole
+   stream was taken they are exactly twice the nodes of its tree.
 
      0          the stream has ended and was taken whole: its output is complete.
      16         the part is used up, or only a begun token of it is left: go on with the next part.
@@ -40,8 +40,8 @@ uint64_t wickpollen_fresh(uint8_t *state, size_t state_len);
      28, 29     the stream had ended before; the state is none of this sheet's, or state_len is not what wickpollen_fresh answered.
 
    state[0 .. state_len) holds the state after the part; with 1 to 9, 28, 29, and where an earlier refusal is only repeated, nothing is
-   taken or written and every byte of the state is as it was. A state that was handed back has one form: what is not in use is 0, so it
-   may be stored, and two of them hold the same exactly when their bytes are equal. A call that takes nothing and answers 16 or 17 leaves
+   taken or written and every byte of the state is as it was. A state that wickpollen_fresh made, or that any other
+   number came with, has one form: what is not in use is 0, so it may be stored, and two of them hold the same exactly when their bytes are equal. A call that takes nothing and answers 16 or 17 leaves
    the bytes of such a state as they were. counts[0] is at most part_len and counts[1] at most out_len.
 
    The sheet is tested in every call, so a part of some thousand bytes costs much less than as many small ones. */
