@@ -93,7 +93,7 @@ before-nothing g n lim {c} (then {c′ = c′} x bs e r) b = absurd (before-go g
 
 module _ (g : List Production) (n lim : ℕ) where
   -- a run of the control is over events that the grammar allows
-  moves-allowed : 1 ≤ lim → (xs : List Event) (bs : List Act) (c : Control) → Moves g n lim before xs bs c → (d : ℕ) × Allowed g n xs bs d × (d ≤ lim)
+  pub moves-allowed : 1 ≤ lim → (xs : List Event) (bs : List Act) (c : Control) → Moves g n lim before xs bs c → (d : ℕ) × Allowed g n xs bs d × (d ≤ lim)
   moves-allowed one xs bs c m = by c m
     where
       begun-by : (c : Control) → Moves g n lim before xs bs c → (before ≡ c → ⊥) → (d : ℕ) × Allowed g n xs bs d × (d ≤ lim)
@@ -116,7 +116,7 @@ module _ (g : List Production) (n lim : ℕ) where
       by after m = begun-by after m (λ e. let z : _≡_ {A = ℕ} 0 1 = cc in omega arith)
 
   -- and there is one over all that it allows
-  allowed-moves : NoTFault g → NoSFault g → {xs : List Event} {bs : List Act} {d : ℕ} → Allowed g n xs bs d → d ≤ lim → (c : Control) × Moves g n lim before xs bs c
+  pub allowed-moves : NoTFault g → NoSFault g → {xs : List Event} {bs : List Act} {d : ℕ} → Allowed g n xs bs d → d ≤ lim → (c : Control) × Moves g n lim before xs bs c
   allowed-moves no-T no-S no-event l = (before, stay)
   allowed-moves no-T no-S (whole t) l = (after, complete g n lim no-T no-S t l)
   allowed-moves no-T no-S (begun r) l = let t = open-to g n lim no-T no-S r l in (inside (t .0) (t .1), t .2)
@@ -262,13 +262,13 @@ module _ (s : Sheet) (ok : Passed s) (xs : List Event) (z : State) (ran : run s 
       last (refused k) = refl
 
   -- the root is closed exactly where the control stands after it
-  closed-after : RootClosed s xs → z .control ≡ after
+  pub closed-after : RootClosed s xs → z .control ≡ after
   closed-after r =
       let wide : ℕ = max most (depth (r .0)) in
       let m = complete g n wide noT noS (r .0) (omega arith) in
       moves-one (moves-wider g n most wide (omega arith) (taken .moved)) (subst (λ (ys : List Event). Moves g n wide before ys (line (r .0)) after) (r .1) m) .1
 
-  after-closed : z .control ≡ after → RootClosed s xs
+  pub after-closed : z .control ≡ after → RootClosed s xs
   after-closed c = let t = to-tree s xs z ran c in (t .1 .root, t .1 .are-events)
 
   open-tags : openTags xs ≡ tags-at g (z .control)

@@ -42,7 +42,7 @@ closed-is (inside o os) kss w v e = no-env v e
 closed-is after [] w v e = let h : w ≡ v = cc in ap closed-with h
 closed-is after (ks ∷ kss) w v e = no-env v e
 
-tokens-are : (o : TokenOutcome) (v : Env) → of-tokens o ≡ some v → o ≡ through (closed-with v)
+pub tokens-are : (o : TokenOutcome) (v : Env) → of-tokens o ≡ some v → o ≡ through (closed-with v)
 tokens-are (through z) v e = ap through (closed-is (z .control) (z .store .kept) (z .store .env) v e)
 tokens-are (stops k z ts) v e = no-env v e
 

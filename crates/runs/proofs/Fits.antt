@@ -195,11 +195,11 @@ module _ (g : List Production) (n lim : ℕ) where
       let i = events-split x xs h in
       letters-append bs cs (move-letters c x bs c′ e (i .0)) (moves-letters r (i .1))
 
--- under a sheet that fits every state that a run comes to keeps and has written only what fits
-pub run-fits : (s : Sheet) → SheetFits s → (xs : List Event) → EventsFit xs → (z : State) → run s fresh-state xs ≡ finished z → StoreFits (z .store)
-run-fits s ok xs h z e =
-    let t = moves-run s before fresh-store xs z e in
-    acts-fit s ok (t .row) (moves-letters (grammar s) (s .start-nonterminal) most (t .moved) h) fresh-store (z .store) fresh-fits (t .done)
+-- under a sheet that fits every state that a run comes to from one that fits keeps and has written only what fits
+pub run-fits : (s : Sheet) → SheetFits s → (z : State) → StoreFits (z .store) → (xs : List Event) → EventsFit xs → (z′ : State) → run s z xs ≡ finished z′ → StoreFits (z′ .store)
+run-fits s ok z f xs h z′ e =
+    let t = moves-run s (z .control) (z .store) xs z′ e in
+    acts-fit s ok (t .row) (moves-letters (grammar s) (s .start-nonterminal) most (t .moved) h) (z .store) (z′ .store) f (t .done)
 
 -- there are as many values as a program may name attributes
 pub attribute-iff : (a : ℕ) → Attribute a ↔ (a < attributes)

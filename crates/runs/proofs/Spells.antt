@@ -1,5 +1,5 @@
 -- Demand 2 over tokens. A run over tokens is a run over events with a mark at each, whether white space passed there (`Walks`). The marks can be
--- read off the row of acts (`flagged`), and a tree's row gives the tree's own marks; so demand 2 over events gives it over tokens.
+-- read off the row of acts (`rowMarks`), and a tree's row gives the tree's own marks; so demand 2 over events gives it over tokens.
 -- Assumes nothing.
 use mathlib.Core.Path.{_≡_, refl, sym, _∙_, ap, subst}
 use mathlib.Core.Bool.{Bool, true, false, _&&_}
@@ -17,56 +17,41 @@ use Rattle.runs.specs.Lookup.{tagOf, find}
 use Rattle.runs.specs.Visits.{grammar, Env}
 use Rattle.runs.specs.Events.{Event, starts, ends, letter}
 use Rattle.runs.specs.Parse.{Element, element, Children, childless, children, Parse, child, one-char, pair, first-of, second-of, repeat, void, Parses, done, next, yield}
-use Rattle.runs.specs.Acts.{Act, node-first, node-second, start-tag, end-tag, letter-read, bracket-acts, Store, acts}
+use Rattle.runs.specs.Acts.{Act, node-first, node-second, start-tag, end-tag, letter-read, bracket-acts, Store, fresh-store, acts}
 use Rattle.runs.specs.Machine.{Open, Control, before, inside, after, Turn, refuse, go, outer, root-by, move, most, State, fresh-state, Answer, took, refused, acted, turned, step, Outcome, finished, stopped, onward, answered, run}
 use Rattle.runs.specs.Line.{line, lineC, lineP, linePs}
-use Rattle.runs.specs.Taken.{Passed, Parsed, closed-with}
+use Rattle.runs.specs.Taken.{Passed, Parsed, closed-with, Allowed}
 use Rattle.runs.specs.Spells.{Token, start-token, end-token, empty-token, literal, reference, eventsOfToken, isBlank, blanksPass, Mark, mark, eventsOfMarks, marks, marksC, marksP, marksPs, Spells, all-read, blank-after, blank-between, one-event, empty-tag, Spelled, passesAt, unless-blank, stepToken, through, onward-token, runTokens}
+use Rattle.runs.specs.SoFar.{passing, outside, rowMarks, rowPasses, SpelledSoFar, eventsSoFar, TokenRefused}
 use Rattle.runs.proofs.Rules.{no-T, no-S}
 use Rattle.runs.proofs.Find.{find-sound}
-use Rattle.runs.proofs.Moves.{Moves, stay, then, moves-one, run-through, run-stops, refuse-go, go-inj}
+use Rattle.runs.proofs.Moves.{Moves, stay, then, moves-one, run-moves, moves-run, run-through, run-stops, refuse-go, go-inj}
 use Rattle.runs.proofs.Complete.{complete}
 use Rattle.runs.proofs.Sound.{started, was-read, ended}
 use Rattle.runs.proofs.Main.{taken-iff}
+use Rattle.runs.proofs.Answers.{moves-allowed, allowed-moves, run-append, stopped-iff}
 use Rattle.runs.proofs.Execute.{both-true}
-
--- the marks of a row of acts, where the contents open so far are given by whether white space passes in them
-abbrev top : List Bool → Bool
-top [] = true
-top (b ∷ bs) = b
-
-abbrev below : List Bool → List Bool
-below [] = []
-below (b ∷ bs) = bs
-
-abbrev flagged : List Production → List Bool → List Act → List Mark
-flagged g ps [] = []
-flagged g ps (node-first q i ∷ bs) = flagged g ps bs
-flagged g ps (node-second q i ∷ bs) = flagged g ps bs
-flagged g ps (start-tag q ∷ bs) = mark (top ps) (starts (some (tagOf g q))) ∷ flagged g (blanksPass (contentOf g q) ∷ ps) bs
-flagged g ps (end-tag q ∷ bs) = mark (top ps) (ends (some (tagOf g q))) ∷ flagged g (below ps) bs
-flagged g ps (letter-read c ∷ bs) = mark (top ps) (letter c) ∷ flagged g ps bs
 
 -- a tree's row has the tree's marks
 abbrev Flags : List Production → List Act → (Bool → List Mark) → Type 0
-Flags g bs f = (ps : List Bool) (rest : List Act) → flagged g ps (bs ++ rest) ≡ f (top ps) ++ flagged g ps rest
+Flags g bs f = (ps : List Bool) (rest : List Act) → rowMarks g ps (bs ++ rest) ≡ f (passing ps) ++ rowMarks g ps rest
 
 flags-append : (g : List Production) (bs cs : List Act) (f h : Bool → List Mark) → Flags g bs f → Flags g cs h → Flags g (bs ++ cs) (λ b. f b ++ h b)
 flags-append g bs cs f h F H ps rest =
-    ap (flagged g ps) (append-assoc bs cs rest) ∙ F ps (cs ++ rest) ∙ ap (λ (l : List Mark). f (top ps) ++ l) (H ps rest)
-    ∙ sym (append-assoc (f (top ps)) (h (top ps)) (flagged g ps rest))
+    ap (rowMarks g ps) (append-assoc bs cs rest) ∙ F ps (cs ++ rest) ∙ ap (λ (l : List Mark). f (passing ps) ++ l) (H ps rest)
+    ∙ sym (append-assoc (f (passing ps)) (h (passing ps)) (rowMarks g ps rest))
 
 flags-wrap : (g : List Production) (q i : ℕ) (bs : List Act) (f : Bool → List Mark) → Flags g bs f → Flags g (node-first q i ∷ (bs ++ node-second q i ∷ [])) f
-flags-wrap g q i bs f F ps rest = ap (flagged g ps) (append-assoc bs (node-second q i ∷ []) rest) ∙ F ps (node-second q i ∷ rest)
+flags-wrap g q i bs f F ps rest = ap (rowMarks g ps) (append-assoc bs (node-second q i ∷ []) rest) ∙ F ps (node-second q i ∷ rest)
 
 mutual
   flags-tree : {g : List Production} {n : ℕ} (t : Element g n) → Flags g (line t) (marks t)
   flags-tree {g} (element q h c) ps rest =
       let b : Bool = blanksPass (contentOf g q) in
       let e : Mark = mark b (ends (some (tagOf g q))) in
-      ap (λ (l : List Mark). mark (top ps) (starts (some (tagOf g q))) ∷ l)
-      (ap (flagged g (b ∷ ps)) (append-assoc (lineC c q) (end-tag q ∷ []) rest) ∙ flags-children c q (b ∷ ps) (end-tag q ∷ rest)
-      ∙ sym (append-assoc (marksC c b) (e ∷ []) (flagged g ps rest)))
+      ap (λ (l : List Mark). mark (passing ps) (starts (some (tagOf g q))) ∷ l)
+      (ap (rowMarks g (b ∷ ps)) (append-assoc (lineC c q) (end-tag q ∷ []) rest) ∙ flags-children c q (b ∷ ps) (end-tag q ∷ rest)
+      ∙ sym (append-assoc (marksC c b) (e ∷ []) (rowMarks g ps rest)))
 
   flags-children : {g : List Production} {c : Content} (p : Children g c) (q : ℕ) → Flags g (lineC p q) (marksC p)
   flags-children childless q ps rest = refl
@@ -103,7 +88,7 @@ outer-stack : (g : List Production) (os : List Open) → stack-of g os ≡ stack
 outer-stack g [] = refl
 outer-stack g (o ∷ os) = refl
 
-flagged-brackets : (g : List Production) (q : ℕ) (α : List Bracket) (ps : List Bool) (rest : List Act) → flagged g ps (bracket-acts q α ++ rest) ≡ flagged g ps rest
+flagged-brackets : (g : List Production) (q : ℕ) (α : List Bracket) (ps : List Bool) (rest : List Act) → rowMarks g ps (bracket-acts q α ++ rest) ≡ rowMarks g ps rest
 flagged-brackets g q [] ps rest = refl
 flagged-brackets g q (opening i ∷ α) ps rest = flagged-brackets g q α ps rest
 flagged-brackets g q (closing i ∷ α) ps rest = flagged-brackets g q α ps rest
@@ -111,21 +96,62 @@ flagged-brackets g q (closing i ∷ α) ps rest = flagged-brackets g q α ps res
 module _ (g : List Production) (n lim : ℕ) where
   -- the acts of one event: brackets, then one act that is marked
   after-brackets : (q : ℕ) (α : List Bracket) (a : Act) (bs : List Act) → bs ≡ bracket-acts q α ++ a ∷ [] → (ps : List Bool) (rest : List Act) →
-      flagged g ps (bs ++ rest) ≡ flagged g ps (a ∷ rest)
+      rowMarks g ps (bs ++ rest) ≡ rowMarks g ps (a ∷ rest)
   after-brackets q α a bs e ps rest =
-      ap (λ (l : List Act). flagged g ps (l ++ rest)) e ∙ ap (flagged g ps) (append-assoc (bracket-acts q α) (a ∷ []) rest) ∙ flagged-brackets g q α ps (a ∷ rest)
+      ap (λ (l : List Act). rowMarks g ps (l ++ rest)) e ∙ ap (rowMarks g ps) (append-assoc (bracket-acts q α) (a ∷ []) rest) ∙ flagged-brackets g q α ps (a ∷ rest)
+
+  -- and what is open then
+  passes-brackets : (q : ℕ) (α : List Bracket) (a : Act) (bs : List Act) → bs ≡ bracket-acts q α ++ a ∷ [] → (ps : List Bool) (rest : List Act) →
+      rowPasses g ps (bs ++ rest) ≡ rowPasses g ps (a ∷ rest)
+  passes-brackets q α a bs e ps rest = ap (λ (l : List Act). rowPasses g ps (l ++ rest)) e ∙ over α
+    where
+      over : (β : List Bracket) → rowPasses g ps ((bracket-acts q β ++ a ∷ []) ++ rest) ≡ rowPasses g ps (a ∷ rest)
+      over [] = refl
+      over (opening i ∷ β) = over β
+      over (closing i ∷ β) = over β
+
+  move-passes : (c : Control) (x : Event) (bs : List Act) (c′ : Control) → move g n lim c x ≡ go bs c′ → (rest : List Act) →
+      rowPasses g (stack-at g c) (bs ++ rest) ≡ rowPasses g (stack-at g c′) rest
+  move-passes before (starts none) bs c′ e rest = refuse-go bs c′ e
+  move-passes before (starts (some t)) bs c′ e rest = by (find g n t) e
+    where
+      by : (f : Option ℕ) → root-by f ≡ go bs c′ → rowPasses g [] (bs ++ rest) ≡ rowPasses g (stack-at g c′) rest
+      by none e = refuse-go bs c′ e
+      by (some q) e =
+          let j = go-inj _ bs _ c′ e in
+          ap (λ (l : List Act). rowPasses g [] (l ++ rest)) (sym (j .0)) ∙ ap (λ (c : Control). rowPasses g (stack-at g c) rest) (j .1)
+  move-passes before (ends t) bs c′ e rest = refuse-go bs c′ e
+  move-passes before (letter y) bs c′ e rest = refuse-go bs c′ e
+  move-passes (inside o os) (starts none) bs c′ e rest = refuse-go bs c′ e
+  move-passes (inside o os) (starts (some t)) bs c′ e rest =
+      let d = started g lim o os n t bs c′ e in
+      passes-brackets (o .production) (d .by .string) (start-tag (d .production)) bs (d .are-acts) (stack-of g (o ∷ os)) rest
+      ∙ ap (λ (c : Control). rowPasses g (stack-at g c) rest) (sym (d .is-control))
+  move-passes (inside o os) (ends t) bs c′ e rest =
+      let d = ended g lim o os n t bs c′ e in
+      passes-brackets (o .production) (d .by) (end-tag (o .production)) bs (d .are-acts) (stack-of g (o ∷ os)) rest
+      ∙ ap (λ (l : List Bool). rowPasses g l rest) (outer-stack g os ∙ ap (stack-at g) (sym (d .is-control)))
+  move-passes (inside o os) (letter y) bs c′ e rest =
+      let d = was-read g lim o os n y bs c′ e in
+      passes-brackets (o .production) (d .by .string) (letter-read y) bs (d .are-acts) (stack-of g (o ∷ os)) rest
+      ∙ ap (λ (c : Control). rowPasses g (stack-at g c) rest) (sym (d .is-control))
+  move-passes after x bs c′ e rest = refuse-go bs c′ e
+
+  moves-passes : {c c′ : Control} {xs : List Event} {bs : List Act} → Moves g n lim c xs bs c′ → rowPasses g (stack-at g c) bs ≡ stack-at g c′
+  moves-passes stay = refl
+  moves-passes (then {c} {c′} {c″} {xs} {cs} x bs e m) = move-passes c x bs c′ e cs ∙ moves-passes m
 
   move-flags : (c : Control) (x : Event) (bs : List Act) (c′ : Control) → move g n lim c x ≡ go bs c′ → (rest : List Act) →
-      flagged g (stack-at g c) (bs ++ rest) ≡ mark (passesAt g c) x ∷ flagged g (stack-at g c′) rest
+      rowMarks g (stack-at g c) (bs ++ rest) ≡ mark (passesAt g c) x ∷ rowMarks g (stack-at g c′) rest
   move-flags before (starts none) bs c′ e rest = refuse-go bs c′ e
   move-flags before (starts (some t)) bs c′ e rest = by (find g n t) refl e
     where
-      by : (f : Option ℕ) → find g n t ≡ f → root-by f ≡ go bs c′ → flagged g [] (bs ++ rest) ≡ mark true (starts (some t)) ∷ flagged g (stack-at g c′) rest
+      by : (f : Option ℕ) → find g n t ≡ f → root-by f ≡ go bs c′ → rowMarks g [] (bs ++ rest) ≡ mark true (starts (some t)) ∷ rowMarks g (stack-at g c′) rest
       by none i e = refuse-go bs c′ e
       by (some q) i e =
           let j = go-inj _ bs _ c′ e in
-          ap (λ (l : List Act). flagged g [] (l ++ rest)) (sym (j .0))
-          ∙ (λ k. mark true (starts (some (find-sound g n t q i .1 k))) ∷ flagged g (stack-at g (j .1 k)) rest)
+          ap (λ (l : List Act). rowMarks g [] (l ++ rest)) (sym (j .0))
+          ∙ (λ k. mark true (starts (some (find-sound g n t q i .1 k))) ∷ rowMarks g (stack-at g (j .1 k)) rest)
   move-flags before (ends t) bs c′ e rest = refuse-go bs c′ e
   move-flags before (letter y) bs c′ e rest = refuse-go bs c′ e
   move-flags (inside o os) (starts none) bs c′ e rest = refuse-go bs c′ e
@@ -134,17 +160,17 @@ module _ (g : List Production) (n lim : ℕ) where
       let i = find-sound g (d .nonterm) t (d .production) (d .is-found) .1 in
       let j : c′ ≡ _ = d .is-control in
       after-brackets (o .production) (d .by .string) (start-tag (d .production)) bs (d .are-acts) (stack-of g (o ∷ os)) rest
-      ∙ (λ k. mark (blanksPass (contentOf g (o .production))) (starts (some (i k))) ∷ flagged g (stack-at g (sym j k)) rest)
+      ∙ (λ k. mark (blanksPass (contentOf g (o .production))) (starts (some (i k))) ∷ rowMarks g (stack-at g (sym j k)) rest)
   move-flags (inside o os) (ends t) bs c′ e rest =
       let d = ended g lim o os n t bs c′ e in
       let i : stack-of g os ≡ stack-at g c′ = outer-stack g os ∙ ap (stack-at g) (sym (d .is-control)) in
       let j : t ≡ some (tagOf g (o .production)) = d .is-tag in
       after-brackets (o .production) (d .by) (end-tag (o .production)) bs (d .are-acts) (stack-of g (o ∷ os)) rest
-      ∙ (λ k. mark (blanksPass (contentOf g (o .production))) (ends (sym j k)) ∷ flagged g (i k) rest)
+      ∙ (λ k. mark (blanksPass (contentOf g (o .production))) (ends (sym j k)) ∷ rowMarks g (i k) rest)
   move-flags (inside o os) (letter y) bs c′ e rest =
       let d = was-read g lim o os n y bs c′ e in
       after-brackets (o .production) (d .by .string) (letter-read y) bs (d .are-acts) (stack-of g (o ∷ os)) rest
-      ∙ ap (λ (c : Control). mark (blanksPass (contentOf g (o .production))) (letter y) ∷ flagged g (stack-at g c) rest) (sym (d .is-control))
+      ∙ ap (λ (c : Control). mark (blanksPass (contentOf g (o .production))) (letter y) ∷ rowMarks g (stack-at g c) rest) (sym (d .is-control))
   move-flags after x bs c′ e rest = refuse-go bs c′ e
 
 -- a run over events with its marks
@@ -183,7 +209,7 @@ step-move s z z′ x e = by-turn (move (grammar s) (s .start-nonterminal) most (
     by-turn (go bs c) i e = (bs, i ∙ ap (go bs) (by-store bs c (acts s bs (z .store)) e))
 
 walks-flags : (s : Sheet) {z z′ : State} {ms : List Mark} → Walks s z ms z′ →
-    (bs : List Act) × Moves (grammar s) (s .start-nonterminal) most (z .control) (eventsOfMarks ms) bs (z′ .control) × (flagged (grammar s) (stack-at (grammar s) (z .control)) bs ≡ ms)
+    (bs : List Act) × Moves (grammar s) (s .start-nonterminal) most (z .control) (eventsOfMarks ms) bs (z′ .control) × (rowMarks (grammar s) (stack-at (grammar s) (z .control)) bs ≡ ms)
 walks-flags s stays = ([], stay, refl)
 walks-flags s {z} (steps {z′ = y} x e w) =
     let t = walks-flags s w in
@@ -200,14 +226,15 @@ end-walk s stays e = refl
 end-walk s (steps x e w) i = absurd (let y : _≡_ {A = ℕ} 0 1 = cc in omega arith)
 
 blank-first : (s : Sheet) {z z′ : State} {ms : List Mark} {ts : List Token} (k : Token) → isBlank k ≡ true → passesAt (grammar s) (z .control) ≡ true → Walks s z ms z′ →
-    Spells ms ts → Spells ms (k ∷ ts)
-blank-first s k b p stays h = blank-after k b h
+    Spells (passesAt (grammar s) (z′ .control)) ms ts → Spells (passesAt (grammar s) (z′ .control)) ms (k ∷ ts)
+blank-first s k b p stays h = blank-after k b p h
 blank-first s {z} {z′} {ms} {ts} k b p (steps {ms = ns} x e w) h =
-    subst (λ (c : Bool). Spells (mark c x ∷ ns) (k ∷ ts)) (sym p) (blank-between k x b (subst (λ (c : Bool). Spells (mark c x ∷ ns) ts) p h))
+    let l : Bool = passesAt (grammar s) (z′ .control) in
+    subst (λ (c : Bool). Spells l (mark c x ∷ ns) (k ∷ ts)) (sym p) (blank-between k x b (subst (λ (c : Bool). Spells l (mark c x ∷ ns) ts) p h))
 
 module _ (s : Sheet) where
   abbrev Spelt : State → List Token → State → Type 0
-  Spelt z ts z′ = (ms : List Mark) × Walks s z ms z′ × Spells ms ts
+  Spelt z ts z′ = (ms : List Mark) × Walks s z ms z′ × Spells (passesAt (grammar s) (z′ .control)) ms ts
 
   -- one token that is not passed over: its events, each a step
   one-walk : {z z′ : State} {ms : List Mark} (x : Event) → Walks s z ms z′ → eventsOfMarks ms ≡ x ∷ [] → ms ≡ mark (passesAt (grammar s) (z .control)) x ∷ []
@@ -222,7 +249,7 @@ module _ (s : Sheet) where
       let m : w .0 ≡ mark (passesAt (grammar s) (z .control)) x ∷ [] = one-walk x (w .1) (w .2) in (
         w .0 ++ t .0,
         walks-append s (w .1) (t .1),
-        subst (λ (l : List Mark). Spells (l ++ t .0) (k ∷ ts)) (sym m) (one-event k (passesAt (grammar s) (z .control)) x b i (t .2)),
+        subst (λ (l : List Mark). Spells (passesAt (grammar s) (z′ .control)) (l ++ t .0) (k ∷ ts)) (sym m) (one-event k (passesAt (grammar s) (z .control)) x b i (t .2)),
       )
 
   two-walk : {z z′ : State} {ms : List Mark} (x y : Event) → Walks s z ms z′ → eventsOfMarks ms ≡ x ∷ y ∷ [] → (b b′ : Bool) × (ms ≡ mark b x ∷ mark b′ y ∷ [])
@@ -239,7 +266,7 @@ module _ (s : Sheet) where
       let m = two-walk (starts t) (ends t) (w .1) (w .2) in (
         w .0 ++ p .0,
         walks-append s (w .1) (p .1),
-        subst (λ (l : List Mark). Spells (l ++ p .0) (empty-token t ∷ ts)) (sym (m .2)) (empty-tag t (m .0) (m .1) (p .2)),
+        subst (λ (l : List Mark). Spells (passesAt (grammar s) (z′ .control)) (l ++ p .0) (empty-token t ∷ ts)) (sym (m .2)) (empty-tag t (m .0) (m .1) (p .2)),
       )
 
   by-token : (z z₁ z′ : State) (k : Token) (ts : List Token) → isBlank k && passesAt (grammar s) (z .control) ≡ false → run s z (eventsOfToken k) ≡ finished z₁ → Spelt z₁ ts z′ →
@@ -308,10 +335,11 @@ module _ (s : Sheet) where
   one-run : (z z₁ : State) (x : Event) → step s z x ≡ took z₁ → run s z (x ∷ []) ≡ finished z₁
   one-run z z₁ x e = ap (λ (a : Answer). onward z (x ∷ []) a (λ y. finished y)) e
 
-  spell-tokens : {ms : List Mark} {ts : List Token} → Spells ms ts → (z z′ : State) → Walks s z ms z′ → passesAt (grammar s) (z′ .control) ≡ true → runTokens s z ts ≡ through z′
+  spell-tokens : {last : Bool} {ms : List Mark} {ts : List Token} → Spells last ms ts → (z z′ : State) → Walks s z ms z′ → passesAt (grammar s) (z′ .control) ≡ last →
+      runTokens s z ts ≡ through z′
   spell-tokens all-read z z′ w p = ap through (end-walk s w refl)
-  spell-tokens (blank-after {ts = ts} k b h) z z′ w p =
-      skip z z′ k ts b (ap (λ (y : State). passesAt (grammar s) (y .control)) (end-walk s w refl) ∙ p) (spell-tokens h z z′ w p)
+  spell-tokens (blank-after {ts = ts} k b l h) z z′ w p =
+      skip z z′ k ts b (ap (λ (y : State). passesAt (grammar s) (y .control)) (end-walk s w refl) ∙ p ∙ l) (spell-tokens h z z′ w p)
   spell-tokens (blank-between {ms = ms} {ts = ts} k x b h) z z′ w p =
       let f = first-step w true x ms refl in
       skip z z′ k ts b (sym (f .flag)) (spell-tokens h z z′ w p)
@@ -334,7 +362,7 @@ walks-marks s ok v ms w p =
     let n : ℕ = s .start-nonterminal in
     let m = complete g n most (no-T g (ok .keeps-T)) (no-S g (ok .keeps-S)) (p .root) (p .fits) in
     let b : t .0 ≡ line (p .root) = moves-one (t .1) (subst (λ (xs : List Event). Moves g n most before xs (line (p .root)) after) (p .are-events) m) .0 in
-    sym (t .2) ∙ ap (flagged g []) (b ∙ sym (append-nil (line (p .root)))) ∙ flags-tree (p .root) [] [] ∙ append-nil (marks (p .root) true)
+    sym (t .2) ∙ ap (rowMarks g []) (b ∙ sym (append-nil (line (p .root)))) ∙ flags-tree (p .root) [] [] ∙ append-nil (marks (p .root) true)
 
 pub spelled-iff : (s : Sheet) → Passed s → (ts : List Token) (v : Env) → (runTokens s fresh-state ts ≡ through (closed-with v)) ↔ Spelled s ts v
 spelled-iff s ok ts v = (to, from)
@@ -345,7 +373,7 @@ spelled-iff s ok ts v = (to, from)
         let p = taken-iff s ok (eventsOfMarks (t .0)) v .0 (walks-run s (t .1)) in
         record {
           root = p .root;
-          spells = subst (λ (ms : List Mark). Spells ms ts) (walks-marks s ok v (t .0) (t .1) p) (t .2);
+          spells = subst (λ (ms : List Mark). Spells true ms ts) (walks-marks s ok v (t .0) (t .1) p) (t .2);
           fits = p .fits;
           value = p .value;
         }
@@ -355,11 +383,11 @@ spelled-iff s ok ts v = (to, from)
         let p : Parsed s (yield (d .root)) v = record { root = d .root; are-events = refl; fits = d .fits; value = d .value } in
         let w = run-walks s fresh-state (yield (d .root)) (closed-with v) (taken-iff s ok (yield (d .root)) v .1 p) in
         let q : Parsed s (eventsOfMarks (w .0)) v = record { root = d .root; are-events = sym (w .2); fits = d .fits; value = d .value } in
-        spell-tokens s (subst (λ (ms : List Mark). Spells ms ts) (sym (walks-marks s ok v (w .0) (w .1) q)) (d .spells)) fresh-state (closed-with v) (w .1) refl
+        spell-tokens s (subst (λ (ms : List Mark). Spells true ms ts) (sym (walks-marks s ok v (w .0) (w .1) q)) (d .spells)) fresh-state (closed-with v) (w .1) refl
 
 -- tokens that are taken spell events that are taken, whether or not the root is closed
 pub through-spells : (s : Sheet) (ts : List Token) (z : State) → runTokens s fresh-state ts ≡ through z →
-    (ms : List Mark) × (run s fresh-state (eventsOfMarks ms) ≡ finished z) × Spells ms ts
+    (ms : List Mark) × (run s fresh-state (eventsOfMarks ms) ≡ finished z) × Spells (passesAt (grammar s) (z .control)) ms ts
 through-spells s ts z r = let t = tokens-spell s fresh-state ts z r in (t .0, walks-run s (t .1), t .2)
 
 -- a token that is refused is no white space that passes, and the number is that of the first of its events that is refused
@@ -371,3 +399,93 @@ token-refused s z k j e = by (isBlank k && passesAt (grammar s) (z .control)) re
         (isBlank k && passesAt (grammar s) (z .control) ≡ false) × ((z′ : State) × (left : List Event) × (run s z (eventsOfToken k) ≡ stopped j z′ left))
     by true i e = absurd (let y : _≡_ {A = ℕ} 0 1 = cc in omega arith)
     by false i e = (i, run-stops (run s z (eventsOfToken k)) j e)
+
+-- tokens so far: the rows that the grammar allows are those of the machine's moves
+passes-here : (g : List Production) (c : Control) → passing (stack-at g c) ≡ passesAt g c
+passes-here g before = refl
+passes-here g (inside o os) = refl
+passes-here g after = refl
+
+module _ (s : Sheet) (ok : Passed s) (ts : List Token) (m : Store) where
+  abbrev g : List Production
+  g = grammar s
+
+  abbrev n : ℕ
+  n = s .start-nonterminal
+
+  to-so-far : (c : Control) → runTokens s fresh-state ts ≡ through (record { control = c; store = m }) → SpelledSoFar s ts m
+  to-so-far c r =
+      let z : State = record { control = c; store = m } in
+      let t = tokens-spell s fresh-state ts z r in
+      let w = walks-flags s (t .1) in
+      let bs : List Act = w .0 in
+      let a = moves-allowed g n most (omega arith) (eventsOfMarks (t .0)) bs c (w .1) in
+      let d = moves-run s before fresh-store (eventsOfMarks (t .0)) z (walks-run s (t .1)) in
+      let same : d .row ≡ bs = moves-one (d .moved) (w .1) .0 in
+      let p : passesAt g c ≡ passing (rowPasses g [] bs) = sym (passes-here g c) ∙ ap passing (sym (moves-passes g n most (w .1))) in
+      record {
+        row = bs;
+        deep = a .0;
+        allowed = subst (λ (ms : List Mark). Allowed g n (eventsOfMarks ms) bs (a .0)) (sym (w .2)) (a .1);
+        fits = a .2;
+        spells = subst (λ (b : Bool). Spells b (rowMarks g [] bs) ts) p (subst (λ (ms : List Mark). Spells (passesAt g c) ms ts) (sym (w .2)) (t .2));
+        value = ap (λ (l : List Act). acts s l fresh-store) (sym same) ∙ d .done;
+      }
+
+  -- the run of such tokens: over events, over tokens, and whether white space passes then
+  pub record RunSoFar (h : SpelledSoFar s ts m) : Type 0 where
+    pub control : Control
+    pub events-run : run s fresh-state (eventsSoFar h) ≡ finished (record { control = control; store = m })
+    pub tokens-run : runTokens s fresh-state ts ≡ through (record { control = control; store = m })
+    pub passes : passesAt g control ≡ passing (rowPasses g [] (h .row))
+
+  pub so-far-run : (h : SpelledSoFar s ts m) → RunSoFar h
+  so-far-run h =
+      let xs : List Event = eventsOfMarks (rowMarks g [] (h .row)) in
+      let a = allowed-moves g n most (no-T g (ok .keeps-T)) (no-S g (ok .keeps-S)) (h .allowed) (h .fits) in
+      let c : Control = a .0 in
+      let z : State = record { control = c; store = m } in
+      let r : run s fresh-state xs ≡ finished z = run-through (run s fresh-state xs) z (run-moves s (a .1) fresh-store ∙ ap (acted c) (h .value)) in
+      let w = run-walks s fresh-state xs z r in
+      let f = walks-flags s (w .1) in
+      let same : f .0 ≡ h .row = moves-one (f .1) (subst (λ (ys : List Event). Moves g n most before ys (h .row) c) (sym (w .2)) (a .1)) .0 in
+      let ms : rowMarks g [] (h .row) ≡ w .0 = ap (rowMarks g []) (sym same) ∙ f .2 in
+      let p : passesAt g c ≡ passing (rowPasses g [] (h .row)) = sym (passes-here g c) ∙ ap passing (sym (moves-passes g n most (a .1))) in
+      record {
+        control = c;
+        events-run = r;
+        tokens-run = spell-tokens s (subst (λ (l : List Mark). Spells (passing (rowPasses g [] (h .row))) l ts) ms (h .spells)) fresh-state z (w .1) p;
+        passes = p;
+      }
+
+  -- tokens are taken exactly when they spell the events of a tree, whole or open, within the limit and without a reject
+  pub so-far-iff : ((c : Control) × (runTokens s fresh-state ts ≡ through (record { control = c; store = m }))) ↔ SpelledSoFar s ts m
+  so-far-iff = ((λ p. to-so-far (p .0) (p .1)), (λ h. let r = so-far-run h in (r .control, r .tokens-run)))
+
+  -- and the next is refused exactly when `TokenRefused` gives it that number
+  module _ (h : SpelledSoFar s ts m) (r : RunSoFar h) (k : Token) (j : ℕ) where
+    abbrev now : State
+    now = record { control = r .control; store = m }
+
+    pub token-refused-iff : (stepToken s now k ≡ refused j) ↔ TokenRefused h k j
+    token-refused-iff = (to, from)
+      where
+        to : stepToken s now k ≡ refused j → TokenRefused h k j
+        to e =
+            let t = token-refused s now k j e in
+            let z′ : State = t .1 .0 in
+            record {
+              counts = ap (λ (b : Bool). isBlank k && b) (sym (r .passes)) ∙ t .0;
+              reached = z′ .store;
+              left = t .1 .1;
+              stopped =
+                  stopped-iff s ok (eventsSoFar h ++ eventsOfToken k) j (z′ .store) (t .1 .1) .0
+                  (z′ .control, run-append s fresh-state now (eventsSoFar h) (eventsOfToken k) (r .events-run) ∙ t .1 .2);
+            }
+
+        from : TokenRefused h k j → stepToken s now k ≡ refused j
+        from d =
+            let t = stopped-iff s ok (eventsSoFar h ++ eventsOfToken k) j (d .reached) (d .left) .1 (d .stopped) in
+            let e : run s now (eventsOfToken k) ≡ stopped j (record { control = t .0; store = d .reached }) (d .left) =
+            sym (run-append s fresh-state now (eventsSoFar h) (eventsOfToken k) (r .events-run)) ∙ t .1 in
+            ap (λ (b : Bool). unless-blank b now (answered (run s now (eventsOfToken k)))) (ap (λ (b : Bool). isBlank k && b) (r .passes) ∙ d .counts) ∙ ap answered e

@@ -13,4 +13,5 @@ pub mod Taken
 pub mod Nodes
 pub mod Fits
 pub mod Spells
+pub mod SoFar
 pub mod Examples

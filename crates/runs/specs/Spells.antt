@@ -86,20 +86,21 @@ abbrev mutual
   marksPs done b = []
   marksPs (next p ps) b = marksP p b ++ marksPs ps b
 
--- tokens spell marked events: each token is white space where that passes, or its events
-pub data Spells : List Mark → List Token → Type 0 where
-  all-read : Spells [] []
-  blank-after : {ts : List Token} (k : Token) → isBlank k ≡ true → Spells [] ts → Spells [] (k ∷ ts)
-  blank-between : {ms : List Mark} {ts : List Token} (k : Token) (x : Event) → isBlank k ≡ true → Spells (mark true x ∷ ms) ts → Spells (mark true x ∷ ms) (k ∷ ts)
-  one-event : {ms : List Mark} {ts : List Token} (k : Token) (b : Bool) (x : Event) → isBlank k && b ≡ false → eventsOfToken k ≡ x ∷ [] → Spells ms ts →
-      Spells (mark b x ∷ ms) (k ∷ ts)
-  empty-tag : {ms : List Mark} {ts : List Token} (t : Option ℕ) (b b′ : Bool) → Spells ms ts → Spells (mark b (starts t) ∷ mark b′ (ends t) ∷ ms) (empty-token t ∷ ts)
+-- tokens spell marked events: each token is white space where that passes, or its events. `last` says whether white space passes behind the last event
+pub data Spells (last : Bool) : List Mark → List Token → Type 0 where
+  all-read : Spells last [] []
+  blank-after : {ts : List Token} (k : Token) → isBlank k ≡ true → last ≡ true → Spells last [] ts → Spells last [] (k ∷ ts)
+  blank-between : {ms : List Mark} {ts : List Token} (k : Token) (x : Event) → isBlank k ≡ true → Spells last (mark true x ∷ ms) ts → Spells last (mark true x ∷ ms) (k ∷ ts)
+  one-event : {ms : List Mark} {ts : List Token} (k : Token) (b : Bool) (x : Event) → isBlank k && b ≡ false → eventsOfToken k ≡ x ∷ [] → Spells last ms ts →
+      Spells last (mark b x ∷ ms) (k ∷ ts)
+  empty-tag : {ms : List Mark} {ts : List Token} (t : Option ℕ) (b b′ : Bool) → Spells last ms ts →
+      Spells last (mark b (starts t) ∷ mark b′ (ends t) ∷ ms) (empty-token t ∷ ts)
 
 -- demand 2 over tokens: they spell the events of a tree, with white space before and after the root, no deeper than the limit, in which no step
 -- rejects; v is what it comes to
 pub record Spelled (s : Sheet) (ts : List Token) (v : Env) : Type 0 where
   pub root : Element (grammar s) (s .start-nonterminal)
-  pub spells : Spells (marks root true) ts
+  pub spells : Spells true (marks root true) ts
   pub fits : depth root ≤ most
   pub value : eval root s fresh ≡ some v
 
