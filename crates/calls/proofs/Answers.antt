@@ -18,7 +18,7 @@ use Rattle.runs.specs.Machine.{Control, State}
 use Rattle.calls.specs.Names.{tokenOf}
 use Rattle.calls.specs.Limits.{Taking, taken, refuses, no-room, oneToken}
 use Rattle.calls.specs.Held.{Held}
-use Rattle.calls.specs.Call.{Result, roomLeft, stopped, after-writing, numberAt, Runs, takes, stops, full, no-token, again, CalledBy, Called}
+use Rattle.calls.specs.Call.{Result, roomLeft, stopped, after-writing, numberAt, Stop, stops, full, no-token, Runs, takes, halts, again, CalledBy, Called}
 use Rattle.calls.proofs.Readable.{some-answer}
 
 module _ (a : Sheet) (part : List ℕ) (more : Bool) where
@@ -59,9 +59,9 @@ module _ (a : Sheet) (part : List ℕ) (more : Bool) where
   own : {at room : ℕ} {z : State} {r : Result} → Runs a part more at room z r → (x : Answer) × Means (front part at) at x × GoesOn at room z r x
   own (takes {at} {room} {z} {r} e next z′ w m t d) =
       (Token e (record { at = next }), m, subst (AfterToken at room z next (after-writing w r)) (sym t) (r, d, refl))
-  own (stops {at} {room} {z} e next n m t) = (Token e (record { at = next }), m, subst (AfterToken at room z next (stopped n at z)) (sym t) refl)
-  own (full {at} {room} {z} e next m t) = (Token e (record { at = next }), m, subst (AfterToken at room z next (stopped 17 at z)) (sym t) refl)
-  own (no-token {at} {room} {z} x n m q) = (x, m, by-number at room z (stopped n at z) x n q refl)
+  own (halts {at} {room} {z} (stops e next n m t)) = (Token e (record { at = next }), m, subst (AfterToken at room z next (stopped n at z)) (sym t) refl)
+  own (halts {at} {room} {z} (full e next m t)) = (Token e (record { at = next }), m, subst (AfterToken at room z next (stopped 17 at z)) (sym t) refl)
+  own (halts {at} {room} {z} (no-token x n m q)) = (x, m, by-number at room z (stopped n at z) x n q refl)
 
   -- a run goes on as the reader's answer says
   pub split : {at room : ℕ} {z : State} {r : Result} → Runs a part more at room z r → (x : Answer) → Means (front part at) at x → GoesOn at room z r x
@@ -71,9 +71,9 @@ module _ (a : Sheet) (part : List ℕ) (more : Bool) where
   one-run {r′ = r′} (takes {at} {room} {z} e next z′ w m t d) d′ =
       let i = subst (AfterToken at room z next r′) t (split d′ (Token e (record { at = next })) m) in
       ap (after-writing w) (one-run d (i .1)) ∙ sym (i .2)
-  one-run {r′ = r′} (stops {at} {room} {z} e next n m t) d′ = sym (subst (AfterToken at room z next r′) t (split d′ (Token e (record { at = next })) m))
-  one-run {r′ = r′} (full {at} {room} {z} e next m t) d′ = sym (subst (AfterToken at room z next r′) t (split d′ (Token e (record { at = next })) m))
-  one-run {r′ = r′} (no-token {at} {room} {z} x n m q) d′ = sym (to-number at room z r′ x n q (split d′ x m))
+  one-run {r′ = r′} (halts {at} {room} {z} (stops e next n m t)) d′ = sym (subst (AfterToken at room z next r′) t (split d′ (Token e (record { at = next })) m))
+  one-run {r′ = r′} (halts {at} {room} {z} (full e next m t)) d′ = sym (subst (AfterToken at room z next r′) t (split d′ (Token e (record { at = next })) m))
+  one-run {r′ = r′} (halts {at} {room} {z} (no-token x n m q)) d′ = sym (to-number at room z r′ x n q (split d′ x m))
 
   -- the number where a token is only begun
   begun-number : (left : ℕ) (c : Control) → (n : ℕ) × (numberAt more left c Begun ≡ some n)
@@ -91,16 +91,16 @@ module _ (a : Sheet) (part : List ℕ) (more : Bool) where
         let k = token-moves part at e (record { at = next }) h m in
         let i = rest next (k .0) (k .1) (roomLeft room w) z′ in
         (after-writing w (i .0), takes e next z′ w m t (i .1))
-    from-token room z e next m h (refuses n) t = (stopped n at z, stops e next n m t)
-    from-token room z e next m h no-room t = (stopped 17 at z, full e next m t)
+    from-token room z e next m h (refuses n) t = (stopped n at z, halts (stops e next n m t))
+    from-token room z e next m h no-room t = (stopped 17 at z, halts (full e next m t))
 
     from-answer : (room : ℕ) (z : State) → at ≤ length part → (x : Answer) → Means (front part at) at x → (r : Result) × Runs a part more at room z r
     from-answer room z h (Token e next) m = from-token room z e (next .at) m h (oneToken a z room (tokenOf a part e)) refl
     from-answer room z h Begun m =
         let b = begun-number (length (drop at part)) (z .control) in
-        (stopped (b .0) at z, no-token Begun (b .0) m (b .1))
-    from-answer room z h Bad m = (stopped 20 at z, no-token Bad 20 m refl)
-    from-answer room z h Long m = (stopped 21 at z, no-token Long 21 m refl)
+        (stopped (b .0) at z, halts (no-token Begun (b .0) m (b .1)))
+    from-answer room z h Bad m = (stopped 20 at z, halts (no-token Bad 20 m refl))
+    from-answer room z h Long m = (stopped 21 at z, halts (no-token Long 21 m refl))
 
   runs-on : (left at : ℕ) → at ≤ length part → length part ≤ at + left → (room : ℕ) (z : State) → (r : Result) × Runs a part more at room z r
   runs-on zero at h l room z = let x = some-answer part at in from-answer at (λ next i j room′ z′. absurd (omega arith)) room z h (x .0) (x .1)

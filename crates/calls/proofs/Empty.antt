@@ -62,7 +62,7 @@ module _ (a : Sheet) where
       by g (took y) = g y
       by g (refused n) = ((λ e. absurd (let q : _≡_ {A = ℕ} 0 1 = cc in omega arith)), (λ e. absurd (let q : _≡_ {A = ℕ} 0 1 = cc in omega arith)))
 
-  tokens-behind : (ts us : List Tok) → tokensFor a (ts ++ us) ≡ tokensFor a ts ++ tokensFor a us
+  pub tokens-behind : (ts us : List Tok) → tokensFor a (ts ++ us) ≡ tokensFor a ts ++ tokensFor a us
   tokens-behind [] us = refl
   tokens-behind (t ∷ ts) us = ap (λ (l : List Token). tokenFor a t ∷ l) (tokens-behind ts us)
 

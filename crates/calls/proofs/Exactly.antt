@@ -25,10 +25,10 @@ use Rattle.runs.proofs.Answers.{run-append, stopped-iff}
 use Rattle.runs.proofs.Spells.{token-refused}
 use Rattle.calls.specs.Names.{tokenOf}
 use Rattle.runs.specs.Visits.{mostVisits}
-use Rattle.calls.specs.Limits.{silent, outputOf, Taking, taken, refuses, no-room, limited, within, oneToken}
+use Rattle.calls.specs.Limits.{silent, outputOf, Taking, taken, refuses, no-room, limited, within, oneToken, Over, Full}
 use Rattle.calls.specs.Held.{Held, leavesOpen, closingOf, Closing}
-use Rattle.calls.specs.Call.{Result, numberAt, Runs, takes, stops, full, no-token, again, CalledBy, Called}
-use Rattle.calls.specs.Reached.{ReachedBy}
+use Rattle.calls.specs.Call.{Result, numberAt, Stop, stops, full, no-token, Runs, takes, halts, again, CalledBy, Called}
+use Rattle.calls.specs.Reached.{ReachedBy, StopsAt}
 use Rattle.calls.proofs.Frame.{state-behind, answer-behind, token-frame, countOf, token-number}
 use Rattle.calls.proofs.Steps.{outOf, behind-silent, takes-one}
 
@@ -65,9 +65,7 @@ module _ (a : Sheet) where
   runs-reached {part} (takes {at} {room} {z} e next z′ w m t d) h =
       let o = takes-one a z room (tokenOf a part e) z′ w t in
       runs-reached d (subst (ReachedBy a) (sym (o .silenced)) (token-reached z (tokenOf a part e) (o .reached) h (o .stepped)))
-  runs-reached (stops e next n m t) h = h
-  runs-reached (full e next m t) h = h
-  runs-reached (no-token x n m q) h = h
+  runs-reached (halts q) h = h
 
   -- the states handed back are reached where those handed in are
   pub call-reached : (part : List ℕ) (more : Bool) (room : ℕ) (h : Held) (r : Result) → Called a part more room h r → ReachedBy a (h .run) → ReachedBy a (r .held .run)
@@ -79,13 +77,10 @@ module _ (a : Sheet) where
 
 -- 22 to 26: the first of the token's events that is refused after those so far
 module _ (a : Sheet) (ok : Passed a) (z : State) (h : ReachedBy a z) (k : Token) (n : ℕ) where
-  abbrev Stops : Type 0
-  Stops = (m : Store) × (left : List Event) × Stopped a (h .events ++ eventsOfToken k) n m left
-
   same-refusal : stepToken a (h .full) k ≡ answer-behind (outOf (h .full)) (stepToken a z k)
   same-refusal = from-silent a (h .full) k ∙ ap (λ (x : State). answer-behind (outOf (h .full)) (stepToken a x k)) (sym (h .is))
 
-  to-stops : stepToken a z k ≡ refused n → Stops
+  to-stops : stepToken a z k ≡ refused n → StopsAt h k n
   to-stops e =
       let t = token-refused a (h .full) k n (same-refusal ∙ ap (answer-behind (outOf (h .full))) e) .1 in
       let y : State = t .0 in (
@@ -95,7 +90,7 @@ module _ (a : Sheet) (ok : Passed a) (z : State) (h : ReachedBy a z) (k : Token)
             (y .control, run-append a fresh-state (h .full) (h .events) (eventsOfToken k) (h .runs) ∙ t .2),
       )
 
-  from-stops : isBlank k && passesAt (grammar a) (z .control) ≡ false → Stops → stepToken a z k ≡ refused n
+  from-stops : isBlank k && passesAt (grammar a) (z .control) ≡ false → StopsAt h k n → stepToken a z k ≡ refused n
   from-stops b (m, left, s) =
       let t = stopped-iff a ok (h .events ++ eventsOfToken k) n m left .1 s in
       let r : run a (h .full) (eventsOfToken k) ≡ stopped n (record { control = t .0; store = m }) left =
@@ -110,48 +105,42 @@ module _ (a : Sheet) (ok : Passed a) (z : State) (h : ReachedBy a z) (k : Token)
       by (refused j) e = let i : j ≡ n = cc in ap refused i
 
   -- white space that passes is never refused
-  pub refused-iff : (stepToken a z k ≡ refused n) ↔ ((isBlank k && passesAt (grammar a) (z .control) ≡ false) × Stops)
+  pub refused-iff : (stepToken a z k ≡ refused n) ↔ ((isBlank k && passesAt (grammar a) (z .control) ≡ false) × StopsAt h k n)
   refused-iff = ((λ e. (token-refused a z k n e .0, to-stops e)), (λ p. from-stops (p .0) (p .1)))
 
 module _ (a : Sheet) (z : State) (room : ℕ) (k : Token) where
-  abbrev Over : ℕ → Type 0
-  Over n = (n ≡ 30) × ((y : State) × (stepToken a z k ≡ took y) × (mostVisits < countOf y))
-
-  abbrev Full : Type 0
-  Full = (y : State) × (stepToken a z k ≡ took y) × (countOf y ≤ mostVisits) × (room < length (outputOf y))
-
   -- 30: it would be taken, and takes the count over the limit
-  pub refuses-iff : (n : ℕ) → (oneToken a z room k ≡ refuses n) ↔ ((stepToken a z k ≡ refused n) ⊎ Over n)
+  pub refuses-iff : (n : ℕ) → (oneToken a z room k ≡ refuses n) ↔ ((stepToken a z k ≡ refused n) ⊎ Over a z k n)
   refuses-iff n = (to (stepToken a z k) refl, from)
     where
-      by-tests : (y : State) → stepToken a z k ≡ took y → (c f : Bool) → leb (countOf y) mostVisits ≡ c → limited y c f ≡ refuses n → (stepToken a z k ≡ refused n) ⊎ Over n
+      by-tests : (y : State) → stepToken a z k ≡ took y → (c f : Bool) → leb (countOf y) mostVisits ≡ c → limited y c f ≡ refuses n → (stepToken a z k ≡ refused n) ⊎ Over a z k n
       by-tests y t false f hc e = let h : 30 ≡ n = cc in inr (sym h, (y, t, leb-false (countOf y) mostVisits hc))
       by-tests y t true false hc e = absurd (let x : _≡_ {A = ℕ} 0 1 = cc in omega arith)
       by-tests y t true true hc e = absurd (let x : _≡_ {A = ℕ} 0 1 = cc in omega arith)
 
-      to : (x : Answer) → stepToken a z k ≡ x → within room x ≡ refuses n → (stepToken a z k ≡ refused n) ⊎ Over n
+      to : (x : Answer) → stepToken a z k ≡ x → within room x ≡ refuses n → (stepToken a z k ≡ refused n) ⊎ Over a z k n
       to (took y) t e = by-tests y t (leb (countOf y) mostVisits) (leb (length (outputOf y)) room) refl e
       to (refused m) t e = let h : m ≡ n = cc in inl (t ∙ ap refused h)
 
-      from : (stepToken a z k ≡ refused n) ⊎ Over n → oneToken a z room k ≡ refuses n
+      from : (stepToken a z k ≡ refused n) ⊎ Over a z k n → oneToken a z room k ≡ refuses n
       from (inl e) = ap (within room) e
       from (inr (h, (y, t, c))) =
           ap (within room) t ∙ ap (λ (b : Bool). limited y b (leb (length (outputOf y)) room)) (lt-leb (countOf y) mostVisits c) ∙ ap refuses (sym h)
 
   -- 17: it would be taken within the limit, and its output is longer than the room
-  pub no-room-iff : (oneToken a z room k ≡ no-room) ↔ Full
+  pub no-room-iff : (oneToken a z room k ≡ no-room) ↔ Full a z room k
   no-room-iff = (to (stepToken a z k) refl, from)
     where
-      by-tests : (y : State) → stepToken a z k ≡ took y → (c f : Bool) → leb (countOf y) mostVisits ≡ c → leb (length (outputOf y)) room ≡ f → limited y c f ≡ no-room → Full
+      by-tests : (y : State) → stepToken a z k ≡ took y → (c f : Bool) → leb (countOf y) mostVisits ≡ c → leb (length (outputOf y)) room ≡ f → limited y c f ≡ no-room → Full a z room k
       by-tests y t false f hc hf e = absurd (let x : _≡_ {A = ℕ} 0 1 = cc in omega arith)
       by-tests y t true false hc hf e = (y, t, leb-true (countOf y) mostVisits hc, leb-false (length (outputOf y)) room hf)
       by-tests y t true true hc hf e = absurd (let x : _≡_ {A = ℕ} 0 1 = cc in omega arith)
 
-      to : (x : Answer) → stepToken a z k ≡ x → within room x ≡ no-room → Full
+      to : (x : Answer) → stepToken a z k ≡ x → within room x ≡ no-room → Full a z room k
       to (took y) t e = by-tests y t (leb (countOf y) mostVisits) (leb (length (outputOf y)) room) refl refl e
       to (refused m) t e = absurd (let x : _≡_ {A = ℕ} 0 1 = cc in omega arith)
 
-      from : Full → oneToken a z room k ≡ no-room
+      from : Full a z room k → oneToken a z room k ≡ no-room
       from (y, t, c, f) =
           ap (within room) t ∙ ap₂ (λ (b b′ : Bool). limited y b b′) (le-leb (countOf y) mostVisits c) (lt-leb (length (outputOf y)) room f)
 
@@ -170,9 +159,7 @@ closing-is false n m e = cc
 pub closed-by : {a : Sheet} {part : List ℕ} {more : Bool} {at room : ℕ} {z : State} {r : Result} → Runs a part more at room z r → (n : ℕ) → r .held .closing ≡ some n →
     r .number ≡ n
 closed-by (takes e next z′ w m t d) n h = closed-by d n h
-closed-by (stops e next j m t) n h = closing-is (leavesOpen j) j n h
-closed-by (full e next m t) n h = closing-is (leavesOpen 17) 17 n h
-closed-by (no-token x j m q) n h = closing-is (leavesOpen j) j n h
+closed-by (halts {n = j} q) n h = closing-is (leavesOpen j) j n h
 
 -- called again after 0, and after a refusal
 pub after-end : (a : Sheet) (part : List ℕ) (more : Bool) (room : ℕ) (h : Held) (r : Result) → h .closing ≡ some 0 → Called a part more room h r → r .number ≡ 28
@@ -200,14 +187,14 @@ none-number more left c Long j q = let h : 21 ≡ j = cc in inr (inr (inl (omega
 module _ {a : Sheet} {part : List ℕ} {more : Bool} where
   pub closing-fits : {at room : ℕ} {z : State} {r : Result} → Runs a part more at room z r → (n : ℕ) → r .held .closing ≡ some n → Closing n
   closing-fits (takes e next z′ w m t d) n h = closing-fits d n h
-  closing-fits (stops {at} {room} {z} e next j m t) n h =
+  closing-fits (halts {at} {room} {z} (stops e next j m t)) n h =
       subst Closing (closing-is (leavesOpen j) j n h) (by (refuses-iff a z room (tokenOf a part e) j .0 t))
     where
-      by : (stepToken a z (tokenOf a part e) ≡ refused j) ⊎ Over a z room (tokenOf a part e) j → Closing j
+      by : (stepToken a z (tokenOf a part e) ≡ refused j) ⊎ Over a z (tokenOf a part e) j → Closing j
       by (inl r) = let i = token-number a z (tokenOf a part e) j r in inr (inl (omega (arith, i .0), omega (arith, i .1)))
       by (inr o) = inr (inr (o .0))
-  closing-fits (full e next m t) n h = absurd (let x : _≡_ {A = ℕ} 0 1 = cc in omega arith)
-  closing-fits (no-token {at} {room} {z} x j m q) n h = by (none-number more (length (drop at part)) (z .control) x j q)
+  closing-fits (halts (full e next m t)) n h = absurd (let x : _≡_ {A = ℕ} 0 1 = cc in omega arith)
+  closing-fits (halts {at} {room} {z} (no-token x j m q)) n h = by (none-number more (length (drop at part)) (z .control) x j q)
     where
       by : (j ≡ 16) ⊎ Closing j → Closing n
       by (inl e) = absurd (none-closes n (subst (λ (i : ℕ). closingOf (leavesOpen i) i ≡ some n) e h))
@@ -217,6 +204,4 @@ module _ {a : Sheet} {part : List ℕ} {more : Bool} where
   count-fits (takes {at} {room} {z} e next z′ w m t d) h =
       let o = takes-one a z room (tokenOf a part e) z′ w t in
       count-fits d (subst (λ (y : State). countOf y ≤ mostVisits) (sym (o .silenced)) (o .counts))
-  count-fits (stops e next n m t) h = h
-  count-fits (full e next m t) h = h
-  count-fits (no-token x n m q) h = h
+  count-fits (halts q) h = h

@@ -8,3 +8,5 @@ pub mod Parts
 pub mod Exactly
 pub mod Empty
 pub mod Fed
+pub mod ReadsBack
+pub mod Explained

@@ -31,20 +31,20 @@ use Rattle.runs.specs.Visits.{mostVisits}
 use Rattle.calls.specs.Limits.{without-output, silent}
 use Rattle.calls.specs.Held.{fresh-held}
 use Rattle.calls.specs.Call.{Result, Called}
-use Rattle.calls.specs.Accepted.{Accepted, accepted}
+use Rattle.calls.specs.Accepted.{Accepted, accepted, AcceptedIn, AcceptedExactly, TwiceTheNodes}
 use Rattle.calls.proofs.Frame.{state-behind, countOf}
 use Rattle.calls.proofs.Steps.{tokensOf, Steps, steps-silent, steps-count, steps-run, run-steps, ended, Ends, run-ends, ends-run}
 
 -- the tokens that are read have at most 32 bytes each, as a front has no more
 module _ (s : List ℕ) where
-  front-of : (at : ℕ) (t t′ : Tok) (r v : List ℕ) → Good t → Good t′ → drop at s ≡ bytes t ++ r → front s at ≡ bytes t′ ++ v → (t ≡ t′) × (length (bytes t) ≤ 32)
+  pub front-of : (at : ℕ) (t t′ : Tok) (r v : List ℕ) → Good t → Good t′ → drop at s ≡ bytes t ++ r → front s at ≡ bytes t′ ++ v → (t ≡ t′) × (length (bytes t) ≤ 32)
   front-of at t t′ r v ok ok′ e w =
       let d : List ℕ = drop at s in
       let b : d ≡ bytes t′ ++ (v ++ drop 32 d) = sym (take-append-drop 32 d) ∙ ap (λ (l : List ℕ). l ++ drop 32 d) w ∙ append-assoc (bytes t′) v (drop 32 d) in
       let q = agree t t′ ok ok′ r (v ++ drop 32 d) (sym e ∙ b) .0 in
       (q, omega (arith, ap (λ (x : Tok). length (bytes x)) q, ap length w, length-append (bytes t′) v, length-take 32 d))
 
-  reads-short : (ts : List Tok) (at to : ℕ) (r : List ℕ) → AllGood ts → drop at s ≡ flat ts ++ r → Reads s at (eventsAt at ts) to → AllShort ts
+  pub reads-short : (ts : List Tok) (at to : ℕ) (r : List ℕ) → AllGood ts → drop at s ≡ flat ts ++ r → Reads s at (eventsAt at ts) to → AllShort ts
   reads-short [] at to r g e rd = tt
   reads-short (t ∷ ts) at to r g e (next, (t′, ok′, (v, w), p, q), rd) =
       let e₁ : drop at s ≡ bytes t ++ (flat ts ++ r) = e ∙ append-assoc (bytes t) (flat ts) r in
@@ -63,7 +63,7 @@ module _ (a : Sheet) (s : List ℕ) where
       ap (take (length n)) (sym (drop-drop (length (opens k)) at s) ∙ ap (drop (length (opens k))) d ∙ drop-append-seam (opens k) (n ++ ((b ++ closes k) ++ r)))
       ∙ take-append-seam n ((b ++ closes k) ++ r)
 
-  token-at : (t : Tok) (at : ℕ) (r : List ℕ) → drop at s ≡ bytes t ++ r → tokenOf a s (eventOf at t) ≡ tokenFor a t
+  pub token-at : (t : Tok) (at : ℕ) (r : List ℕ) → drop at s ≡ bytes t ++ r → tokenOf a s (eventOf at t) ≡ tokenFor a t
   token-at (tag start n b) at r e = ap (λ (l : List ℕ). start-token (tagNamed (a .names) l)) (name-at start at n b r e)
   token-at (tag end n b) at r e = ap (λ (l : List ℕ). end-token (tagNamed (a .names) l)) (name-at end at n b r e)
   token-at (tag empty n b) at r e = ap (λ (l : List ℕ). empty-token (tagNamed (a .names) l)) (name-at empty at n b r e)
@@ -100,10 +100,7 @@ module _ (a : Sheet) (ok : Passed a) (s : List ℕ) (room : ℕ) where
       ap₂ (λ (j : ℕ) (x : List Piece). ended j x last) n (sym o)
       ∙ ap (λ (z : State). record { number = 0; taken = length s; output = render (v .out); held = record { run = z; closing = some 0 } }) l
 
-  abbrev pub Answered : Result → Env → Type 0
-  Answered r v = Accepted a s v × (length (render (v .out)) ≤ room) × (r ≡ accepted s v)
-
-  to-accepted : (r : Result) → Called a s false room fresh-held r → r .number ≡ 0 → (v : Env) × Answered r v
+  to-accepted : (r : Result) → Called a s false room fresh-held r → r .number ≡ 0 → (v : Env) × AcceptedIn a s room r v
   to-accepted r d h =
       let n = run-ends a s d h in
       let es : List Event = n .events in
@@ -152,12 +149,12 @@ module _ (a : Sheet) (ok : Passed a) (s : List ℕ) (room : ℕ) where
       subst (Called a s false room fresh-held)
       (ended-is v (0 + length (flat ts)) (st .printed) (st .last) n (l .1) (l .0)) d
 
-  -- demand 2
-  pub accepted-iff : (r : Result) → (Called a s false room fresh-held r × (r .number ≡ 0)) ↔ ((v : Env) × Answered r v)
-  accepted-iff r = (
-    (λ h. to-accepted r (h .0) (h .1)),
-    (λ h. (subst (Called a s false room fresh-held) (sym (h .1 .2)) (from-accepted (h .0) (h .1 .0) (h .1 .1)), ap (λ (x : Result). x .number) (h .1 .2))),
-  )
+-- demand 2
+pub accepted-iff : (a : Sheet) → Passed a → AcceptedExactly a
+accepted-iff a ok s room r = (
+  (λ h. to-accepted a ok s room r (h .0) (h .1)),
+  (λ h. (subst (Called a s false room fresh-held) (sym (h .1 .2)) (from-accepted a ok s room (h .0) (h .1 .0) (h .1 .1)), ap (λ (x : Result). x .number) (h .1 .2))),
+)
 
 -- the tree and what it comes to are one
 pub accepted-one : (a : Sheet) → Passed a → (s : List ℕ) (v v′ : Env) → Accepted a s v → Accepted a s v′ → v ≡ v′
@@ -170,6 +167,6 @@ accepted-one a ok s v v′ x x′ =
     ap (λ (z : State). z .store .env) p
 
 -- the count is twice the number of nodes of the tree
-pub accepted-count : (a : Sheet) (s : List ℕ) (v : Env) (x : Accepted a s v) → v .count ≡ 2 * size (x .spells .root)
+pub accepted-count : (a : Sheet) → TwiceTheNodes a
 accepted-count a s v x =
     parsed-count a (yield (x .spells .root)) v (record { root = x .spells .root; are-events = refl; fits = x .spells .fits; value = x .spells .value })

@@ -29,7 +29,7 @@ use Rattle.calls.specs.Names.{tagNamed, tokenOf}
 use Rattle.runs.specs.Visits.{mostVisits}
 use Rattle.calls.specs.Limits.{silent, outputOf, Taking, taken, refuses, no-room, limited, within, oneToken}
 use Rattle.calls.specs.Held.{Held, leavesOpen, closingOf, handed}
-use Rattle.calls.specs.Call.{Result, stopped, after-writing, numberAt, Runs, takes, stops, full, no-token, CalledBy, Called}
+use Rattle.calls.specs.Call.{Result, stopped, after-writing, numberAt, Stop, stops, full, no-token, Runs, takes, halts, CalledBy, Called}
 use Rattle.calls.specs.Parts.{joined, Told, Continued, Feeds, at-once, closes, goes-on, Each, CallOf}
 use Rattle.calls.proofs.Answers.{AfterToken, split, to-number, call-one, call-some}
 use Rattle.calls.proofs.Frame.{countOf}
@@ -143,21 +143,21 @@ module _ (a : Sheet) (s r : List ℕ) (b more : Bool) (told : Told b r more) (ex
       let f = o .1 in
       lift room w r₁ R (i .0) (r₁ .held .closing) f (i .2)
       (resume d (subst (λ (n : ℕ). Runs a (s ++ r) more next n z′ (i .0)) (omega arith) (i .1)))
-  resume {R = R} (stops {at} {room} {z} e next n m t) d′ =
+  resume {R = R} (halts {at} {room} {z} (stops e next n m t)) d′ =
       let m′ = stays s r at (Token e (record { at = next })) (token≢begun e (record { at = next })) m in
       let i = subst (AfterToken a (s ++ r) more at (room + extra) z next R)
       (ap (oneToken a z (room + extra)) (token-in a s r at e (record { at = next }) m) ∙ refused-in-more a z room extra (tokenOf a s e) n t)
       (split a (s ++ r) more d′ (Token e (record { at = next })) m′) in
       let h = refuses-over a z room (tokenOf a s e) n t in
       subst (Onward room (stopped n at z) R) (sym (over-closes n (omega arith))) i
-  resume {R = R} (full {at} {room} {z} e next m t) d′ = from-here at room z R 17 d′
-  resume {R = R} (no-token {at} {room} {z} (Token e next) n m q) d′ = absurd (let y : _≡_ {A = ℕ} 0 1 = cc in omega arith)
-  resume {R = R} (no-token {at} {room} {z} Begun n m q) d′ = at-begun at room z R n m q d′
-  resume {R = R} (no-token {at} {room} {z} Bad n m q) d′ =
+  resume {R = R} (halts {at} {room} {z} (full e next m t)) d′ = from-here at room z R 17 d′
+  resume {R = R} (halts {at} {room} {z} (no-token (Token e next) n m q)) d′ = absurd (let y : _≡_ {A = ℕ} 0 1 = cc in omega arith)
+  resume {R = R} (halts {at} {room} {z} (no-token Begun n m q)) d′ = at-begun at room z R n m q d′
+  resume {R = R} (halts {at} {room} {z} (no-token Bad n m q)) d′ =
       let h : 20 ≡ n = cc in
       subst (Onward room (stopped n at z) R) (sym (over-closes n (omega arith)))
       (to-number a (s ++ r) more at (room + extra) z R Bad n q (split a (s ++ r) more d′ Bad (stays s r at Bad bad≢begun m)))
-  resume {R = R} (no-token {at} {room} {z} Long n m q) d′ =
+  resume {R = R} (halts {at} {room} {z} (no-token Long n m q)) d′ =
       let h : 21 ≡ n = cc in
       subst (Onward room (stopped n at z) R) (sym (over-closes n (omega arith)))
       (to-number a (s ++ r) more at (room + extra) z R Long n q (split a (s ++ r) more d′ Long (stays s r at Long long≢begun m)))
@@ -220,15 +220,15 @@ module _ (a : Sheet) (whole : List ℕ) (more : Bool) (n : ℕ) where
       let l = left-token at from room z e next h m in
       let i = shift d (l .to) (l .is-next) in
       (after-writing w (i .0), takes (l .event) (l .to) z′ w (l .means) (sym (l .same) ∙ t) (i .1), ap (after-writing w) (i .2))
-  shift (stops {at = from} {room} {z} e next k m t) at h =
+  shift (halts {at = from} {room} {z} (stops e next k m t)) at h =
       let l = left-token at from room z e next h m in
-      (stopped k at z, stops (l .event) (l .to) k (l .means) (sym (l .same) ∙ t), ap (λ (i : ℕ). stopped k i z) h)
-  shift (full {at = from} {room} {z} e next m t) at h =
+      (stopped k at z, halts (stops (l .event) (l .to) k (l .means) (sym (l .same) ∙ t)), ap (λ (i : ℕ). stopped k i z) h)
+  shift (halts {at = from} {room} {z} (full e next m t)) at h =
       let l = left-token at from room z e next h m in
-      (stopped 17 at z, full (l .event) (l .to) (l .means) (sym (l .same) ∙ t), ap (λ (i : ℕ). stopped 17 i z) h)
-  shift (no-token {at = from} {room} {z} x k m q) at h =
+      (stopped 17 at z, halts (full (l .event) (l .to) (l .means) (sym (l .same) ∙ t)), ap (λ (i : ℕ). stopped 17 i z) h)
+  shift (halts {at = from} {room} {z} (no-token x k m q)) at h =
       let l = none-left at from x k z h m q in
-      (stopped k at z, no-token x k (l .0) (l .1), ap (λ (i : ℕ). stopped k i z) h)
+      (stopped k at z, halts (no-token x k (l .0) (l .1)), ap (λ (i : ℕ). stopped k i z) h)
 
 module _ (a : Sheet) (s r : List ℕ) (b more : Bool) (told : Told b r more) (room extra : ℕ) where
   -- the call on the whole, from where the part's stopped, as a call of its own

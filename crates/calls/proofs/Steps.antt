@@ -25,7 +25,7 @@ use Rattle.calls.specs.Names.{tokenOf}
 use Rattle.runs.specs.Visits.{mostVisits}
 use Rattle.calls.specs.Limits.{silent, outputOf, Taking, taken, refuses, no-room, limited, within, oneToken}
 use Rattle.calls.specs.Held.{Held, handed}
-use Rattle.calls.specs.Call.{Result, stopped, after-writing, atEnd, numberAt, Runs, takes, stops, full, no-token}
+use Rattle.calls.specs.Call.{Result, stopped, after-writing, atEnd, numberAt, Stop, stops, full, no-token, Runs, takes, halts}
 use Rattle.calls.proofs.Frame.{state-behind, answer-behind, token-frame, countOf, tokens-count, token-number}
 
 abbrev pub RunToken : Type 0
@@ -151,20 +151,18 @@ abbrev pub tokensOf : Sheet → List ℕ → List Event → List RunToken
 tokensOf a s [] = []
 tokensOf a s (e ∷ es) = tokenOf a s e ∷ tokensOf a s es
 
--- whatever a call answers, it has read the tokens that it counts as taken, its state is what they come to, and its output is theirs
-pub record Does (a : Sheet) (part : List ℕ) (at room : ℕ) (z : State) (r : Result) : Type 0 where
+-- whatever a call answers, it has read the tokens that it counts as taken, its state is what they come to, its output is theirs, and there it stops
+pub record Does (a : Sheet) (part : List ℕ) (more : Bool) (at room : ℕ) (z : State) (r : Result) : Type 0 where
   pub events : List Event
   pub printed : List Piece
   pub reads : Reads part at events (r .taken)
   pub steps : Steps a z (tokensOf a part events) (r .held .run) printed
   pub writes : r .output ≡ render printed
   pub fits : length (render printed) ≤ room
+  pub stop : Stop a part more (r .taken) (room - length (r .output)) (r .held .run) (r .number)
 
-module _ (a : Sheet) (part : List ℕ) where
-  nothing-done : (at room n : ℕ) (z : State) → Does a part at room z (stopped n at z)
-  nothing-done at room n z = record { events = []; printed = []; reads = refl; steps = (refl, refl); writes = refl; fits = omega arith }
-
-  pub run-does : {more : Bool} {at room : ℕ} {z : State} {r : Result} → Runs a part more at room z r → Does a part at room z r
+module _ (a : Sheet) (part : List ℕ) {more : Bool} where
+  pub run-does : {at room : ℕ} {z : State} {r : Result} → Runs a part more at room z r → Does a part more at room z r
   run-does (takes {at} {room} {z} {r} e next z′ w m t d) =
       let i = run-does d in
       let o = takes-one a z room (tokenOf a part e) z′ w t in
@@ -183,10 +181,44 @@ module _ (a : Sheet) (part : List ℕ) where
         );
         writes = ap₂ (λ (l k : List ℕ). l ++ k) (o .writes) (i .writes) ∙ sym (render-append (outOf y) (i .printed));
         fits = omega (arith, ap length (render-append (outOf y) (i .printed)), length-append (render (outOf y)) (render (i .printed)), i .fits, o .fits, ap length (o .writes));
+        stop =
+            (let left : room - length w - length (r .output) ≡ room - length (w ++ r .output) = omega (arith, length-append w (r .output)) in
+            subst (λ (m : ℕ). Stop a part more (r .taken) m (r .held .run) (r .number)) left (i .stop));
       }
-  run-does (stops {at} {room} {z} e next n m t) = nothing-done at room n z
-  run-does (full {at} {room} {z} e next m t) = nothing-done at room 17 z
-  run-does (no-token {at} {room} {z} x n m q) = nothing-done at room n z
+  run-does (halts {at} {room} {z} {n} q) =
+      let all : room ≡ room - 0 = omega arith in
+      record {
+        events = [];
+        printed = [];
+        reads = refl;
+        steps = (refl, refl);
+        writes = refl;
+        fits = omega arith;
+        stop = subst (λ (m : ℕ). Stop a part more at m z n) all q;
+      }
+
+-- and such steps with such a stop are a call
+abbrev pub done-with : ℕ → ℕ → List Piece → State → Result
+done-with n to p z = record { number = n; taken = to; output = render p; held = handed n z }
+
+module _ (a : Sheet) (s : List ℕ) (more : Bool) where
+  pub steps-stop : (es : List Event) (at room : ℕ) (z : State) (to : ℕ) (last : State) (p : List Piece) (n : ℕ) → Reads s at es to → Steps a z (tokensOf a s es) last p →
+      length (render p) ≤ room → Stop a s more to (room - length (render p)) last n → Runs a s more at room z (done-with n to p last)
+  steps-stop [] at room z to last p n rd (e, q) f st =
+      let none : room - length (render p) ≡ room = omega (arith, ap (λ (l : List Piece). length (render l)) q) in
+      let back : to ≡ at = sym rd in
+      let st′ : Stop a s more to room last n = subst (λ (m : ℕ). Stop a s more to m last n) none st in
+      subst (Runs a s more at room z)
+      ((λ i. record { number = n; taken = rd i; output = []; held = handed n (e i) }) ∙ ap (λ (o : List Piece). done-with n to o last) (sym q))
+      (halts (subst (λ (y : State). Stop a s more at room y n) (sym e) (subst (λ (i : ℕ). Stop a s more i room last n) back st′)))
+  steps-stop (e ∷ es) at room z to last p n (next, m, rd) (y, t, k, p′, st, q) f h =
+      let b : render p ≡ outputOf y ++ render p′ = ap render q ∙ render-append (outOf y) p′ in
+      let l = length-append (outputOf y) (render p′) in
+      let both : length (outputOf y) + length (render p′) ≤ room = omega (arith, f, ap length b, l) in
+      let left : room - length (render p) ≡ room - length (outputOf y) - length (render p′) = omega (arith, ap length b, l) in
+      subst (Runs a s more at room z) (ap (λ (o : List ℕ). record { number = n; taken = to; output = o; held = handed n last }) (sym b))
+      (takes e next (silent y) (outputOf y) m (one-takes a z room (tokenOf a s e) y t k (omega (arith, both)))
+      (steps-stop es next (room - length (outputOf y)) (silent y) to last p′ n rd st (omega (arith, both)) (subst (λ (i : ℕ). Stop a s more to i last n) left h)))
 
 -- a call that ends with 0
 abbrev pub ended : ℕ → List Piece → State → Result
@@ -222,9 +254,9 @@ module _ (a : Sheet) (s : List ℕ) where
   at-the-end : {at room : ℕ} {z : State} {r : Result} → Runs a s false at room z r → r .number ≡ 0 →
       (r .held .run .control ≡ after) × (length (drop (r .taken) s) ≡ 0) × (r .held .closing ≡ some 0)
   at-the-end (takes e next z′ w m t d) h = at-the-end d h
-  at-the-end (stops {at} {room} {z} e next n m t) h = absurd (omega (arith, refuses-over a z room (tokenOf a s e) n t, h))
-  at-the-end (full e next m t) h = absurd (omega (arith, h))
-  at-the-end (no-token {at} {room} {z} x n m q) h =
+  at-the-end (halts {at} {room} {z} (stops e next n m t)) h = absurd (omega (arith, refuses-over a z room (tokenOf a s e) n t, h))
+  at-the-end (halts (full e next m t)) h = absurd (omega (arith, h))
+  at-the-end (halts {at} {room} {z} (no-token x n m q)) h =
       let i = all-taken (length (drop at s)) (z .control) x (q ∙ ap some h) in
       (i .1, i .0, ap (λ (j : ℕ). handed j z .closing) h)
 
@@ -249,19 +281,6 @@ module _ (a : Sheet) (s : List ℕ) where
 
   pub ends-run : (es : List Event) (at room : ℕ) (z : State) (to : ℕ) (last : State) (p : List Piece) → Reads s at es to → Steps a z (tokensOf a s es) last p →
       last .control ≡ after → length (drop to s) ≡ 0 → length (render p) ≤ room → Runs a s false at room z (ended to p last)
-  ends-run [] at room z to last p rd (e, q) c l f =
-      let l′ : length (drop at s) ≡ 0 = ap (λ (i : ℕ). length (drop i s)) rd ∙ l in
-      let m : Means (front s at) at Begun = begun-none (front s at) at (omega (arith, length-take 32 (drop at s))) in
-      let n : numberAt false (length (drop at s)) (z .control) Begun ≡ some 0 =
-      ap₂ (λ (i : ℕ) (d : Control). numberAt false i d Begun) l′ (ap (λ (y : State). y .control) e ∙ c) in
-      subst (Runs a s false at room z)
-      ((λ i. record { number = 0; taken = rd i; output = []; held = record { run = e i; closing = some 0 } })
-      ∙ ap (λ (o : List Piece). ended to o last) (sym q))
-      (no-token Begun 0 m n)
-  ends-run (e ∷ es) at room z to last p (next, m, rd) (y, t, k, p′, st, q) c l f =
-      let b : render p ≡ outputOf y ++ render p′ = ap render q ∙ render-append (outOf y) p′ in
-      let n : length (outputOf y) + length (render p′) ≤ room = omega (arith, f, ap length b, length-append (outputOf y) (render p′)) in
-      subst (Runs a s false at room z)
-      (ap (λ (o : List ℕ). record { number = 0; taken = to; output = o; held = record { run = last; closing = some 0 } }) (sym b))
-      (takes e next (silent y) (outputOf y) m (one-takes a z room (tokenOf a s e) y t k (omega (arith, n)))
-      (ends-run es next (room - length (outputOf y)) (silent y) to last p′ rd st c l (omega (arith, n))))
+  ends-run es at room z to last p rd st c l f =
+      let m : Means (front s to) to Begun = begun-none (front s to) to (omega (arith, length-take 32 (drop to s))) in
+      steps-stop a s false es at room z to last p 0 rd st f (no-token Begun 0 m (ap₂ (λ (i : ℕ) (d : Control). numberAt false i d Begun) l c))

@@ -49,18 +49,23 @@ numberAt more left c Begun = orElse (numberOf more left Begun) (some (atEnd c))
 numberAt more left c Bad = numberOf more left Bad
 numberAt more left c Long = numberOf more left Long
 
--- the call from the place `at` on, with so much room left, in the state z. A token that is refused, or that there is no room for, leaves the state as it was
+-- why a call stops at the place `at`, with so much room left, in the state z, and with which number: the token there is refused, or there is no room for its
+-- output, or no whole token comes next
+pub data Stop (a : Sheet) (part : List ℕ) (more : Bool) (at room : ℕ) (z : State) : ℕ → Type 0 where
+  stops : (e : Event) (next n : ℕ) →
+      Means (front part at) at (Token e (record { at = next })) → oneToken a z room (tokenOf a part e) ≡ refuses n → Stop a part more at room z n
+  full : (e : Event) (next : ℕ) →
+      Means (front part at) at (Token e (record { at = next })) → oneToken a z room (tokenOf a part e) ≡ no-room → Stop a part more at room z 17
+  no-token : (x : Answer) (n : ℕ) →
+      Means (front part at) at x → numberAt more (length (drop at part)) (z .control) x ≡ some n → Stop a part more at room z n
+
+-- the call from there on: it takes token after token, and then stops. A token that is refused, or that there is no room for, leaves the state as it was
 -- before it, and nothing of its output
 pub data Runs (a : Sheet) (part : List ℕ) (more : Bool) : ℕ → ℕ → State → Result → Type 0 where
   takes : {at room : ℕ} {z : State} {r : Result} (e : Event) (next : ℕ) (z′ : State) (w : List ℕ) →
       Means (front part at) at (Token e (record { at = next })) → oneToken a z room (tokenOf a part e) ≡ taken z′ w → Runs a part more next (roomLeft room w) z′ r →
       Runs a part more at room z (after-writing w r)
-  stops : {at room : ℕ} {z : State} (e : Event) (next n : ℕ) →
-      Means (front part at) at (Token e (record { at = next })) → oneToken a z room (tokenOf a part e) ≡ refuses n → Runs a part more at room z (stopped n at z)
-  full : {at room : ℕ} {z : State} (e : Event) (next : ℕ) →
-      Means (front part at) at (Token e (record { at = next })) → oneToken a z room (tokenOf a part e) ≡ no-room → Runs a part more at room z (stopped 17 at z)
-  no-token : {at room : ℕ} {z : State} (x : Answer) (n : ℕ) →
-      Means (front part at) at x → numberAt more (length (drop at part)) (z .control) x ≡ some n → Runs a part more at room z (stopped n at z)
+  halts : {at room : ℕ} {z : State} {n : ℕ} → Stop a part more at room z n → Runs a part more at room z (stopped n at z)
 
 -- a closed state: 28 after 0, and any other number again; nothing is taken or written, and the state is handed back as given
 abbrev pub again : ℕ → ℕ

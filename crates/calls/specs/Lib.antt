@@ -6,3 +6,5 @@ pub mod Reached
 pub mod Accepted
 pub mod Parts
 pub mod Empty
+pub mod ReadsBack
+pub mod Explained

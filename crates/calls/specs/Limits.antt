@@ -1,8 +1,9 @@
 -- One token with the limits on the count and on the room: what it comes to, in document 01's order 26, 22, 23, 24, 25, 30, 17.
 -- Assumes nothing.
+use mathlib.Core.Path.{_≡_}
 use mathlib.Core.Bool.{Bool, true, false}
 use mathlib.Core.List.{List, []}
-use Prim.Native.Nat.{ℕ}
+use Prim.Native.Nat.{ℕ, _≤_, _<_}
 use lib.Dec.{leb}
 use lib.ListN.{length}
 use Rattle.sheet.specs.Sheet.{Sheet}
@@ -41,3 +42,11 @@ within room (took z) = limited z (leb (z .store .env .count) mostVisits) (leb (l
 -- the token k in a state without output, with so much room left
 abbrev pub oneToken : Sheet → State → ℕ → Token → Taking
 oneToken a z room k = within room (stepToken a z k)
+
+-- 30: the token would be taken, and takes the count over the limit
+abbrev pub Over : Sheet → State → Token → ℕ → Type 0
+Over a z k n = (n ≡ 30) × ((y : State) × (stepToken a z k ≡ took y) × (mostVisits < y .store .env .count))
+
+-- 17: it would be taken within the limit, and its output is longer than the room
+abbrev pub Full : Sheet → State → ℕ → Token → Type 0
+Full a z room k = (y : State) × (stepToken a z k ≡ took y) × (y .store .env .count ≤ mostVisits) × (room < length (outputOf y))

@@ -29,7 +29,7 @@ use Rattle.runs.proofs.SheetFits.{sheet-fits}
 use Rattle.calls.specs.Names.{tokenOf}
 use Rattle.calls.specs.Limits.{Taking, taken, refuses, no-room, oneToken}
 use Rattle.calls.specs.Held.{Held, leavesOpen, closingOf, handed, Closing}
-use Rattle.calls.specs.Call.{Result, roomLeft, stopped, after-writing, numberAt, Runs, takes, stops, full as no-space, no-token, CalledBy, Called}
+use Rattle.calls.specs.Call.{Result, roomLeft, stopped, after-writing, numberAt, stops, full as no-space, no-token, Runs, takes, halts as run-halts, CalledBy, Called}
 use Rattle.calls.proofs.Steps.{takes-one, refuses-over}
 use Rattle.calls.proofs.Exactly.{closing-fits}
 use Rattle.state.specs.Changes.{notClosed, closedWith, withEnv, tidied}
@@ -170,8 +170,8 @@ module _ {s : List ℕ} {z₀ : State} {part : List ℕ} {more : Bool} {lent d :
       where
         by : (t : Taking) → here ≡ t → Takes t z d put r d′ → Runs sheet part more at left (meaningOf z) (stopped (r .number) at (meaningOf z)) × (d ≡ d′)
         by (taken y u) q k = absurd (w (k .number))
-        by (refuses n) q k = (subst (λ (i : ℕ). Runs sheet part more at left (meaningOf z) (stopped i at (meaningOf z))) (sym (k .number)) (stops e next n means q), sym (k .left))
-        by no-room q k = (subst (λ (i : ℕ). Runs sheet part more at left (meaningOf z) (stopped i at (meaningOf z))) (sym (k .number)) (no-space e next means q), sym (k .left))
+        by (refuses n) q k = (subst (λ (i : ℕ). Runs sheet part more at left (meaningOf z) (stopped i at (meaningOf z))) (sym (k .number)) (run-halts (stops e next n means q)), sym (k .left))
+        by no-room q k = (subst (λ (i : ℕ). Runs sheet part more at left (meaningOf z) (stopped i at (meaningOf z))) (sym (k .number)) (run-halts (no-space e next means q)), sym (k .left))
 
 -- the same run at another count
 counted-on : (z : State) (n : ℕ) → meaningOf (withEnv z (z .values) (z .echo) n) ≡ counting (meaningOf z) n
@@ -328,9 +328,10 @@ module _ {s : List ℕ} {z₀ : State} {part : List ℕ} (ended-now : Bool) {len
     (h : NumberedAs (not ended-now) (length part - at) (meaningOf z .control) x n) where
   without : Runs (g .given .sheet) part (not ended-now) at (length lent - put) (meaningOf z) (stopped n at (meaningOf z))
   without =
-      no-token x n means
+      run-halts
+      (no-token x n means
       (ap (λ (i : ℕ). numberAt (not ended-now) i (meaningOf z .control) x) (length-drop at part)
-      ∙ numbered (not ended-now) (length part - at) (meaningOf z .control) x n w h)
+      ∙ numbered (not ended-now) (length part - at) (meaningOf z .control) x n w h))
 
   pub without-few : n ≤ 30
   without-few = few without

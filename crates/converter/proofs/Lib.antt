@@ -1,6 +1,7 @@
 pub mod Replies
 pub mod BytesLaws
 pub mod Theorems
+pub mod Told
 pub mod Going
 pub mod Entering
 pub mod Widths

@@ -21,7 +21,7 @@ use Rattle.faults.proofs.Theorems.{one-verdict, verdict-most}
 use Rattle.runs.specs.Taken.{Passed}
 use Rattle.runs.specs.Machine.{State as Run}
 use Rattle.calls.specs.Held.{Held, leavesOpen, closingOf, Closing}
-use Rattle.calls.specs.Call.{Result, Runs, takes, stops, full, no-token, again, CalledBy, Called}
+use Rattle.calls.specs.Call.{Result, Runs, takes, halts, again, CalledBy, Called}
 use Rattle.calls.proofs.Answers.{call-one}
 use Rattle.calls.proofs.Exactly.{closing-fits}
 use Rattle.state.specs.Meaning.{meaningOf}
@@ -162,9 +162,7 @@ closing-in (inr (inr e)) = inr (inr (inr (omega arith, omega arith)))
 handed-by : {a : Sheet} {part : List ℕ} {more : Bool} {at room : ℕ} {z : Run} {r : Result} → Runs a part more at room z r →
     r .held .closing ≡ closingOf (leavesOpen (r .number)) (r .number)
 handed-by (takes e next z′ w m t d) = handed-by d
-handed-by (stops e next n m t) = refl
-handed-by (full e next m t) = refl
-handed-by (no-token x n m q) = refl
+handed-by (halts q) = refl
 
 pub run-number : {a : Sheet} {part : List ℕ} {more : Bool} {at room : ℕ} {z : Run} {r : Result} → Runs a part more at room z r → InTable (r .number)
 run-number {r = r} d = by (eqb (r .number) 16) (eqb (r .number) 17) refl refl (handed-by d)

@@ -37,7 +37,7 @@ use Rattle.converter.proofs.Widths.{fresh-wide}
 use Rattle.converter.proofs.BytesLaws.{bytes-state, bytes-first, as-value}
 use Rattle.converter.proofs.Replies.{some-inj, given-closed, is-call, handed-back-fit, written-first, visits-held}
 
-held-fresh : heldOf freshState ≡ fresh-held
+pub held-fresh : heldOf freshState ≡ fresh-held
 unfolding freshState
 held-fresh = let e = meaning-fresh in λ i. record { run = e i; closing = closingIn (freshState .closed) }
 
@@ -138,7 +138,7 @@ module _ {s : List ℕ} {a : Sheet} (i : IsSheet s a) (ok : Passed a) where
         subst (FitsSheet a) (c .state) (handed-back-fit i ok f w),
       )
 
-  feeds-value : {more : Bool} {whole : List ℕ} {room : ℕ} {z : State} {x : Result} {v : ℕ} → FitsSheet a z → Feeds (ValueCall s) more whole room z x v →
+  pub feeds-value : {more : Bool} {whole : List ℕ} {room : ℕ} {z : State} {x : Result} {v : ℕ} → FitsSheet a z → Feeds (ValueCall s) more whole room z x v →
       Feeds (CallOf a) more whole room (heldOf z) x v
   feeds-value f d = feeds-held a heldOf (FitsSheet a) value-call f d
 

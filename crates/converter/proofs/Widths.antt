@@ -19,12 +19,12 @@ use Rattle.state.proofs.Gathered.{length-gathered}
 use Rattle.state.proofs.Back.{frame-back, state-back}
 use Rattle.state.proofs.Tidy.{fresh-sized}
 
-all-gathered : {X : Type 0} {P : X → Type 0} (f : ℕ → X) (w at n : ℕ) → ((i : ℕ) → P (f i)) → All P (gathered f w at n)
+pub all-gathered : {X : Type 0} {P : X → Type 0} (f : ℕ → X) (w at n : ℕ) → ((i : ℕ) → P (f i)) → All P (gathered f w at n)
 unfolding gathered
 all-gathered f w at zero h = none
 all-gathered f w at (suc n) h = more (h at) (all-gathered f w (at + w) n h)
 
-frame-sized : (b : List ℕ) (at : ℕ) → SizedFrame (frameAt b at)
+pub frame-sized : (b : List ℕ) (at : ℕ) → SizedFrame (frameAt b at)
 unfolding frameAt savedAt
 frame-sized b at =
     record {

@@ -1,4 +1,6 @@
 pub mod Answered
 pub mod Bytes
 pub mod Fed
+pub mod ReadsBack
+pub mod Explained
 pub mod Inner

@@ -1,0 +1,87 @@
+-- What a call of the code writes reads back, and what it answers is what trees say: each is the law of the calls (`calls-read-back`, `explained-exactly`), as a reply is a call's
+-- answer (`is-call`).
+-- Assumes nothing.
+use mathlib.Core.Path.{_≡_, refl, sym, ap, ap₂, _∙_, subst}
+use mathlib.Core.Logic.{_↔_}
+use mathlib.Core.Bool.{Bool, not}
+use mathlib.Core.List.{List, []}
+use mathlib.Core.Option.{some}
+use Prim.Native.Nat.{ℕ}
+use native.Mathlib.Omega.{arith}
+use lib.ListN.{length, take}
+use lib.Seq.{take-append-seam}
+use Rattle.sheet.specs.Sheet.{Sheet, IsSheet}
+use Rattle.runs.specs.Visits.{attributes, grammar}
+use Rattle.runs.specs.Machine.{most}
+use Rattle.runs.specs.Taken.{Passed}
+use Rattle.calls.specs.Held.{Held, fresh-held}
+use Rattle.calls.specs.Call.{Result, Called}
+use Rattle.calls.specs.ReadsBack.{ReadsBack}
+use Rattle.calls.specs.Explained.{Explained, Answers}
+use Rattle.calls.proofs.ReadsBack.{text-back, calls-read-back}
+use Rattle.calls.proofs.Explained.{explained-exactly}
+use Rattle.calls.proofs.Parts.{feeds-as-one}
+use Rattle.state.specs.Changes.{freshState}
+use Rattle.state.specs.Bounds.{frameWidth, headWidth}
+use Rattle.state.specs.Bytes.{byteAt, frameAt, stateFrom, Sized}
+use Rattle.state.proofs.Gathered.{length-gathered}
+use Rattle.state.specs.declared.State.{State}
+use Rattle.fit.proofs.RunsFit.{fit-run}
+use Rattle.fit.proofs.Theorems.{fresh-fit}
+use Rattle.converter.specs.declared.Reply.{Reply}
+use Rattle.converter.specs.Answered.{FitsSheet, heldOf, Ran, AnsweredAs, as-given, runs}
+use Rattle.converter.specs.Bytes.{BytesAnsweredAs, as-given as bytes-given, runs as bytes-run}
+use Rattle.converter.specs.Fed.{resultOf, ValueCall}
+use Rattle.converter.specs.ReadsBack.{WrittenReadsBack, BytesWrittenReadBack}
+use Rattle.converter.specs.Explained.{Replies, RepliesExactly, FedExactly}
+use Rattle.converter.proofs.Widths.{all-gathered, frame-sized}
+use Rattle.converter.proofs.Replies.{is-call, ran-result, visits-held}
+use Rattle.converter.proofs.Theorems.{held-fresh, feeds-value}
+
+-- a run's output reads back
+ran-back : {s : List ℕ} {z : State} {part : List ℕ} {ended : Bool} {lent after : List ℕ} {r : Reply} → Sized z → Ran s z part ended lent after r → ReadsBack (take (r .written) after)
+ran-back {s} {z} {part} {ended} {lent} {after} {r} sized w =
+    subst ReadsBack (sym (ap (λ (x : Result). x .output) (ran-result w)))
+    (calls-read-back (w .is-sheet) part (not ended) (length lent) (heldOf z) (w .answer) (fit-run (w .is-sheet) z sized (w .fits) .store) (w .called))
+
+-- nothing is written
+none-back : (after : List ℕ) (n : ℕ) → n ≡ 0 → ReadsBack (take n after)
+none-back after n e = subst ReadsBack (sym (ap (λ (n : ℕ). take n after) e)) (text-back [] tt)
+
+pub written-reads-back : WrittenReadsBack
+written-reads-back s z part ended lent after r sized (as-given g k v) = none-back after (r .written) (k .written)
+written-reads-back s z part ended lent after r sized (runs w v) = ran-back sized w
+
+-- a state that was read off bytes is as code holds one
+sized-from : (a : Sheet) (b : List ℕ) → FitsSheet a (stateFrom b) → Sized (stateFrom b)
+unfolding stateFrom
+sized-from a b f =
+    record {
+      values = length-gathered (byteAt b) 1 0 attributes;
+      count = omega (arith, f .count);
+      depth = omega (arith, f .few);
+      frames = length-gathered (frameAt b) frameWidth headWidth most;
+      each = all-gathered (frameAt b) frameWidth headWidth most (frame-sized b);
+    }
+
+pub bytes-written-read-back : BytesWrittenReadBack
+bytes-written-read-back s b b′ part ended lent after r (bytes-given g k) = none-back after (r .written) (k .written)
+bytes-written-read-back s b b′ part ended lent after r (bytes-run e q w c h i) =
+    subst (λ (n : ℕ). ReadsBack (take n after)) (sym (c .written)) (ran-back (sized-from (w .sheet) b (w .fits)) w)
+
+module _ {s : List ℕ} {a : Sheet} (i : IsSheet s a) (ok : Passed a) where
+  from-fresh : {part : List ℕ} {more : Bool} {room : ℕ} {x : Result} → Called a part more room (heldOf freshState) x → Called a part more room fresh-held x
+  from-fresh {part} {more} {room} {x} d = subst (λ (h : Held). Called a part more room h x) held-fresh d
+
+  pub replies-exactly : RepliesExactly s a
+  replies-exactly part ended lent after r w n t o v =
+      let d = from-fresh (is-call i ok (fresh-fit (grammar a) (a .start-nonterminal)) w) in
+      let e = explained-exactly a ok part (not ended) (length lent) (resultOf after r) d n t o v in
+      let k = visits-held w in (
+        (λ h. e .0 (record { is-number = h .is-number; is-taken = h .is-taken; is-output = h .is-output; is-visits = sym k ∙ h .is-visits })),
+        (λ x. let h = e .1 x in record { is-number = h .is-number; is-taken = h .is-taken; is-output = h .is-output; is-visits = k ∙ h .is-visits }),
+      )
+
+  pub fed-exactly : FedExactly s a
+  fed-exactly whole ended room x w d n t o v =
+      explained-exactly a ok whole (not ended) room x (from-fresh (feeds-as-one a (not ended) (feeds-value i ok (fresh-fit (grammar a) (a .start-nonterminal)) d))) n t o v
