@@ -1,0 +1,162 @@
+#!/usr/bin/env python3
+"""What must be read to believe a promise: counted by following the definitions that its statement names.
+
+    python3 docs/reading.py            writes the tables of docs/READING.md, between its marks
+    python3 docs/reading.py --check    says whether they are what it would write
+    python3 docs/reading.py NAME..     the definitions that a statement needs, as crate.File.Name, file by file
+
+A statement is a definition of some crates/CRATE/specs/File.antt. It needs the definitions of specs/ that its text names, and so on; a block of
+definitions between two empty lines counts whole, with the comment in front of it. Types that code declares (structs, enums) are named apart: they are
+read in src/. What the toolchain's libraries define (lists, numbers) is not counted.
+
+Of PASSED nothing is followed: these are what a function's contract says, and a theorem that starts from one holds of the function whatever it says in
+detail, since the function meets it. Only demand 1 is about the contracts themselves.
+"""
+import os
+import re
+import sys
+
+ROOT = os.path.dirname(os.path.dirname(os.path.abspath(__file__)))
+PAGE = os.path.join(ROOT, 'docs', 'READING.md')
+WORD = re.compile(r'[^\s(){};,.λ→]+')
+FIELD = re.compile(r'(?<=\s)\.[^\s(){};,.]+|(?<=[{;])\s*[^\s=]+ =')  # x .field, and a field that is given a value
+USE = re.compile(r'^use Rattle·(\w+)(?:·specs)?\.specs\.([\w.-]+?)\.\{(.*)\}')
+
+PASSED = {('converter', 'Answered', 'AnsweredAs'), ('converter', 'Bytes', 'BytesAnsweredAs'), ('calls', 'Call', 'Called')}
+
+# each demand's statements, in the order in which they are best read
+DEMANDS = [
+    ('Demand 1: whatever bytes reach it', ['faults.Checked.CheckedAs', 'converter.Answered.AnsweredAs', 'converter.Bytes.BytesAnsweredAs']),
+    ('Demand 2: which streams are taken, their output and visits', ['calls.Accepted.Accepted', 'calls.Accepted.TwiceTheNodes']),
+    ('Demand 2: every number, what is taken and written then, and the visits', ['converter.Explained.RepliesExactly']),
+    ('Demand 2: the same in whatever parts and rooms', ['converter.Explained.FedExactly']),
+    ('Demand 2: what we write reads back', ['converter.ReadsBack.WrittenReadsBack', 'converter.ReadsBack.BytesWrittenReadBack']),
+    ('Demand 2: `<a/>` and `<a></a>`', ['calls.Empty.EmptyIsBoth', 'calls.Empty.EmptyForBoth']),
+    ('Demand 3: the list of faults', ['faults.Checked.CheckedAs', 'expressions.FaultList.IsFaultList']),
+    ('The starred examples', ['worked.Worked.RowHolds', 'worked.Worked.worked']),
+]
+
+
+class File:
+    """A file of definitions: its blocks, which block defines a name, and where an imported name comes from."""
+
+    def __init__(self, crate, name):
+        self.crate, self.name = crate, name
+        self.imports, self.blocks, self.defined = {}, [], {}
+        path = os.path.join(ROOT, 'crates', crate, 'specs', name + '.antt')
+        block = []
+        for line in open(path, encoding='utf-8').read().split('\n') + ['', 'end']:
+            used = USE.match(line)
+            if used:
+                for item in used[3].split(','):
+                    there, _, here = item.strip().partition(' as ')
+                    self.imports[here or there] = (used[1], used[2].split('.'), there)
+            elif line.startswith(('use ', 'pub mod ', '-- Assumes')):
+                continue
+            elif block and block[-1] == '' and line and not line.startswith(' '):
+                self.add(block)
+                block = [line]
+            elif line or block:
+                block.append(line)
+
+    def add(self, lines):
+        while lines and not lines[-1]:
+            lines.pop()
+        for line in lines:
+            named = re.match(r'^ {0,4}(?! )(?:abbrev |unfoldable )*(?:mutual )?(?:pub )?(?:data |record )?([^:(){}=]+?)(?: [({].*)? :', line)
+            if named and not line.lstrip().startswith('--'):
+                for name in named[1].split():
+                    self.defined.setdefault(name, len(self.blocks))
+        self.blocks.append(lines)
+
+
+FILES = {}
+
+
+def file(crate, name):
+    if (crate, name) not in FILES:
+        FILES[crate, name] = File(crate, name)
+    return FILES[crate, name]
+
+
+def needed(statements):
+    """The blocks that the statements need, as (crate, file) -> set of blocks, and the declared types."""
+    first = [tuple(s.split('.')) for s in statements]
+    blocks, declared, todo, passed = {}, set(), list(first), PASSED - (PASSED if PASSED & set(first) else set())
+    while todo:
+        crate, name, word = todo.pop()
+        if (crate, name, word) in passed:
+            continue
+        there = file(crate, name)
+        if word not in there.defined:
+            sys.exit('docs/reading.py: %s.%s does not define %s' % (crate, name, word))
+        block = there.defined[word]
+        if block in blocks.setdefault((crate, name), set()):
+            continue
+        blocks[crate, name].add(block)
+        for line in there.blocks[block]:
+            code = FIELD.sub(' ', line.split('--')[0])
+            for used in WORD.findall(code):
+                if used in there.defined:
+                    todo.append((crate, name, used))
+                elif used in there.imports:
+                    other, path, original = there.imports[used]
+                    if path[0] == 'declared':
+                        declared.add('%s `%s`' % (other, path[1]))
+                    else:
+                        todo.append((other, path[0], original))
+    return blocks, declared
+
+
+def lines_of(blocks):
+    return sum(len([l for l in file(*f).blocks[b] if l]) for f, bs in blocks.items() for b in bs)
+
+
+def order():
+    """The crates as crates.txt has them: lower layers first."""
+    names = [line.split(':')[0] for line in open(os.path.join(ROOT, 'crates.txt'), encoding='utf-8') if ':' in line and not line.startswith('#')]
+    return {name: i for i, name in enumerate(names)}
+
+
+def files_text(blocks):
+    rank, crates = order(), {}
+    for crate, name in blocks:
+        crates.setdefault(crate, []).append(name)
+    modules = lambda crate: [m.split()[-1] for m in open(os.path.join(ROOT, 'crates', crate, 'specs', 'Lib.antt'), encoding='utf-8').read().split('\n') if m]
+    return '; '.join('%s: %s' % (crate, ', '.join(n for n in modules(crate) if n in crates[crate])) for crate in sorted(crates, key=rank.get))
+
+
+def table():
+    rows = ['| To believe | Read, in this order | Lines |', '|---|---|---|']
+    for title, statements in DEMANDS:
+        blocks, declared = needed(statements)
+        names = ', '.join('%s `%s`' % (s.split('.')[0], s.split('.', 1)[1]) for s in statements)
+        types = '; declared in src/: ' + ', '.join(sorted(declared)) if declared else ''
+        rows.append('| %s: %s | %s%s | %d |' % (title, names, files_text(blocks), types, lines_of(blocks)))
+    return '\n'.join(rows) + '\n'
+
+
+def main():
+    words = [w for w in sys.argv[1:] if w != '--check']
+    if words:
+        blocks, declared = needed(words)
+        rank = order()
+        for crate, name in sorted(blocks, key=lambda f: rank[f[0]]):
+            print('%s/%s:' % (crate, name), ', '.join(w for w, b in file(crate, name).defined.items() if b in blocks[crate, name]))
+        print('declared:', ', '.join(sorted(declared)), '\nlines:', lines_of(blocks))
+        return 0
+    page = open(PAGE, encoding='utf-8').read()
+    head, mark, rest = page.partition('<!-- counted by docs/reading.py -->\n')
+    old, end, tail = rest.partition('<!-- end -->\n')
+    if not end:
+        sys.exit('docs/READING.md has no marks')
+    if '--check' in sys.argv:
+        if old != table():
+            sys.exit('docs/READING.md: the counted table is not what python3 docs/reading.py writes')
+        print('docs/READING.md: the counted table is right')
+        return 0
+    open(PAGE, 'w', encoding='utf-8').write(head + mark + table() + end + tail)
+    return 0
+
+
+sys.exit(main())
