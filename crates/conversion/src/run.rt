@@ -1,4 +1,5 @@
 // A schedule from one descriptor converted to another, part by part, in memory that is lent: so much of the schedule, so much output.
+use crate::caller::Caller;
 use crate::place::Place;
 use converter::Reply;
 use converter::convert;
@@ -6,7 +7,8 @@ use libc::STDERR_FILENO;
 use state::State;
 
 // Where a conversion stands between two calls of the converter: the last number, how many bytes at the front of the lent memory are not
-// taken yet, how many bytes were written in all, whether the schedule could not be read or the output not written, and whether it goes on.
+// taken yet, how many bytes were written in all, whether the schedule could not be read or the output not written, whether whoever started
+// it is gone, and whether it goes on.
 pub struct Standing {
     pub number: usize,
     pub held: usize,
@@ -14,6 +16,7 @@ pub struct Standing {
     pub place: Place,
     pub unread: bool,
     pub unwritten: bool,
+    pub left_alone: bool,
     pub going: bool,
     pub state: State,
 }
@@ -38,6 +41,7 @@ impl Standing {
             place: place,
             unread: false,
             unwritten: false,
+            left_alone: false,
             going: true,
             state: state,
         }
@@ -48,6 +52,14 @@ impl Standing {
         let mut next = self;
         next.unread = unread;
         next.unwritten = !unread;
+        next.going = false;
+        next
+    }
+
+    // Whoever started it is gone: nobody waits for a listing any more.
+    fn forsaken(self) -> Standing {
+        let mut next = self;
+        next.left_alone = true;
         next.going = false;
         next
     }
@@ -64,6 +76,7 @@ impl Standing {
             place: place,
             unread: false,
             unwritten: false,
+            left_alone: false,
             going: (number == MORE) | ((number == FULL) & (written > 0)),
             state: state,
         }
@@ -77,6 +90,14 @@ fn go_on(part: &mut [u8], held: usize, s: Standing, r: Reply) -> Standing {
     let past = place.after(&part[..taken]);
     let left = files::move_to_front(part, taken, held);
     s.answered(r, past, left)
+}
+
+// Writes output out; where there is no file for it, as in a trial, that is done at once.
+fn write_out(to: i32, output: &[u8]) -> bool {
+    if to < 0 {
+        return true;
+    }
+    io::write_all(to, output)
 }
 
 // One call of the converter: reads on behind what is held, converts, writes the output out, and moves what was not taken to the front.
@@ -97,10 +118,26 @@ fn turn(
     let state = s.state;
     let r = convert(sheet, state, &part[..held], filled.ended, out);
     let written = files::within(r.written, out);
-    if !io::write_all(to, &out[..written]) {
+    if !write_out(to, &out[..written]) {
         return s.stopped(false);
     }
     go_on(part, held, s, r)
+}
+
+// One call of the converter, if whoever started it is still there.
+fn turn_for(
+    caller: Caller,
+    sheet: &[u8],
+    from: i32,
+    to: i32,
+    part: &mut [u8],
+    out: &mut [u8],
+    s: Standing,
+) -> Standing {
+    if caller.is_gone() {
+        return s.forsaken();
+    }
+    turn(sheet, from, to, part, out, s)
 }
 
 // Says how far it is, at every step, to whoever watches.
@@ -127,18 +164,18 @@ pub(crate) fn run(
     to: i32,
     part: &mut [u8],
     out: &mut [u8],
-    watched: bool,
+    caller: Caller,
 ) -> Standing {
     let mut s = Standing::fresh();
     let mut turns = u64::MAX;
     while turns > 0 && s.going {
         let before = s.place;
-        s = turn(sheet, from, to, part, out, s);
+        s = turn_for(caller, sheet, from, to, part, out, s);
         let after = s.place;
-        tell_progress(watched, before.offset, after.offset);
+        tell_progress(caller.watches, before.offset, after.offset);
         turns -= 1;
     }
     let last = s.place;
-    end_progress(watched, last.offset);
+    end_progress(caller.watches, last.offset);
     s
 }

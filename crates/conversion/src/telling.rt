@@ -106,20 +106,33 @@ pub(crate) fn tell_refusal(sheet: &[u8], schedule: &[u8], s: Standing, left: &[u
     say_open_elements(sheet, state);
 }
 
-// A schedule that was converted.
-pub(crate) fn tell_done(schedule: &[u8], listing: &[u8], s: Standing) {
+// How much was done.
+fn say_counts(written: &[u8], s: Standing) {
     let place = s.place;
     let state = s.state;
-    say(schedule);
-    say(b": converted into ");
-    say(listing);
-    say(b".\nBytes read: ");
+    say(b"Bytes read: ");
     say_number(place.offset);
-    say(b". Bytes written: ");
+    say(written);
     say_number(s.written);
     say(b". Visits: ");
     say_number(state.count);
     say(b".\n");
+}
+
+// A schedule that was converted.
+pub(crate) fn tell_done(schedule: &[u8], listing: &[u8], s: Standing) {
+    say(schedule);
+    say(b": converted into ");
+    say(listing);
+    say(b".\n");
+    say_counts(b". Bytes written: ", s);
+}
+
+// A schedule that was tried.
+pub(crate) fn tell_tried(schedule: &[u8], s: Standing) {
+    say(schedule);
+    say(b": tried; it can be converted, and nothing was written.\n");
+    say_counts(b". Bytes of the listing: ", s);
 }
 
 // After whatever went wrong.

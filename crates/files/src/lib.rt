@@ -115,20 +115,54 @@ pub fn new_beside(path: &[u8], name: &mut [u8]) -> New
     }
 }
 
+// How many of a path's bytes name a folder: those up to its last slash, none where it has none.
+fn folder(path: &[u8]) -> usize
+    ensures { λ r. ⌜ Counts r (now (path .entry)) ⌝ }
+{
+    let mut end = path.len();
+    while end > 0 {
+        if path[end - 1] == b'/' {
+            return end;
+        }
+        end -= 1;
+    }
+    0
+}
+
+// Opens the folder of what has the name `path`, as a file that can only be synced.
+fn open_folder(path: &[u8]) -> i32 {
+    let n = folder(path);
+    if n == 0 {
+        return os::open_read(b".");
+    }
+    os::open_read(&path[..n])
+}
+
+// Waits until the folder's own record of its names has reached the disk. Where the folder cannot be read, or the disk has no such wait,
+// the new name stands all the same: so nothing is told.
+fn sync_folder(path: &[u8]) {
+    let fd = open_folder(path);
+    if fd >= 0 {
+        libc::fsync(fd);
+        libc::close(fd);
+    }
+}
+
 // Ends the new file and gives it the name `path`, so that whoever opens that finds the old file or the new one, whole. Answers whether
-// that was done; else it is told why not on standard error, and the new file is taken away.
+// that was done; else the new file is taken away, and it is told why on standard error (what is taken away without trouble leaves errno).
 pub fn put_in_place(fd: i32, name: &[u8], path: &[u8]) -> bool {
     if libc::fsync(fd) < 0 {
-        os::fail(path);
         take_away(fd, name);
+        os::fail(path);
         return false;
     }
     libc::close(fd);
     if os::rename(name, path) < 0 {
-        os::fail(path);
         os::unlink(name);
+        os::fail(path);
         return false;
     }
+    sync_folder(path);
     true
 }
 

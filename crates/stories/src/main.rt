@@ -22,7 +22,7 @@ fn show_listing() {
 
 fn tell(sheet: &[u8], schedule: &[u8]) {
     put_yesterday();
-    conversion::convert_files(sheet, schedule, b"listing", false);
+    conversion::convert_files(sheet, schedule, b"listing", conversion::Caller::nobody());
     show_listing();
 }
 

@@ -1,8 +1,11 @@
-// The program that people run: wickpollen check SHEET, wickpollen convert SHEET SCHEDULE LISTING, wickpollen help.
-// What is found goes to standard output; the last line of standard error is always "wickpollen: N", from which bin/wickpollen takes
-// the exit status, since a program here has none.
+// The program that people run: wickpollen check SHEET, wickpollen try SHEET SCHEDULE, wickpollen convert SHEET SCHEDULE LISTING, wickpollen help.
+// What is found goes to standard output; the last line of standard error is always "wickpollen: N". A program here has no exit status: where the
+// first word is --tell, as from bin/wickpollen, the number is told on a descriptor of its own too, and becomes the exit status there.
 ghost use mathlib.Core.Path.{_≡_};
 ghost use Rattle.tells.specs.Tells.{Tells};
+ghost use Prim.Native.Nat.{_<_};
+ghost use Rattle.io.specs.Counts.{Counts};
+use conversion::Caller;
 use conversion::FILE;
 use libc::STDERR_FILENO;
 use report::say;
@@ -19,11 +22,15 @@ fn usage() -> u64 {
         b"usage: wickpollen check SHEET                       say whether the rule sheet passes, and every place to mend\n",
     );
     complain(
+        b"       wickpollen try SHEET SCHEDULE                say what convert would say, and write nothing\n",
+    );
+    complain(
         b"       wickpollen convert SHEET SCHEDULE LISTING    convert the schedule by the sheet, and put the listing in place\n",
     );
     complain(
-        b"       wickpollen help                              say what the commands and the numbers mean\n",
+        b"       wickpollen help                              say what the commands and the numbers mean (--help does too)\n",
     );
+    complain(b"       wickpollen --version                         say which version this is\n");
     USAGE
 }
 
@@ -32,19 +39,25 @@ fn help_commands() {
     say(
         b"    Checks the rule sheet in the file SHEET, and says whether it passes or which places to mend.\n",
     );
+    say(b"wickpollen try SHEET SCHEDULE [--progress]\n");
+    say(
+        b"    Says what convert would say of the same sheet and schedule, with the same number, and writes nothing.\n",
+    );
     say(b"wickpollen convert SHEET SCHEDULE LISTING [--progress]\n");
     say(
         b"    Converts the file SCHEDULE by the rule sheet into the file LISTING. The listing is written to a new file beside it, LISTING and a\n",
     );
     say(
-        b"    dot and six letters, which takes its name only when the whole schedule was taken: after any other end LISTING is as it was. A new\n",
+        b"    dot and six letters, which takes its name only when the whole schedule was taken: after any other end LISTING is as it was. LISTING\n",
     );
     say(
-        b"    file that a killed run left behind can be deleted. How far it is, is said on standard error at every 8 MB if that is a terminal,\n",
+        b"    must be a plain file or no file yet, and neither SHEET nor SCHEDULE. How far it is, is said on standard error at every 8 MB if that\n",
     );
-    say(b"    or with --progress; else nothing is said before the end.\n");
+    say(b"    is a terminal, or with --progress; else nothing is said before the end.\n");
     say(b"wickpollen help\n");
-    say(b"    Says this.\n\n");
+    say(b"    Says this, as --help does.\n");
+    say(b"wickpollen --version\n");
+    say(b"    Says which version this is.\n\n");
 }
 
 fn help() -> u64 {
@@ -53,8 +66,40 @@ fn help() -> u64 {
     report::table();
     say(b"\n101: The command was not understood. See how it is used above.\n");
     say(
-        b"\n102: A file could not be read or written; the message says which and why. Mend that, and give the command again.\n",
+        b"\n102: A file could not be read or written, or LISTING is nothing to write to; the message says which and why. Mend that, and give the command again.\n",
     );
+    say(
+        b"\n103: The program ended without an answer: it was killed, or had too little memory. Give the command again.\n",
+    );
+    say(
+        b"\n129, 130, 131, 143: The command was stopped by a signal (128 and the signal's number). LISTING is whole: the old one, or the new one if that was just put in place.\n",
+    );
+    0
+}
+
+// Word i of the command, the program's own name being word 0. `--tell`, which comes before the others, is not counted.
+fn word(told: bool, i: usize, memory: &mut [u8]) -> usize
+    requires { ⌜ i < 9 ⌝ }
+    ensures { λ r. ⌜ Counts r (now (memory .exit)) ⌝ }
+{
+    if told {
+        return os::arg(i + 1, memory);
+    }
+    os::arg(i, memory)
+}
+
+// Whether the command has n words, its name among them.
+fn has_words(told: bool, n: usize) -> bool
+    requires { ⌜ n < 9 ⌝ }
+{
+    if told {
+        return os::arg_count() == n + 1;
+    }
+    os::arg_count() == n
+}
+
+fn version() -> u64 {
+    say(b"wickpollen 1.0.0\n");
     0
 }
 
@@ -85,12 +130,12 @@ fn same(a: &[u8], b: &[u8]) -> bool
 }
 
 // `check` and its one file.
-fn run_check() -> u64 {
-    if os::arg_count() != 3 {
+fn run_check(told: bool) -> u64 {
+    if !has_words(told, 3) {
         return usage();
     }
     let mut path = io::buffer();
-    let n = os::arg(2, &mut path);
+    let n = word(told, 2, &mut path);
     if os::errno() != 0 {
         os::fail(b"SHEET");
         return FILE;
@@ -98,89 +143,126 @@ fn run_check() -> u64 {
     check_file(&path[..n])
 }
 
-// Whether there is somebody to tell how far it is: `watched` says so, or standard error is a terminal.
-fn is_watched(watched: bool) -> bool {
-    if watched {
-        return true;
-    }
-    libc::isatty(STDERR_FILENO) == 1
-}
-
 // `convert`, with the names of its sheet and its schedule.
-fn convert_into(sheet: &[u8], schedule: &[u8], watched: bool) -> u64 {
+fn convert_into(sheet: &[u8], schedule: &[u8], caller: Caller) -> u64 {
     let mut listing = io::buffer();
-    let n = os::arg(4, &mut listing);
+    let n = word(caller.listens, 4, &mut listing);
     if os::errno() != 0 {
         os::fail(b"LISTING");
         return FILE;
     }
-    conversion::convert_files(sheet, schedule, &listing[..n], is_watched(watched))
+    conversion::convert_files(sheet, schedule, &listing[..n], caller)
 }
 
-// `convert`, with the name of its sheet.
-fn convert_by(sheet: &[u8], watched: bool) -> u64 {
+// `convert` or `try`, with the name of its sheet.
+fn run_with(sheet: &[u8], caller: Caller, writes: bool) -> u64 {
     let mut schedule = io::buffer();
-    let n = os::arg(3, &mut schedule);
+    let n = word(caller.listens, 3, &mut schedule);
     if os::errno() != 0 {
         os::fail(b"SCHEDULE");
         return FILE;
     }
-    convert_into(sheet, &schedule[..n], watched)
+    if !writes {
+        return conversion::try_files(sheet, &schedule[..n], caller);
+    }
+    convert_into(sheet, &schedule[..n], caller)
 }
 
-// `convert` and its three files.
-fn convert(watched: bool) -> u64 {
+// `convert` or `try` and its files. Somebody watches where it was asked for, or where standard error is a terminal.
+fn run_files(told: bool, asked: bool, writes: bool) -> u64 {
     let mut sheet = io::buffer();
-    let n = os::arg(2, &mut sheet);
+    let n = word(told, 2, &mut sheet);
     if os::errno() != 0 {
         os::fail(b"SHEET");
         return FILE;
     }
-    convert_by(&sheet[..n], watched)
+    let watched = asked | (libc::isatty(STDERR_FILENO) == 1);
+    run_with(&sheet[..n], Caller::this_one(watched, told), writes)
 }
 
-// Whether the last word is --progress.
-fn is_progress_asked() -> bool {
-    let mut word = io::buffer();
-    let n = os::arg(5, &mut word);
-    same(&word[..n], b"--progress")
+// Whether word i is --progress.
+fn is_progress(told: bool, i: usize) -> bool
+    requires { ⌜ i < 9 ⌝ }
+{
+    let mut last = io::buffer();
+    let n = word(told, i, &mut last);
+    same(&last[..n], b"--progress")
 }
 
-fn run_convert() -> u64 {
-    if os::arg_count() == 5 {
-        return convert(false);
+// `convert` or `try`, which have n words, and perhaps --progress behind them.
+fn run_conversion(told: bool, n: usize, writes: bool) -> u64
+    requires { ⌜ n < 6 ⌝ }
+{
+    if has_words(told, n) {
+        return run_files(told, false, writes);
     }
-    if (os::arg_count() == 6) & is_progress_asked() {
-        return convert(true);
+    if has_words(told, n + 1) & is_progress(told, n) {
+        return run_files(told, true, writes);
     }
     usage()
 }
 
-fn run_command(command: &[u8]) -> u64 {
-    if same(command, b"check") {
-        return run_check();
-    }
-    if same(command, b"convert") {
-        return run_convert();
-    }
+// The commands that name no file.
+fn run_other(command: &[u8]) -> u64 {
     if same(command, b"help") {
         return help();
     }
+    if same(command, b"--help") {
+        return help();
+    }
+    if same(command, b"--version") {
+        return version();
+    }
     usage()
 }
 
-fn run() -> u64 {
+fn run_command(told: bool, command: &[u8]) -> u64 {
+    if same(command, b"check") {
+        return run_check(told);
+    }
+    if same(command, b"try") {
+        return run_conversion(told, 4, false);
+    }
+    if same(command, b"convert") {
+        return run_conversion(told, 5, true);
+    }
+    run_other(command)
+}
+
+fn run(told: bool) -> u64 {
     let mut command = io::buffer();
-    let n = os::arg(1, &mut command);
+    let n = word(told, 1, &mut command);
     if os::errno() != 0 {
         return usage();
     }
-    run_command(&command[..n])
+    run_command(told, &command[..n])
+}
+
+// Whether the first word is --tell.
+fn is_told() -> bool {
+    let mut first = io::buffer();
+    let n = os::arg(1, &mut first);
+    same(&first[..n], b"--tell")
+}
+
+// A standard descriptor that is closed would go to the next file that is opened, and a message into that file: the least that is free is
+// given to /dev/null if it is one of those.
+fn keep_standard() {
+    let fd = os::open_update(b"/dev/null");
+    if fd > STDERR_FILENO {
+        libc::close(fd);
+    }
 }
 
 fn main() {
-    let number = run();
+    keep_standard();
+    keep_standard();
+    keep_standard();
+    let told = is_told();
+    let caller = Caller::this_one(false, told);
+    let number = run(told);
     complain(b"wickpollen: ");
     io::print_decimal(STDERR_FILENO, number);
     complain(b"\n");
+    caller.hears_number(number);
 }

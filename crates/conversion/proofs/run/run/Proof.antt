@@ -10,13 +10,13 @@ use Rattle.conversion.proofs.run.run.Lts as lts
 use Rattle.conversion.proofs.run.Standing.fresh.Reads as fresh-reads
 use Rattle.conversion.proofs.run.end_progress.Reads as end-progress-reads
 use Rattle.conversion.proofs.run.tell_progress.Reads as tell-progress-reads
-use Rattle.conversion.proofs.run.turn.Reads as turn-reads
+use Rattle.conversion.proofs.run.turn_for.Reads as turn-for-reads
 
 abbrev Inv-loop : tie.InvT-loop
-Inv-loop sheet from to part₀ out₀ watched s₀ turns₀ part out s turns = (length part ≡ length part₀) × (length out ≡ length out₀)
+Inv-loop sheet from to part₀ out₀ caller s₀ turns₀ part out s turns = (length part ≡ length part₀) × (length out ≡ length out₀)
 
 abbrev μ-loop : tie.MeasureT-loop
-μ-loop sheet from to part₀ out₀ watched s₀ turns₀ part out s turns = turns
+μ-loop sheet from to part₀ out₀ caller s₀ turns₀ part out s turns = turns
 
 sub-turns : tie.Need-sub-turns Inv-loop μ-loop
 sub-turns c = omega arith

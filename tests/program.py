@@ -1,0 +1,386 @@
+#!/usr/bin/env python3
+"""Runs the real program, bin/wickpollen, as people and cron do: signals, closed descriptors, full disks, files that must not be replaced, messages.
+
+    python3 tests/program.py [NAME..]     all tests, or those whose names hold one of the words
+
+Needs `rt check wickpollen` first, and Linux. Each test has a folder of its own; its last line is "N passed, 0 failed".
+"""
+import os, pty, resource, shutil, signal, stat, subprocess, sys, tempfile, time
+
+HERE = os.path.dirname(os.path.dirname(os.path.abspath(__file__)))
+PROGRAM = os.path.join(HERE, "bin", "wickpollen")
+EXAMPLES = os.path.join(HERE, "examples")
+SHEET = os.path.join(EXAMPLES, "programmes.sheet")
+OLD = b"yesterday's listing"
+TESTS = []
+
+
+def test(f):
+    TESTS.append(f)
+    return f
+
+
+def expect(what, is_so):
+    if not is_so:
+        raise AssertionError(what)
+
+
+def example(name):
+    return os.path.join(EXAMPLES, name)
+
+
+def read(path):
+    with open(path, "rb") as f:
+        return f.read()
+
+
+def write(path, content):
+    with open(path, "wb") as f:
+        f.write(content)
+
+
+def run(*words, program=PROGRAM, **more):
+    """The exit status, standard output and standard error of a command."""
+    p = subprocess.run([program, *words], stdout=subprocess.PIPE, stderr=subprocess.PIPE, timeout=300, **more)
+    return p.returncode, p.stdout, p.stderr
+
+
+def shell(line, **more):
+    p = subprocess.run(["bash", "-c", line], stdout=subprocess.PIPE, stderr=subprocess.PIPE, timeout=300, **more)
+    return p.returncode, p.stdout, p.stderr
+
+
+def many(programmes):
+    """A schedule of so many programmes."""
+    one = b"<programme><start>2026-03-02T19:30</start><title>A title of some length</title></programme>\n"
+    return b"<schedule>\n" + one * programmes + b"</schedule>\n"
+
+
+class Stalled:
+    """A conversion that stands in the middle: the schedule is a pipe, of which a part has been written and more is awaited."""
+
+    def __init__(self, **more):
+        write("listing", OLD)
+        os.mkfifo("pipe")
+        self.process = subprocess.Popen([PROGRAM, "convert", SHEET, "pipe", "listing"], stdout=subprocess.PIPE, stderr=subprocess.PIPE, **more)
+        self.pipe = open("pipe", "wb", buffering=0)
+        self.pipe.write(many(3000))  # more than three parts; the root's end tag makes what follows wrong, but it is never reached
+        until(lambda: len(new_files()) == 1 and os.path.getsize(new_files()[0]) > 0)
+
+    def end(self):
+        out, err = self.process.communicate(timeout=60)
+        self.pipe.close()
+        return self.process.returncode, out, err
+
+
+def until(holds, seconds=60):
+    end = time.time() + seconds
+    while not holds():
+        expect("it came in time", time.time() < end)
+        time.sleep(0.02)
+
+
+def new_files():
+    return [n for n in os.listdir(".") if n.startswith("listing.")]
+
+
+def processes(word):
+    """The processes of this test's folder that have the word in their command."""
+    found = []
+    for p in os.listdir("/proc"):
+        if p.isdigit():
+            try:
+                if os.readlink(f"/proc/{p}/cwd") == os.getcwd() and word in read(f"/proc/{p}/cmdline"):
+                    found.append(int(p))
+            except OSError:
+                pass
+    return found
+
+
+def unchanged():
+    expect("the listing is as it was", read("listing") == OLD)
+    expect("no new file is left", new_files() == [])
+
+
+# ---- the exit status
+
+
+@test
+def the_number_is_the_exit_status():
+    for words, number in [
+        (["convert", SHEET, example("quiz.schedule"), "listing"], 0),
+        (["convert", SHEET, example("half.schedule"), "listing"], 27),
+        (["check", example("faults.sheet")], 8),
+        (["check"], 101),
+        (["check", "no such file"], 102),
+        (["convert", SHEET, "no such file", "listing"], 102),
+        (["--help"], 0),
+        (["--version"], 0),
+    ]:
+        status, _, err = run(*words)
+        expect(f"{words} gives {number}", status == number)
+        expect("the last line is the number", err.splitlines()[-1] == b"wickpollen: %d" % number)
+    expect("the listing is the example's", read("listing") == read(example("quiz.listing")))
+
+
+@test
+def closed_descriptors_change_no_status():
+    for name, number in [("quiz", 0), ("half", 27)]:
+        for closed in ["2>&-", ">&-", "<&-", "<&- >&- 2>&-", ">/dev/full", "2>/dev/full"]:
+            write("listing", OLD)
+            status, _, _ = shell(f'"{PROGRAM}" convert "{SHEET}" "{example(name)}.schedule" listing {closed}')
+            expect(f"{name} with {closed} gives {number}, not {status}", status == number)
+            expect("the listing is whole", read("listing") == (OLD if number else read(example("quiz.listing"))))
+            expect("no new file is left", new_files() == [])
+
+
+@test
+def a_reader_that_goes_away_changes_no_status():
+    for name, number in [("quiz", 0), ("half", 27)]:
+        status, _, _ = shell(f'"{PROGRAM}" convert "{SHEET}" "{example(name)}.schedule" listing 2>&1 | true; exit "${{PIPESTATUS[0]}}"')
+        expect(f"{number}, not {status}", status == number)
+
+
+@test
+def no_folder_for_temporary_files_is_needed():
+    os.mkdir("tmp")
+    for folder in ["/no such folder", "/dev/full", os.path.abspath("tmp")]:
+        status, _, _ = run("convert", SHEET, example("quiz.schedule"), "listing", env={**os.environ, "TMPDIR": folder})
+        expect(f"0 with TMPDIR={folder}", status == 0)
+    expect("nothing is left there", os.listdir("tmp") == [])
+
+
+@test
+def standard_input_can_be_the_schedule():
+    status, out, _ = run("try", SHEET, "/dev/stdin", stdin=open(example("quiz.schedule"), "rb"))
+    expect("0", status == 0)
+    expect("257 bytes", b"Bytes read: 257." in out)
+
+
+@test
+def progress_is_said_to_a_terminal():
+    write("long", many(100000))
+    master, slave = pty.openpty()
+    p = subprocess.Popen([PROGRAM, "try", SHEET, "long"], stdout=subprocess.DEVNULL, stderr=slave)
+    os.close(slave)
+    said = b""
+    try:
+        while True:
+            got = os.read(master, 4096)
+            if not got:
+                break
+            said += got
+    except OSError:
+        pass
+    expect("0", p.wait(300) == 0)
+    expect("8 MB", b"8 MB converted" in said)
+
+
+# ---- signals
+
+
+@test
+def a_signal_stops_the_program_and_leaves_nothing():
+    for name in ["TERM", "INT", "HUP", "QUIT"]:
+        number = getattr(signal, "SIG" + name)
+        s = Stalled()
+        s.process.send_signal(number)
+        status, _, err = s.end()
+        expect(f"{name} gives {128 + number}, not {status}", status == 128 + number)
+        expect("the last line is the number", err.splitlines()[-1] == b"wickpollen: %d" % (128 + number))
+        unchanged()
+        expect("nothing runs on", processes(b"--tell") == [])
+        os.unlink("pipe")
+
+
+@test
+def a_signal_to_the_whole_group_stops_it_too():
+    for name in ["TERM", "INT", "HUP"]:
+        number = getattr(signal, "SIG" + name)
+        s = Stalled(start_new_session=True)
+        os.killpg(s.process.pid, number)
+        status, _, _ = s.end()
+        expect(f"{name} gives {128 + number}, not {status}", status == 128 + number)
+        unchanged()
+        expect("nothing runs on", processes(b"--tell") == [])
+        os.unlink("pipe")
+
+
+@test
+def a_signal_at_any_time_leaves_the_old_or_the_new_listing():
+    write("long", many(4000))
+    whole = None
+    for k in range(24):
+        write("listing", OLD)
+        p = subprocess.Popen([PROGRAM, "convert", SHEET, "long", "listing"], stdout=subprocess.PIPE, stderr=subprocess.PIPE)
+        time.sleep(0.02 * k)
+        p.send_signal([signal.SIGTERM, signal.SIGINT, signal.SIGHUP][k % 3])
+        p.communicate(timeout=60)
+        until(lambda: processes(b"--tell") == [])
+        if whole is None:
+            expect("0", run("convert", SHEET, "long", "whole")[0] == 0)
+            whole = read("whole")
+        expect("the listing is the old one or the new one", read("listing") in (OLD, whole))
+        expect(f"no new file is left by run {k}", new_files() == [])
+
+
+@test
+def a_program_that_dies_is_told():
+    s = Stalled()
+    for p in processes(b"--tell"):
+        if b"/wickpollen\0--tell\0convert" in read(f"/proc/{p}/cmdline") and b"process $$" not in read(f"/proc/{p}/cmdline") and p != s.process.pid:
+            os.kill(p, signal.SIGKILL)
+    status, _, err = s.end()
+    expect(f"103, not {status}", status == 103)
+    expect("it is said", b"The program ended without an answer" in err)
+    unchanged()
+
+
+@test
+def without_its_wrapper_the_program_puts_nothing_in_place():
+    s = Stalled()
+    s.process.kill()
+    s.process.wait(60)
+    s.pipe.write(b" " * 300000)
+    s.pipe.close()
+    until(lambda: processes(b"--tell") == [])
+    unchanged()
+
+
+# ---- what LISTING may be
+
+
+def refused(listing, *says):
+    status, _, err = run("convert", SHEET, "schedule", listing)
+    expect(f"{listing} gives 102, not {status}", status == 102)
+    for s in says:
+        expect(f"{s!r} is said of {listing}", s in err)
+    expect("no new file is left", [n for n in os.listdir(".") if "." in n] == [])
+
+
+@test
+def only_a_plain_file_is_replaced():
+    shutil.copy(example("quiz.schedule"), "schedule")
+    os.mkfifo("pipe")
+    os.mkdir("folder")
+    write("file", OLD)
+    os.symlink("file", "link")
+    os.symlink("nothing", "dangling")
+    refused("/dev/null", b"device")
+    expect("/dev/null is a device", stat.S_ISCHR(os.stat("/dev/null").st_mode))
+    refused("/dev/stdout")
+    refused("pipe", b"pipe")
+    expect("the pipe is a pipe", stat.S_ISFIFO(os.stat("pipe").st_mode))
+    refused("folder", b"folder")
+    refused("link", b"link")
+    refused("dangling", b"link")
+    expect("the links are links", os.readlink("link") == "file" and os.readlink("dangling") == "nothing")
+    expect("the file is as it was", read("file") == OLD)
+
+
+@test
+def what_is_read_is_not_replaced():
+    shutil.copy(example("quiz.schedule"), "schedule")
+    shutil.copy(SHEET, "sheet")
+    os.link("schedule", "schedule-too")
+    for listing in ["schedule", "./schedule", "schedule-too"]:
+        status, _, err = run("convert", "sheet", "schedule", listing)
+        expect("102 for the schedule", status == 102 and b"this is the schedule" in err)
+    status, _, err = run("convert", "sheet", "schedule", "sheet")
+    expect("102 for the sheet", status == 102 and b"this is the rule sheet" in err)
+    expect("both are as they were", read("schedule") == read(example("quiz.schedule")) and read("sheet") == read(SHEET))
+
+
+@test
+def what_a_message_tells_mends_the_case():
+    shutil.copy(example("quiz.schedule"), "schedule")
+    os.mkdir("folder")
+    write("file", OLD)
+    os.symlink("file", "link")
+    expect("a file in the folder", run("convert", SHEET, "schedule", "folder/listing")[0] == 0)
+    expect("the file that the link leads to", run("convert", SHEET, "schedule", "file")[0] == 0)
+    expect("the link leads to the listing", read("link") == read(example("quiz.listing")))
+
+
+@test
+def trying_writes_nothing_and_says_the_same():
+    for name in ["quiz", "half", "damaged", "twice", "after"]:
+        before = sorted(os.listdir("."))
+        tried = run("try", SHEET, example(name + ".schedule"))
+        expect("nothing was written", sorted(os.listdir(".")) == before)
+        converted = run("convert", SHEET, example(name + ".schedule"), "listing")
+        expect("the same number", tried[0] == converted[0])
+        if tried[0]:
+            said = converted[1].splitlines()
+            expect("the same words", tried[1].splitlines() == said[:-1] and said[-1].startswith(b"Nothing was put in place"))
+        if os.path.exists("listing"):
+            os.unlink("listing")
+
+
+@test
+def a_full_disk_changes_nothing():
+    write("long", many(4000))
+    write("listing", OLD)
+    status, out, err = run("convert", SHEET, "long", "listing", preexec_fn=lambda: resource.setrlimit(resource.RLIMIT_FSIZE, (70000, 70000)))
+    expect(f"102, not {status}", status == 102)
+    expect("it is said", b"listing: File too large" in err and b"Nothing was put in place" in out)
+    unchanged()
+
+
+@test
+def a_full_small_disk_changes_nothing():
+    os.mkdir("disk")
+    if os.getuid() != 0 or subprocess.run(["mount", "-t", "tmpfs", "-o", "size=64k", "tmpfs", "disk"], stderr=subprocess.DEVNULL).returncode:
+        return  # only root can have one
+    try:
+        write("long", many(4000))
+        write("disk/listing", OLD)
+        status, _, err = run("convert", SHEET, "long", "disk/listing")
+        expect(f"102, not {status}", status == 102)
+        expect("it is said", b"No space left on device" in err)
+        expect("nothing else is there", os.listdir("disk") == ["listing"] and read("disk/listing") == OLD)
+    finally:
+        subprocess.run(["umount", "disk"], check=True)
+
+
+# ---- where it is called from
+
+
+@test
+def links_cdpath_and_crons_path_work():
+    os.mkdir("bin")
+    os.symlink(PROGRAM, "bin/first")
+    os.symlink("first", "bin/wickpollen")
+    env = {"PATH": "/usr/bin:/bin", "CDPATH": "/tmp:/", "HOME": "/"}
+    expect("by a link to a link", run("check", SHEET, program=os.path.abspath("bin/wickpollen"), env=env)[0] == 0)
+    env["PATH"] = os.path.abspath("bin") + ":/usr/bin:/bin"
+    status, out, err = shell(f'wickpollen check "{SHEET}"', env=env)
+    expect("by the path", status == 0 and out.startswith(SHEET.encode()))
+    expect("from bin/", run("check", SHEET, program="./wickpollen", env=env, cwd=os.path.join(HERE, "bin"))[0] == 0)
+
+
+def main():
+    words = sys.argv[1:]
+    passed = failed = 0
+    for t in TESTS:
+        if words and not any(w in t.__name__ for w in words):
+            continue
+        folder = tempfile.mkdtemp()
+        os.chdir(folder)
+        began = time.time()
+        try:
+            t()
+            passed += 1
+            print(f"{t.__name__.replace('_', ' ')}: passed ({time.time() - began:.1f} s)", flush=True)
+        except (AssertionError, subprocess.TimeoutExpired, OSError) as e:
+            failed += 1
+            print(f"{t.__name__.replace('_', ' ')}: FAILED: {e}", flush=True)
+        finally:
+            os.chdir("/")
+            shutil.rmtree(folder, ignore_errors=True)
+    print(f"{passed} passed, {failed} failed")
+    return 1 if failed else 0
+
+
+if __name__ == "__main__":
+    sys.exit(main())
