@@ -231,7 +231,7 @@ def a_program_that_dies_is_told():
         if b"/wickpollen\0--tell\0convert" in read(f"/proc/{p}/cmdline") and b"process $$" not in read(f"/proc/{p}/cmdline") and p != s.process.pid:
             os.kill(p, signal.SIGKILL)
     status, _, err = s.end()
-    expect(f"103, not {status}", status == 103)
+    expect(f"104, not {status}", status == 104)
     expect("it is said", b"The program ended without an answer" in err)
     unchanged()
 

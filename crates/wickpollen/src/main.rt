@@ -69,7 +69,7 @@ fn help() -> u64 {
         b"\n102: A file could not be read or written, or LISTING is nothing to write to; the message says which and why. Mend that, and give the command again.\n",
     );
     say(
-        b"\n103: The program ended without an answer: it was killed, or had too little memory. Give the command again.\n",
+        b"\n104: The program ended without an answer: it was killed, or had too little memory. Give the command again.\n",
     );
     say(
         b"\n129, 130, 131, 143: The command was stopped by a signal (128 and the signal's number). LISTING is whole: the old one, or the new one if that was just put in place.\n",
