@@ -2,35 +2,23 @@
 -- Assumes nothing.
 use mathlib.Core.Path.{_≡_, sym, ap, _∙_}
 use mathlib.Core.List.{List, [], _∷_, _++_}
-use Prim.Native.Nat.{ℕ, zero, suc, _+_, _*_}
+use Prim.Native.Nat.{ℕ, _*_}
 use native.Mathlib.Nat.{mul-suc}
 use native.Mathlib.Omega.{arith}
 use lib.ListN.{length, length-append}
 use Rattle.runs.specs.Visits.{attributes}
 use Rattle.runs.specs.Machine.{most}
 use Rattle.state.specs.declared.Frame.{Frame}
-use Rattle.state.specs.Bounds.{mostSets, setWidth, frameWidth, headWidth, stackWidth, stateWidth}
-use Rattle.state.specs.Bytes.{flag, numberBytes, joined, frameBytes, bytesOf, byteAt, bytesAt, onAt, numberAt, gathered, savedAt, frameAt, stateFrom, SizedFrame}
+use Rattle.state.specs.Bounds.{frameWidth, headWidth, stackWidth, stateWidth}
+use Rattle.state.specs.Bytes.{flag, numberBytes, joined, frameBytes, bytesOf, byteAt, bytesAt, gathered, frameAt, stateFrom, SizedFrame}
 use Rattle.state.specs.Changes.{freshState}
-use Rattle.state.specs.Meaning.{All, none, more}
+use Rattle.state.specs.Meaning.{All, more}
 use Rattle.state.specs.declared.State.{State}
 use Rattle.state.proofs.Written.{number-wide}
 use Rattle.state.proofs.Gathered.{length-gathered}
 use Rattle.state.proofs.Back.{frame-back, state-back}
 use Rattle.state.proofs.Tidy.{fresh-sized}
-
-pub all-gathered : {X : Type 0} {P : X → Type 0} (f : ℕ → X) (w at n : ℕ) → ((i : ℕ) → P (f i)) → All P (gathered f w at n)
-unfolding gathered
-all-gathered f w at zero h = none
-all-gathered f w at (suc n) h = more (h at) (all-gathered f w (at + w) n h)
-
-pub frame-sized : (b : List ℕ) (at : ℕ) → SizedFrame (frameAt b at)
-unfolding frameAt savedAt
-frame-sized b at =
-    record {
-      saved = length-gathered (savedAt b) setWidth (at + 3) mostSets;
-      sets = all-gathered (savedAt b) setWidth (at + 3) mostSets (λ i. record { values = length-gathered (byteAt b) 1 i attributes });
-    }
+use Rattle.fit.proofs.Theorems.{all-read, frame-read}
 
 frames-wide : (l : List Frame) → All SizedFrame l → length (joined frameBytes l) ≡ frameWidth * length l
 unfolding joined
@@ -47,7 +35,7 @@ state-wide b =
     let d : List ℕ = numberBytes 8 (stateFrom b .depth) in
     let stack : List ℕ = joined frameBytes fs in
     let n : length stack ≡ stackWidth =
-    frames-wide fs (all-gathered (frameAt b) frameWidth headWidth most (frame-sized b)) ∙ ap (λ (m : ℕ). frameWidth * m) (length-gathered (frameAt b) frameWidth headWidth most) in
+    frames-wide fs (all-read SizedFrame (frameAt b) frameWidth (frame-read b) headWidth most) ∙ ap (λ (m : ℕ). frameWidth * m) (length-gathered (frameAt b) frameWidth headWidth most) in
     let e : ℕ = flag (stateFrom b .echo) in
     let r : ℕ = flag (stateFrom b .rooted) in
     let k : ℕ = stateFrom b .closed in

@@ -21,6 +21,9 @@ use Rattle.sheet.proofs.SheetLaws.{sheet-grammar}
 use Rattle.runs.specs.Lookup.{produces}
 use Rattle.runs.specs.Nodes.{openNodes}
 use Rattle.runs.proofs.Nodes.{open-few}
+use Rattle.runs.specs.Visits.{attributes}
+use Rattle.runs.specs.Machine.{most}
+use Rattle.state.specs.Bounds.{mostSets, setWidth, frameWidth, headWidth}
 use Rattle.state.specs.Changes.{freshState}
 use Rattle.state.specs.Meaning.{All, none, more, Fits, Shaped}
 use Rattle.state.specs.Bytes.{gathered, byteAt, savedAt, frameAt, stateFrom, SizedSet, SizedFrame, Sized}
@@ -42,22 +45,22 @@ pub fits-sheet : {s : List ℕ} {a : Sheet} → IsSheet s a → (z : State) (r :
 fits-sheet {s} {a} i z r h = subst (λ (n : ℕ). Tells (Fit (grammarOf (a .rules)) n z) r) (sym (i .start-is)) (h .tells (grammarOf (a .rules)) (sheet-grammar i))
 
 -- what is read from bytes has the length of its type
-all-read : {X : Type 0} (P : X → Type 0) (f : ℕ → X) (w : ℕ) → ((at : ℕ) → P (f at)) → (at n : ℕ) → All P (gathered f w at n)
+pub all-read : {X : Type 0} (P : X → Type 0) (f : ℕ → X) (w : ℕ) → ((at : ℕ) → P (f at)) → (at n : ℕ) → All P (gathered f w at n)
 unfolding gathered
 all-read P f w h at zero = none
 all-read P f w h at (suc n) = more (h at) (all-read P f w h (at + w) n)
 
 set-read : (b : List ℕ) (at : ℕ) → SizedSet (savedAt b at)
 unfolding savedAt
-set-read b at = record { values = length-gathered (byteAt b) 1 at 4 }
+set-read b at = record { values = length-gathered (byteAt b) 1 at attributes }
 
-frame-read : (b : List ℕ) (at : ℕ) → SizedFrame (frameAt b at)
+pub frame-read : (b : List ℕ) (at : ℕ) → SizedFrame (frameAt b at)
 unfolding frameAt
-frame-read b at = record { saved = length-gathered (savedAt b) 5 (at + 3) 13; sets = all-read SizedSet (savedAt b) 5 (set-read b) (at + 3) 13 }
+frame-read b at = record { saved = length-gathered (savedAt b) setWidth (at + 3) mostSets; sets = all-read SizedSet (savedAt b) setWidth (set-read b) (at + 3) mostSets }
 
 -- no state that fits has more in use than its arrays hold
 module _ (s : List ℕ) (g : List Production) (γ : GrammarIs s g) where
-  frame-room : (may : Option ℕ) (f : Frame) → FrameFits g may f → f .«open» ≤ 13
+  frame-room : (may : Option ℕ) (f : Frame) → FrameFits g may f → f .«open» ≤ mostSets
   frame-room may f k =
       let i = produces-inv s g γ (f .production) (k .nonterm) (k .production) in
       omega (arith, k .sets, open-few (contentOf g (f .production)) (f .place) (k .nodes) (k .place), deep s (f .production) (contentOf g (f .production)) (content-at s g γ (f .production) (i .0)))
@@ -67,7 +70,7 @@ module _ (s : List ℕ) (g : List Production) (γ : GrammarIs s g) where
   frames-room may (f ∷ fs) k (more z a) =
       more (record { room = frame-room may f (k .0); sets = z .saved }) (frames-room (childAt (contentOf g (f .production)) (f .place)) fs (k .1) a)
 
-  shaped-by : (n : ℕ) (z : State) → length (z .frames) ≡ 32 → All SizedFrame (z .frames) → Fit g n z → Shaped z
+  shaped-by : (n : ℕ) (z : State) → length (z .frames) ≡ most → All SizedFrame (z .frames) → Fit g n z → Shaped z
   shaped-by n z l a k = record { deep = k .few; frames = l; fits = frames-room (some n) (take (z .depth) (z .frames)) (k .frames) (all-take (z .depth) (z .frames) a) }
 
   pub fit-shaped : (n : ℕ) (z : State) → Sized z → Fit g n z → Shaped z
@@ -76,7 +79,7 @@ module _ (s : List ℕ) (g : List Production) (γ : GrammarIs s g) where
   -- so it is of every state read from bytes
   pub fit-read-shaped : (n : ℕ) (b : List ℕ) → Fit g n (stateFrom b) → Shaped (stateFrom b)
   unfolding stateFrom
-  fit-read-shaped n b k = shaped-by n (stateFrom b) (length-gathered (frameAt b) 68 23 32) (all-read SizedFrame (frameAt b) 68 (frame-read b) 23 32) k
+  fit-read-shaped n b k = shaped-by n (stateFrom b) (length-gathered (frameAt b) frameWidth headWidth most) (all-read SizedFrame (frameAt b) frameWidth (frame-read b) headWidth most) k
 
 -- the fresh state fits whatever the sheet
 pub fresh-fit : (g : List Production) (n : ℕ) → Fit g n freshState

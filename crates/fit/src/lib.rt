@@ -10,6 +10,8 @@ ghost use Rattle.trees.specs.Trees.{Trees};
 ghost use Rattle.trees.specs.Parsed.{RunsInside};
 ghost use Rattle.trees.specs.Tally.{TreeIn};
 ghost use Rattle.sheet.specs.Defect.{WellFormed};
+ghost use Rattle.runs.specs.Machine.{most};
+ghost use Rattle.state.specs.Bounds.{mostSets};
 ghost use Rattle.state.specs.Bytes.{Sized};
 ghost use Rattle.state.specs.Meaning.{All};
 ghost use Rattle.fit.specs.Fit.{SetFits, ClosingFits};
@@ -141,7 +143,7 @@ fn spot_of(s: &[u8], l: Layout, q: usize, p: usize) -> Spot
 }
 
 // Whether no value is over the highest.
-fn values_fit(values: [u8; 4]) -> bool
+fn values_fit(values: [u8; State::ATTRIBUTES]) -> bool
     ensures { λ r. ⌜ Tells (All Value values) r ⌝ }
 {
     let mut i = 0;
@@ -155,8 +157,8 @@ fn values_fit(values: [u8; 4]) -> bool
 }
 
 // Whether the values of the first n sets fit.
-fn sets_fit(sets: [Saved; 13], n: usize) -> bool
-    requires { ⌜ n ≤ 13 ⌝ }
+fn sets_fit(sets: [Saved; Frame::SETS], n: usize) -> bool
+    requires { ⌜ n ≤ mostSets ⌝ }
     ensures { λ r. ⌜ Tells (All SetFits (take n sets)) r ⌝ }
 {
     let mut i = 0;
@@ -213,11 +215,11 @@ fn frame_fits(s: &[u8], l: Layout, may: usize, f: Frame) -> Fitted
 }
 
 // Whether the first n frames fit, the root's first.
-fn frames_fit(s: &[u8], l: Layout, frames: [Frame; 32], n: usize) -> bool
+fn frames_fit(s: &[u8], l: Layout, frames: [Frame; State::DEPTH], n: usize) -> bool
     requires { ⌜ LaidOut (now s) l ⌝ }
     requires { ⌜ RunsInside (now s) ⌝ }
     requires { ⌜ Trees (now s) ⌝ }
-    requires { ⌜ n ≤ 32 ⌝ }
+    requires { ⌜ n ≤ most ⌝ }
     ensures { λ r. ⌜ FramesTold (now (s .entry)) (take n frames) r ⌝ }
 {
     let mut may = l.start;

@@ -7,6 +7,7 @@ use lib.ListN.{length, take}
 use borrow.Author.Needs.{needs}
 use Rattle.tells.specs.Tells.{holds, fails}
 use Rattle.tells.proofs.Laws.{held, failed}
+use Rattle.state.specs.Bounds.{mostSets}
 use Rattle.state.specs.Meaning.{All, none}
 use Rattle.state.proofs.Laws.{length-mapped, all-more}
 use Rattle.fit.specs.Fit.{SetFits}
@@ -26,13 +27,13 @@ loop-holds c = (omega arith, none)
 returns : tie.Need-returns Inv-loop μ-loop
 returns c =
     let w = c .before .before .before .before .before .before in
-    let k : length (w .args .t1) ≡ 13 = search (length-mapped, needs) in
+    let k : length (w .args .t1) ≡ mostSets = search (length-mapped, needs) in
     fails (λ a. failed (c .before .values-fit .ensures) (c .if1 .taken) (all-first (w .args .n) (w .args .t1) (c .before .before .before .before .before .loop .i) _ (omega arith) (omega arith) a))
 
 loop-again : tie.Need-loop-again Inv-loop μ-loop
 loop-again c =
     let w = c .before .before .before .before .before .before in
-    let k : length (w .args .t1) ≡ 13 = search (length-mapped, needs) in
+    let k : length (w .args .t1) ≡ mostSets = search (length-mapped, needs) in
     (omega arith, all-more SetFits _ (c .before .before .before .before .before .loop .i) _ (omega arith) (c .before .before .before .before .before .loop .inv .1) (held (c .before .values-fit .ensures) (c .if1 .left)))
 
 returns-2 : tie.Need-returns-2 Inv-loop μ-loop

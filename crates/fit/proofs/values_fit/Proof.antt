@@ -6,6 +6,7 @@ use lib.ListN.{take}
 use borrow.Author.Needs.{needs}
 use Rattle.tells.specs.Tells.{holds, fails}
 use Rattle.programs.specs.Limits.{Value}
+use Rattle.runs.specs.Visits.{attributes}
 use Rattle.state.specs.Meaning.{All, none}
 use Rattle.state.proofs.Laws.{all-whole}
 use Rattle.fit.proofs.Lists.{value-over, value-more}
@@ -13,10 +14,10 @@ use Rattle.fit.proofs.values_fit.Statement.{statement}
 use Rattle.fit.proofs.values_fit.Tie as tie
 
 abbrev Inv-loop : tie.InvT-loop
-Inv-loop values i₀ i = (i ≤ 4) × All Value (take i values)
+Inv-loop values i₀ i = (i ≤ attributes) × All Value (take i values)
 
 abbrev μ-loop : tie.MeasureT-loop
-μ-loop values i₀ i = 4 - i
+μ-loop values i₀ i = attributes - i
 
 loop-holds : tie.Need-loop-holds Inv-loop μ-loop
 loop-holds c = (omega arith, none)
@@ -28,7 +29,7 @@ loop-again : tie.Need-loop-again Inv-loop μ-loop
 loop-again c = (omega arith, value-more (c .before .before .before .args .t1) (c .before .before .loop .i) _ (omega arith) (c .before .before .loop .inv .1) (c .if1 .left))
 
 returns-2 : tie.Need-returns-2 Inv-loop μ-loop
-returns-2 c = holds (all-whole Value _ 4 (c .before .loop .i) (search needs) (omega arith) (c .before .loop .inv .1))
+returns-2 c = holds (all-whole Value _ attributes (c .before .loop .i) (search needs) (omega arith) (c .before .loop .inv .1))
 
 pub values-fit-spec : {M : Type 1} → statement M
 values-fit-spec =
