@@ -23,18 +23,17 @@ use Rattle.calls.proofs.Explained.{explained-exactly}
 use Rattle.calls.proofs.Parts.{feeds-as-one}
 use Rattle.state.specs.Changes.{freshState}
 use Rattle.state.specs.Bounds.{frameWidth, headWidth}
-use Rattle.state.specs.Bytes.{byteAt, frameAt, stateFrom, Sized}
+use Rattle.state.specs.Bytes.{byteAt, frameAt, stateFrom, SizedFrame, Sized}
 use Rattle.state.proofs.Gathered.{length-gathered}
 use Rattle.state.specs.declared.State.{State}
 use Rattle.fit.proofs.RunsFit.{fit-run}
-use Rattle.fit.proofs.Theorems.{fresh-fit}
+use Rattle.fit.proofs.Theorems.{all-read, frame-read, fresh-fit}
 use Rattle.converter.specs.declared.Reply.{Reply}
 use Rattle.converter.specs.Answered.{FitsSheet, heldOf, Ran, AnsweredAs, as-given, runs}
 use Rattle.converter.specs.Bytes.{BytesAnsweredAs, as-given as bytes-given, runs as bytes-run}
 use Rattle.converter.specs.Fed.{resultOf, ValueCall}
 use Rattle.converter.specs.ReadsBack.{WrittenReadsBack, BytesWrittenReadBack}
 use Rattle.converter.specs.Explained.{Replies, RepliesExactly, FedExactly}
-use Rattle.converter.proofs.Widths.{all-gathered, frame-sized}
 use Rattle.converter.proofs.Replies.{is-call, ran-result, visits-held}
 use Rattle.converter.proofs.Theorems.{held-fresh, feeds-value}
 
@@ -61,7 +60,7 @@ sized-from a b f =
       count = omega (arith, f .count);
       depth = omega (arith, f .few);
       frames = length-gathered (frameAt b) frameWidth headWidth most;
-      each = all-gathered (frameAt b) frameWidth headWidth most (frame-sized b);
+      each = all-read SizedFrame (frameAt b) frameWidth (frame-read b) headWidth most;
     }
 
 pub bytes-written-read-back : BytesWrittenReadBack
