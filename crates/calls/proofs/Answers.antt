@@ -18,7 +18,7 @@ use Rattle.runs.specs.Machine.{Control, State}
 use Rattle.calls.specs.Names.{tokenOf}
 use Rattle.calls.specs.Limits.{Taking, taken, refuses, no-room, oneToken}
 use Rattle.calls.specs.Held.{Held}
-use Rattle.calls.specs.Call.{Result, roomLeft, stopped, after-writing, numberAt, Stop, stops, full, no-token, Runs, takes, halts, again, CalledBy, Called}
+use Rattle.calls.specs.Call.{Result, roomLeft, stopped, after-writing, numberAt, stops, full, no-token, Runs, takes, halts, again, CalledBy, Called}
 use Rattle.calls.proofs.Readable.{some-answer}
 
 module _ (a : Sheet) (part : List ℕ) (more : Bool) where

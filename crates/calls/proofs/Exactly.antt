@@ -16,9 +16,8 @@ use Rattle.output.specs.Escape.{Piece}
 use Rattle.sheet.specs.Sheet.{Sheet}
 use Rattle.runs.specs.Visits.{grammar}
 use Rattle.runs.specs.Events.{Event}
-use Rattle.runs.specs.Acts.{Store}
 use Rattle.runs.specs.Machine.{Control, before, inside, after, State, fresh-state, Answer, took, refused, Outcome, finished, stopped, answered, run}
-use Rattle.runs.specs.Taken.{Passed, Stopped}
+use Rattle.runs.specs.Taken.{Passed}
 use Rattle.runs.specs.Spells.{Token, eventsOfToken, isBlank, passesAt, unless-blank, stepToken}
 use Rattle.runs.proofs.Moves.{run-through, run-stops}
 use Rattle.runs.proofs.Answers.{run-append, stopped-iff}
@@ -27,7 +26,7 @@ use Rattle.calls.specs.Names.{tokenOf}
 use Rattle.runs.specs.Visits.{mostVisits}
 use Rattle.calls.specs.Limits.{silent, outputOf, Taking, taken, refuses, no-room, limited, within, oneToken, Over, Full}
 use Rattle.calls.specs.Held.{Held, leavesOpen, closingOf, Closing}
-use Rattle.calls.specs.Call.{Result, numberAt, Stop, stops, full, no-token, Runs, takes, halts, again, CalledBy, Called}
+use Rattle.calls.specs.Call.{Result, numberAt, stops, full, no-token, Runs, takes, halts, again, CalledBy, Called}
 use Rattle.calls.specs.Reached.{ReachedBy, StopsAt}
 use Rattle.calls.proofs.Frame.{state-behind, answer-behind, token-frame, countOf, token-number}
 use Rattle.calls.proofs.Steps.{outOf, behind-silent, takes-one}

@@ -5,8 +5,8 @@ use mathlib.Core.Path.{_≡_, refl, sym, ap, ap₂, _∙_, subst}
 use mathlib.Core.Logic.{_⊎_, inl, inr, _↔_}
 use mathlib.Core.Bool.{Bool, true, false}
 use mathlib.Core.List.{List, [], _∷_, _++_, append-nil}
-use mathlib.Core.Option.{Option, none, some}
-use Prim.Native.Nat.{ℕ, zero, suc, _+_, _-_, _≤_, _<_}
+use mathlib.Core.Option.{some}
+use Prim.Native.Nat.{ℕ, zero, suc, _+_, _-_, _≤_}
 use native.Mathlib.Omega.{arith}
 use lib.ListN.{length, drop, length-append}
 use lib.Seq.{drop-append-seam}
@@ -25,7 +25,7 @@ use Rattle.runs.specs.Events.{letter}
 use Rattle.runs.specs.Acts.{Store}
 use Rattle.runs.specs.Machine.{Control, before, inside, after, State, fresh-state, took, refused}
 use Rattle.runs.specs.Taken.{Passed, RootClosed}
-use Rattle.runs.specs.Spells.{stepToken, TokenOutcome, through, onward-token, runTokens}
+use Rattle.runs.specs.Spells.{stepToken, through, onward-token, runTokens}
 use Rattle.runs.specs.SoFar.{SpelledSoFar, eventsSoFar, TokenRefused}
 use Rattle.runs.proofs.Answers.{closed-after, after-closed}
 use Rattle.runs.proofs.Spells.{RunSoFar, so-far-run, so-far-iff, token-refused-iff}
@@ -40,7 +40,7 @@ use Rattle.calls.proofs.Empty.{tokens-behind}
 use Rattle.calls.proofs.Exactly.{refuses-iff, no-room-iff}
 use Rattle.calls.proofs.Frame.{state-behind, answer-behind, token-frame, countOf}
 use Rattle.calls.proofs.Main.{front-of, reads-short, token-at, tokens-at}
-use Rattle.calls.proofs.Steps.{RunToken, RunAnswer, outOf, tokensOf, Steps, steps-silent, steps-count, steps-run, run-steps, run-does, steps-stop}
+use Rattle.calls.proofs.Steps.{RunToken, RunAnswer, outOf, tokensOf, steps-silent, steps-count, steps-run, run-steps, run-does, steps-stop}
 
 -- a run over more tokens
 run-more : (a : Sheet) (z z′ : State) (ks us : List RunToken) → runTokens a z ks ≡ through z′ → runTokens a z (ks ++ us) ≡ runTokens a z′ us

@@ -5,9 +5,8 @@
 use mathlib.Core.Path.{_≡_, refl, sym, ap, ap₂, _∙_, subst}
 use mathlib.Core.Bool.{true, false}
 use mathlib.Core.List.{List, [], _∷_, _++_, append-nil, append-assoc}
-use mathlib.Core.Logic.{_↔_}
 use mathlib.Core.Option.{some}
-use Prim.Native.Nat.{ℕ, _+_, _*_, _≤_}
+use Prim.Native.Nat.{ℕ, _+_, _≤_}
 use native.Mathlib.Omega.{arith}
 use lib.ListN.{length, take, drop, length-append, length-take, take-append-drop}
 use lib.Seq.{drop-drop, drop-append-seam, take-append-seam}
@@ -20,7 +19,7 @@ use Rattle.tokens.proofs.Streams.{flat-one, reads-flat, reads-tokens}
 use Rattle.output.specs.Escape.{Piece, render}
 use Rattle.sheet.specs.Sheet.{Sheet}
 use Rattle.runs.specs.Visits.{Env}
-use Rattle.runs.specs.Parse.{yield, size}
+use Rattle.runs.specs.Parse.{yield}
 use Rattle.runs.specs.Machine.{Control, after, State, fresh-state}
 use Rattle.runs.specs.Taken.{Passed, closed-with}
 use Rattle.runs.specs.Spells.{Token, start-token, end-token, empty-token, eventsOfMarks, Spelled, through, runTokens}

@@ -29,7 +29,7 @@ use Rattle.calls.specs.Names.{tagNamed, tokenOf}
 use Rattle.runs.specs.Visits.{mostVisits}
 use Rattle.calls.specs.Limits.{silent, outputOf, Taking, taken, refuses, no-room, limited, within, oneToken}
 use Rattle.calls.specs.Held.{Held, leavesOpen, closingOf, handed}
-use Rattle.calls.specs.Call.{Result, stopped, after-writing, numberAt, Stop, stops, full, no-token, Runs, takes, halts, CalledBy, Called}
+use Rattle.calls.specs.Call.{Result, stopped, after-writing, numberAt, stops, full, no-token, Runs, takes, halts, CalledBy, Called}
 use Rattle.calls.specs.Parts.{joined, Told, Continued, Feeds, at-once, closes, goes-on, Each, CallOf}
 use Rattle.calls.proofs.Answers.{AfterToken, split, to-number, call-one, call-some}
 use Rattle.calls.proofs.Frame.{countOf}

@@ -1,12 +1,11 @@
 -- What a call writes is names of the sheet and characters of the Char set, since the tokens that it reads hold no others (`run-fits` of the runs); and such a text reads
 -- back (`reads-back` of the output).
 -- Assumes nothing.
-use mathlib.Core.Path.{_≡_, refl, sym, ap, _∙_, subst}
+use mathlib.Core.Path.{_≡_, refl, sym, subst}
 use mathlib.Core.Bool.{Bool, true, false, _&&_}
-use mathlib.Core.List.{List, [], _∷_, _++_}
+use mathlib.Core.List.{List, [], _∷_}
 use mathlib.Core.Option.{Option, none, some}
-use Prim.Native.Nat.{ℕ, _+_}
-use lib.ListN.{length}
+use Prim.Native.Nat.{ℕ}
 use Rattle.tokens.specs.declared.Event.{Event}
 use Rattle.tokens.specs.declared.Event.the-variants.{Start, End, Empty, Character}
 use Rattle.tokens.specs.declared.Answer.the-variants.{Token}
@@ -14,7 +13,7 @@ use Rattle.tokens.specs.Tokens.{front, Means}
 use Rattle.tokens.specs.Stream.{Reads}
 use Rattle.tokens.proofs.Streams.{event-char}
 use Rattle.sheet.specs.Sheet.{Sheet, IsSheet}
-use Rattle.output.specs.Escape.{Piece, render, AllFit, events, allPieces}
+use Rattle.output.specs.Escape.{Piece, render, AllFit, events}
 use Rattle.output.proofs.ReadBack.{reads-back, pieces-back}
 use Rattle.runs.specs.Visits.{grammar}
 use Rattle.runs.specs.Fits.{EventsFit, SheetFits, StoreFits}

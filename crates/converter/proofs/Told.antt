@@ -1,15 +1,12 @@
 -- What a call of the code writes reads back, and what it answers is what trees say: each is the law of the calls (`calls-read-back`, `explained-exactly`), as a reply is a call's
 -- answer (`is-call`).
 -- Assumes nothing.
-use mathlib.Core.Path.{_≡_, refl, sym, ap, ap₂, _∙_, subst}
-use mathlib.Core.Logic.{_↔_}
+use mathlib.Core.Path.{_≡_, sym, ap, _∙_, subst}
 use mathlib.Core.Bool.{Bool, not}
 use mathlib.Core.List.{List, []}
-use mathlib.Core.Option.{some}
 use Prim.Native.Nat.{ℕ}
 use native.Mathlib.Omega.{arith}
 use lib.ListN.{length, take}
-use lib.Seq.{take-append-seam}
 use Rattle.sheet.specs.Sheet.{Sheet, IsSheet}
 use Rattle.runs.specs.Visits.{attributes, grammar}
 use Rattle.runs.specs.Machine.{most}
@@ -17,7 +14,6 @@ use Rattle.runs.specs.Taken.{Passed}
 use Rattle.calls.specs.Held.{Held, fresh-held}
 use Rattle.calls.specs.Call.{Result, Called}
 use Rattle.calls.specs.ReadsBack.{ReadsBack}
-use Rattle.calls.specs.Explained.{Explained, Answers}
 use Rattle.calls.proofs.ReadsBack.{text-back, calls-read-back}
 use Rattle.calls.proofs.Explained.{explained-exactly}
 use Rattle.calls.proofs.Parts.{feeds-as-one}
@@ -29,11 +25,11 @@ use Rattle.state.specs.declared.State.{State}
 use Rattle.fit.proofs.RunsFit.{fit-run}
 use Rattle.fit.proofs.Theorems.{all-read, frame-read, fresh-fit}
 use Rattle.converter.specs.declared.Reply.{Reply}
-use Rattle.converter.specs.Answered.{FitsSheet, heldOf, Ran, AnsweredAs, as-given, runs}
-use Rattle.converter.specs.Bytes.{BytesAnsweredAs, as-given as bytes-given, runs as bytes-run}
-use Rattle.converter.specs.Fed.{resultOf, ValueCall}
+use Rattle.converter.specs.Answered.{FitsSheet, heldOf, Ran, as-given, runs}
+use Rattle.converter.specs.Bytes.{as-given as bytes-given, runs as bytes-run}
+use Rattle.converter.specs.Fed.{resultOf}
 use Rattle.converter.specs.ReadsBack.{WrittenReadsBack, BytesWrittenReadBack}
-use Rattle.converter.specs.Explained.{Replies, RepliesExactly, FedExactly}
+use Rattle.converter.specs.Explained.{RepliesExactly, FedExactly}
 use Rattle.converter.proofs.Replies.{is-call, ran-result, visits-held}
 use Rattle.converter.proofs.Theorems.{held-fresh, feeds-value}
 

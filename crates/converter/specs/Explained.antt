@@ -6,8 +6,7 @@ use mathlib.Core.List.{List}
 use mathlib.Core.Logic.{_↔_}
 use Prim.Native.Nat.{ℕ}
 use lib.ListN.{length, take}
-use Rattle.sheet.specs.Sheet.{Sheet, IsSheet}
-use Rattle.runs.specs.Taken.{Passed}
+use Rattle.sheet.specs.Sheet.{Sheet}
 use Rattle.calls.specs.Call.{Result}
 use Rattle.calls.specs.Explained.{Explained, Answers}
 use Rattle.state.specs.Changes.{freshState}

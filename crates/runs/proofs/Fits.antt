@@ -21,7 +21,7 @@ use Rattle.runs.specs.Lookup.{tagOf, find}
 use Rattle.runs.specs.Visits.{grammar, programsOf, tagName, Env, attributes, Saved, saved, performed, visited, visit, whileOn, echoed, returned, opens, revisits, closes, enters, leaves, reads}
 use Rattle.runs.specs.Acts.{Act, node-first, node-second, start-tag, end-tag, letter-read, bracket-acts, Store, fresh-store, pushed, innermost, without-node, without-element, act, acts}
 use Rattle.runs.specs.Events.{Event, starts, ends, letter}
-use Rattle.runs.specs.Machine.{at-start, Control, before, inside, after, go, root-by, move, most, State, fresh-state, finished, run}
+use Rattle.runs.specs.Machine.{at-start, Control, before, inside, after, go, root-by, move, most, State, finished, run}
 use Rattle.runs.specs.Fits.{EventsFit, ProgramFits, SheetFits, AllValues, ValuesFit, AllKeptFit, StoreFits, LettersFit}
 use Rattle.runs.proofs.Moves.{Moves, stay, then, refuse-go, go-inj, moves-run}
 use Rattle.runs.proofs.Sound.{started, was-read, ended}

@@ -22,7 +22,7 @@ use Rattle.runs.specs.Machine.{Open, Control, before, inside, after, Tur
 use Rattle.runs.specs.Line.{line, lineC, lineP, linePs}
 use Rattle.runs.specs.Taken.{Passed, Parsed, closed-with, Allowed}
 use Rattle.runs.specs.Spells.{Token, start-token, end-token, empty-token, literal, reference, eventsOfToken, isBlank, blanksPass, Mark, mark, eventsOfMarks, marks, marksC, marksP, marksPs, Spells, all-read, blank-after, blank-between, one-event, empty-tag, Spelled, passesAt, unless-blank, stepToken, through, onward-token, runTokens}
-use Rattle.runs.specs.SoFar.{passing, outside, rowMarks, rowPasses, SpelledSoFar, eventsSoFar, TokenRefused}
+use Rattle.runs.specs.SoFar.{passing, rowMarks, rowPasses, SpelledSoFar, eventsSoFar, TokenRefused}
 use Rattle.runs.proofs.Rules.{no-T, no-S}
 use Rattle.runs.proofs.Find.{find-sound}
 use Rattle.runs.proofs.Moves.{Moves, stay, then, moves-one, run-moves, moves-run, run-through, run-stops, refuse-go, go-inj}

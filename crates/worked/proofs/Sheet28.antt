@@ -3,21 +3,18 @@
 use mathlib.Core.Path.{_≡_, refl}
 use mathlib.Core.Bool.{true, false}
 use mathlib.Core.List.{List, [], _∷_, _++_}
-use mathlib.Core.Option.{none, some}
-use Prim.Native.Nat.{ℕ, _≤_, _<_}
+use Prim.Native.Nat.{ℕ, _<_}
 use native.Mathlib.Omega.{arith}
-use lib.ListN.{length, replicate}
-use Rattle.text.specs.Names.{Name}
+use lib.ListN.{replicate}
 use Rattle.programs.specs.Program.{Program, echo}
-use Rattle.programs.specs.Limits.{first, second}
 use Rattle.programs.specs.Section.{no-program, names}
 use Rattle.layout.specs.Records.{nonterminalOf}
 use Rattle.sheet.specs.Fields.{Visits, FieldsAre}
 use Rattle.sheet.specs.Grounded.{Produced}
 use Rattle.sheet.specs.Sheet.{IsSheet}
 use Rattle.runs.specs.Visits.{no-programs}
-use Rattle.runs.specs.Examples.{program, first-only, book}
-use Rattle.worked.specs.Worked.{bib, title, author, year, bytes28, sheet28}
+use Rattle.runs.specs.Examples.{program, first-only}
+use Rattle.worked.specs.Worked.{bytes28, sheet28}
 use Rattle.worked.proofs.Laid.{other, Laid, laid-is-sheet}
 
 abbrev on : Program

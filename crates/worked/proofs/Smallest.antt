@@ -1,7 +1,7 @@
 -- The 52 bytes are the smallest sheet: one tag, one production, no node and no program.
 -- Assumes nothing.
-use mathlib.Core.Path.{_≡_, refl}
-use mathlib.Core.List.{List, []}
+use mathlib.Core.Path.{refl}
+use mathlib.Core.List.{[]}
 use native.Mathlib.Omega.{arith}
 use Rattle.programs.specs.Section.{no-program}
 use Rattle.sheet.specs.Fields.{FieldsAre}

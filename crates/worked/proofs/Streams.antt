@@ -1,6 +1,6 @@
 -- The streams of the worked examples, as their tokens: the bytes are theirs, and the machine's run over them is computed.
 -- Assumes nothing.
-use mathlib.Core.Path.{_≡_, refl, sym, ap, _∙_, subst}
+use mathlib.Core.Path.{_≡_, refl}
 use mathlib.Core.Bool.{false}
 use mathlib.Core.List.{List, [], _∷_, _++_}
 use mathlib.Core.Option.{some}
@@ -13,7 +13,7 @@ use Rattle.sheet.specs.Sheet.{Sheet}
 use Rattle.output.specs.Escape.{render}
 use Rattle.runs.specs.Visits.{Env, mostVisits}
 use Rattle.runs.specs.Machine.{State, fresh-state, refused}
-use Rattle.runs.specs.Taken.{Passed, closed-with}
+use Rattle.runs.specs.Taken.{Passed}
 use Rattle.runs.specs.Spells.{stepToken, through, runTokens}
 use Rattle.runs.specs.Examples.{book}
 use Rattle.runs.proofs.Examples.{of-tokens, tokens-are}
