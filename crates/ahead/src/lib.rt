@@ -124,7 +124,8 @@ fn width(on: bool) -> usize
     if on { 1 } else { 0 }
 }
 
-// Whether a run that stands in an element with characters is steady: a character tried in a dry run leaves it as it is.
+// Whether a run that stands in an element with characters is steady: a character tried in a dry run leaves it as it is. At the element's
+// start none does, as it leads to an atom.
 fn probe(s: &[u8], l: Layout, z: Live, stack: &[u8], out: &mut [u8]) -> Tried
     requires { ⌜ LaidOut (now s) l ⌝ }
     requires { ⌜ ReadyAt (now s) z (now stack) ⌝ }
@@ -132,6 +133,10 @@ fn probe(s: &[u8], l: Layout, z: Live, stack: &[u8], out: &mut [u8]) -> Tried
     ensures { λ r. ⌜ ProbedAs (now (s .entry)) (full z (now (stack .entry))) r ⌝ }
     ensures { λ _. ⌜ now (out .exit) ≡ now (out .entry) ⌝ }
 {
+    let f = z.top();
+    if f.place == 0 {
+        return not_steady();
+    }
     let run = Run { at: 0, live: z };
     let tried = run.character(s, l, TRIED, stack, out, false);
     if tried.number != 0 {

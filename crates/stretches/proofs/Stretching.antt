@@ -46,11 +46,6 @@ shown-short : (on : Bool) (c : ℕ) → length (shown on c) ≤ 5
 shown-short true c = omega (arith, ap length (shown-on c), escaped-short c)
 shown-short false c = omega arith
 
--- what the reader answered is the token that was bound
-pub bound : (part : List ℕ) (at : ℕ) (x : Answer) (e : Event) (next : Cursor) (c : ℕ) → Means (front part at) at x → x ≡ Token e next → e ≡ Character c →
-    Means (front part at) at (Token (Character c) next)
-bound part at x e next c m q f = subst (λ (y : Event). Means (front part at) at (Token y next)) f (subst (Means (front part at) at) q m)
-
 module _ (part : List ℕ) (from : ℕ) where
   module _ (on : Bool) (k n : ℕ) (lent : List ℕ) (put : ℕ) where
     pub none-yet : from ≤ length part → put ≤ length lent → n ≤ mostVisits → StretchedAs part from on k n lent put (record { at = from; put = put; count = n }) lent

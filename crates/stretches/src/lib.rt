@@ -9,6 +9,7 @@ ghost use Rattle.text.specs.Names.{blank};
 ghost use Rattle.output.specs.Reach.{farthest};
 ghost use Rattle.steady.specs.Steady.{shown};
 ghost use Rattle.stretches.specs.Stretched.{StretchedAs, BlanksAs};
+ghost use Rattle.stretches.specs.Next.{plain, NextIs};
 use tokens::Answer;
 use tokens::Cursor;
 use tokens::Event;
@@ -27,6 +28,50 @@ pub struct Stretch {
     pub at: usize,
     pub put: usize,
     pub count: u64,
+}
+
+// What stands at a place of the part: a character and how many bytes it takes, or no character.
+pub enum Next {
+    Character(u32, usize),
+    Other,
+}
+
+// Whether a byte is a character by itself wherever it stands: a line feed, or one of ASCII from the space on other than < & >.
+fn is_plain(b: u8) -> bool
+    ensures { λ r. ⌜ r ≡ plain b ⌝ }
+{
+    (b == 10) | ((32 <= b) & ((b < 128) & ((b != 60) & ((b != 38) & (b != 62)))))
+}
+
+// What the reader says of the place.
+fn read_next(part: &[u8], at: usize) -> Next
+    requires { ⌜ at ≤ length (now part) ⌝ }
+    ensures { λ r. ⌜ NextIs (now (part .entry)) at r ⌝ }
+{
+    let cursor = Cursor { at: at };
+    let answer = cursor.read(part);
+    let Answer::Token(event, next) = answer else {
+        return Next::Other;
+    };
+    let Event::Character(c) = event else {
+        return Next::Other;
+    };
+    Next::Character(c, next.at - at)
+}
+
+// The same, without the reader where a byte is enough.
+fn next_at(part: &[u8], at: usize) -> Next
+    requires { ⌜ at ≤ length (now part) ⌝ }
+    ensures { λ r. ⌜ NextIs (now (part .entry)) at r ⌝ }
+{
+    if part.len() == at {
+        return read_next(part, at);
+    }
+    let b = part[at];
+    if is_plain(b) {
+        return Next::Character(b as u32, 1);
+    }
+    read_next(part, at)
 }
 
 // Whether a character is white space.
@@ -68,16 +113,8 @@ pub fn characters(
     let mut to = put;
     let mut count = n;
     loop {
-        let cursor = Cursor { at: at };
-        let answer = cursor.read(part);
-        let Answer::Token(event, next) = answer else {
-            return Stretch {
-                at: at,
-                put: to,
-                count: count,
-            };
-        };
-        let Event::Character(c) = event else {
+        let next = next_at(part, at);
+        let Next::Character(c, w) = next else {
             return Stretch {
                 at: at,
                 put: to,
@@ -107,7 +144,7 @@ pub fn characters(
         }
         to = show(c, on, out, to);
         count = count + k;
-        at = next.at;
+        at = at + w;
     }
 }
 
@@ -118,17 +155,13 @@ pub fn blanks(part: &[u8], from: usize) -> usize
 {
     let mut at = from;
     loop {
-        let cursor = Cursor { at: at };
-        let answer = cursor.read(part);
-        let Answer::Token(event, next) = answer else {
-            return at;
-        };
-        let Event::Character(c) = event else {
+        let next = next_at(part, at);
+        let Next::Character(c, w) = next else {
             return at;
         };
         if !is_blank(c) {
             return at;
         }
-        at = next.at;
+        at = at + w;
     }
 }

@@ -1,20 +1,18 @@
+use borrow.Author.Needs.{needs}
 use Prim.Native.Nat.{_-_}
 use lib.ListN.{length}
 use native.Mathlib.Omega.{arith}
-use mathlib.Core.Path.{sym, _∙_}
 use Rattle.tokens.specs.Tokens.{front}
-use borrow.Author.Tests.{not-false}
-use Rattle.tokens.specs.declared.Event.the-variants.{Character}
-use Rattle.tokens.proofs.Streams.{token-moves, event-char}
-use borrow.Author.Needs.{needs}
+use Rattle.tokens.proofs.Streams.{event-char}
 use Rattle.stretches.specs.Stretched.{StretchedAs}
-use Rattle.stretches.proofs.Stretching.{bound, none-yet, one-more}
+use Rattle.stretches.proofs.Nexts.{stands, onward}
+use Rattle.stretches.proofs.Stretching.{none-yet, one-more}
 use Rattle.stretches.proofs.characters.Statement.{statement}
 use Rattle.stretches.proofs.characters.Tie as tie
 use Rattle.stretches.proofs.characters.Reads as reads
 use Rattle.stretches.proofs.characters.Lts as lts
+use Rattle.stretches.proofs.next_at.Reads as next-at-reads
 use Rattle.stretches.proofs.show.Reads as show-reads
-use Rattle.tokens.proofs.Cursor.read.Reads as read-reads
 
 abbrev Inv-loop : tie.InvT-loop
 Inv-loop part from on k n out₀ put at₀ to₀ count₀ out at to count = StretchedAs part from on k n out₀ put (record { at = at; put = to; count = count }) out
@@ -29,41 +27,45 @@ loop-holds c =
 
 show-requires : tie.Need-show-requires Inv-loop μ-loop
 show-requires c κs =
-    let e = c .before .before .before .before .before in
-    let a = e .before .before .before in
-    let r = a .before .before in
-    let b = r .before .before .before .before in
-    let p = b .args .part .now in (
-      omega (arith, c .before .if3 .left),
-      event-char (front p (r .before .loop .at)) (r .before .loop .at) (e .event .given .0 .0) (a .answer .given .0 .1 .0)
-          (bound p (r .before .loop .at) (r .read .result) (a .answer .given .0 .0) (a .answer .given .0 .1 .0) (e .event .given .0 .0) (r .read .ensures) (a .answer .given .1) (e .event .given .1)),
-    )
+    let n = c .before .before .before .before .before in
+    let k = n .before .before in
+    let l = k .before in
+    let start = l .before .before .before in
+    let part = start .args .part .now in
+    let here = stands part (l .loop .at) (k .next-at .result) (k .next-at .ensures) _ _ (n .next .given .1) in
+    (omega (arith, c .before .if3 .left), event-char (front part (l .loop .at)) (l .loop .at) _ _ here)
+
+add-at : tie.Need-add-at Inv-loop μ-loop
+add-at c =
+    let n = c .before .before .before .before .before .before .before .before in
+    let k = n .before .before in
+    let l = k .before in
+    let start = l .before .before .before in
+    let part = start .args .part .now in
+    let here = stands part (l .loop .at) (k .next-at .result) (k .next-at .ensures) _ _ (n .next .given .1) in
+    omega (arith, onward part (l .loop .at) _ _ (l .loop .inv .within) here)
 
 loop-less : tie.Need-loop-less Inv-loop μ-loop
 loop-less c =
-    let e = c .before .before .before .before .before .before .before .before in
-    let a = e .before .before .before in
-    let r = a .before .before in
-    let b = r .before .before .before .before in
-    let p = b .args .part .now in
-    omega (
-      arith,
-      token-moves p (r .before .loop .at) (Character (e .event .given .0 .0)) (a .answer .given .0 .1 .0) (r .before .loop .inv .within)
-          (bound p (r .before .loop .at) (r .read .result) (a .answer .given .0 .0) (a .answer .given .0 .1 .0) (e .event .given .0 .0) (r .read .ensures) (a .answer .given .1) (e .event .given .1)),
-    )
+    let n = c .before .before .before .before .before .before .before .before in
+    let k = n .before .before in
+    let l = k .before in
+    let start = l .before .before .before in
+    let part = start .args .part .now in
+    let here = stands part (l .loop .at) (k .next-at .result) (k .next-at .ensures) _ _ (n .next .given .1) in
+    omega (arith, onward part (l .loop .at) _ _ (l .loop .inv .within) here)
 
 loop-again : tie.Need-loop-again Inv-loop μ-loop
 loop-again c =
-    let e = c .before .before .before .before .before .before .before .before in
-    let a = e .before .before .before in
-    let r = a .before .before in
-    let b = r .before .before .before .before in
-    let p = b .args .part .now in
-    let o = r .before .loop in
-    one-more p (b .args .from) (b .args .on) (b .args .k) (b .args .n) (b .args .out .now) (b .args .put) (o .at) (o .to) (o .count) (o .out) (o .inv) (e .event .given .0 .0) (a .answer .given .0 .1 .0)
-    (bound p (o .at) (r .read .result) (a .answer .given .0 .0) (a .answer .given .0 .1 .0) (e .event .given .0 .0) (r .read .ensures) (a .answer .given .1) (e .event .given .1))
-    (omega (arith, c .before .before .before .before .before .before .if1 .left, b .pre .1 .1 .0))
-    (omega (arith, c .before .before .before .before .before .if2 .left, o .inv .long, o .inv .room))
+    let n = c .before .before .before .before .before .before .before .before in
+    let k = n .before .before in
+    let l = k .before in
+    let start = l .before .before .before in
+    let part = start .args .part .now in
+    let here = stands part (l .loop .at) (k .next-at .result) (k .next-at .ensures) _ _ (n .next .given .1) in
+    one-more part (start .args .from) (start .args .on) (start .args .k) (start .args .n) (start .args .out .now) (start .args .put) (l .loop .at) (l .loop .to) (l .loop .count) (l .loop .out) (l .loop .inv) _ _ here
+    (omega (arith, c .before .before .before .before .before .before .if1 .left, start .pre .1 .1 .0))
+    (omega (arith, c .before .before .before .before .before .if2 .left, l .loop .inv .long, l .loop .inv .room))
     _ _ (c .before .before .show .ensures)
 
 pub characters-spec : {M : Type 1} → statement M
@@ -73,6 +75,7 @@ characters-spec =
     Inv-loop
     μ-loop
     loop-holds
-    (λ c κs. search needs) (λ c. search needs) (λ c. search needs) (λ c. search needs) (λ c. search needs) (λ c. search needs) (λ c. search needs) (λ c. search needs) (λ c. search needs) (λ c. search needs) (λ c. search needs) (λ c. search needs) (λ c. search needs) (λ c. search needs) (λ c. search needs) show-requires
-    (λ c. search needs) loop-less
+    (λ c κs. search needs) (λ c. search needs) (λ c. search needs) (λ c. search needs) (λ c. search needs) (λ c. search needs) (λ c. search needs) (λ c. search needs) (λ c. search needs) (λ c. search needs) (λ c. search needs) (λ c. search needs) (λ c. search needs) show-requires
+    (λ c. search needs) add-at
+    loop-less
     loop-again)

@@ -1,0 +1,117 @@
+-- A byte that is a character by itself is what the reader says; and what the reader's answer tells of characters.
+-- Assumes nothing.
+use mathlib.Core.Path.{_≡_, refl, sym, ap, _∙_, subst}
+use mathlib.Core.Logic.{_⊎_, inl, inr, ⊎-elim}
+use mathlib.Core.Bool.{Bool, true, false, not, _&&_, _||_, true≢false}
+use mathlib.Core.List.{List, [], _∷_, _++_}
+use Prim.Native.Nat.{ℕ, suc, _+_, _-_, _≤_, _<_}
+use native.Mathlib.Omega.{arith}
+use lib.Dec.{leb, ltb, eqb}
+use lib.ListN.{length, take, drop, getD}
+use lib.Seq.{drop-cons}
+use borrow.Author.Tests.{eqb-true, eqb-false, leb-true, ltb-true, not-true}
+use Rattle.text.specs.Chars.{Char, utf8}
+use Rattle.text.proofs.Shapes.{shape1}
+use Rattle.tokens.specs.Tokens.{front, Means, char}
+use Rattle.tokens.specs.declared.Cursor.{Cursor}
+use Rattle.tokens.specs.declared.Event.{Event}
+use Rattle.tokens.specs.declared.Event.the-variants.{Character}
+use Rattle.tokens.specs.declared.Answer.{Answer}
+use Rattle.tokens.specs.declared.Answer.the-variants.{Token, Begun, Bad, Long}
+use Rattle.tokens.proofs.Answer as answer
+use Rattle.tokens.proofs.Event as event
+use types.Run.{OneOf, miss}
+use denote.Enum.Declared
+use Rattle.tokens.proofs.Theory.{one-answer}
+use Rattle.tokens.proofs.Streams.{token-moves}
+use Rattle.stretches.specs.declared.Next.{Next}
+use Rattle.stretches.specs.declared.Next.the-variants.{Character as Stands, Other}
+use Rattle.stretches.specs.Next.{plain, NextIs}
+
+-- the event of a token
+abbrev eventIn : Answer → Event
+eventIn (Token e n) = e
+eventIn Begun = Character 0
+eventIn Bad = Character 0
+eventIn Long = Character 0
+
+or-true : (a b : Bool) → (a || b) ≡ true → (a ≡ true) ⊎ (b ≡ true)
+or-true true b h = inl refl
+or-true false b h = inr h
+
+and-true : (a b : Bool) → (a && b) ≡ true → (a ≡ true) × (b ≡ true)
+and-true true b h = (refl, h)
+and-true false b h = absurd (true≢false (sym h))
+
+record Alone (b : ℕ) : Type 0 where
+  pub small : b < 128
+  pub char-ok : Char b
+  pub not-60 : b ≡ 60 → ⊥
+  pub not-38 : b ≡ 38 → ⊥
+  pub not-62 : b ≡ 62 → ⊥
+
+alone : (b : ℕ) → plain b ≡ true → Alone b
+alone b h =
+    ⊎-elim
+    (λ e.
+    let i = eqb-true b 10 e in
+    record { small = omega arith; char-ok = inr (inl i); not-60 = λ q. omega arith; not-38 = λ q. omega arith; not-62 = λ q. omega arith })
+    (λ e.
+    let p = and-true (leb 32 b) (ltb b 128 && (not (eqb b 60) && (not (eqb b 38) && not (eqb b 62)))) e in
+    let q = and-true (ltb b 128) (not (eqb b 60) && (not (eqb b 38) && not (eqb b 62))) (p .1) in
+    let r = and-true (not (eqb b 60)) (not (eqb b 38) && not (eqb b 62)) (q .1) in
+    let s = and-true (not (eqb b 38)) (not (eqb b 62)) (r .1) in
+    let low = leb-true 32 b (p .0) in
+    let high = ltb-true b 128 (q .0) in
+    record {
+      small = high;
+      char-ok = inr (inr (inr (inl (omega arith, omega arith))));
+      not-60 = eqb-false b 60 (not-true _ (r .0));
+      not-38 = eqb-false b 38 (not-true _ (s .0));
+      not-62 = eqb-false b 62 (not-true _ (s .1));
+    })
+    (or-true (eqb b 10) (leb 32 b && (ltb b 128 && (not (eqb b 60) && (not (eqb b 38) && not (eqb b 62))))) h)
+
+module _ (part : List ℕ) (at : ℕ) where
+  pub plain-next : at < length part → plain (getD part at 0) ≡ true → NextIs part at (Stands (getD part at 0) 1)
+  plain-next h p =
+      let b : ℕ = getD part at 0 in
+      let left : List ℕ = take 31 (drop (suc at) part) in
+      let a = alone b p in
+      let bytes : utf8 b ≡ b ∷ [] = shape1 b (a .small) in
+      let starts : front part at ≡ b ∷ left = ap (take 32) (drop-cons part at 0 h) in
+      (char b, (a .char-ok, a .not-60, a .not-38, a .not-62), (left, starts ∙ ap (λ (w : List ℕ). w ++ left) (sym bytes)), refl, ap (λ (w : List ℕ). at + length w) (sym bytes))
+
+  module _ (x : Answer) (m : Means (front part at) at x) where
+    pub no-token : OneOf (1 ∷ 2 ∷ 3 ∷ []) (Declared.tagOf answer.the-type x) → NextIs part at Other
+    no-token h c next n =
+        miss (1 ∷ 2 ∷ 3 ∷ []) 0 tt
+        (subst (λ (y : Answer). OneOf (1 ∷ 2 ∷ 3 ∷ []) (Declared.tagOf answer.the-type y)) (one-answer (front part at) at x (Token (Character c) next) m n) h)
+
+    module _ (e : Event) (next : Cursor) (q : x ≡ Token e next) where
+      token : Means (front part at) at (Token e next)
+      token = subst (Means (front part at) at) q m
+
+      pub no-character : OneOf (0 ∷ 1 ∷ 2 ∷ []) (Declared.tagOf event.the-type e) → NextIs part at Other
+      no-character h c then n =
+          miss (0 ∷ 1 ∷ 2 ∷ []) 3 tt
+          (subst (λ (y : Event). OneOf (0 ∷ 1 ∷ 2 ∷ []) (Declared.tagOf event.the-type y)) (ap eventIn (one-answer (front part at) at (Token e next) (Token (Character c) then) token n)) h)
+
+      module _ (h : at ≤ length part) (c : ℕ) (f : e ≡ Character c) where
+        there : Means (front part at) at (Token (Character c) next)
+        there = subst (λ (y : Event). Means (front part at) at (Token y next)) f token
+
+        pub reaches : at ≤ next .at
+        reaches = omega (arith, token-moves part at (Character c) next h there .0)
+
+        pub read-character : NextIs part at (Stands c (next .at - at))
+        read-character = (there .0, there .1, there .2, there .3, omega (arith, there .4, reaches))
+
+  -- what stands there is what the reader says, and takes a byte at least
+  pub stands : (r : Next) → NextIs part at r → (c n : ℕ) → r ≡ Stands c n → Means (front part at) at (Token (Character c) (record { at = at + n }))
+  stands r m c n q = subst (NextIs part at) q m
+
+  pub onward : (c n : ℕ) → at ≤ length part → Means (front part at) at (Token (Character c) (record { at = at + n })) → (0 < n) × (at + n ≤ length part)
+  onward c n h m =
+      let moved = token-moves part at (Character c) (record { at = at + n }) h m in
+      (omega (arith, moved .0), moved .1)
