@@ -1,11 +1,20 @@
-/* The sheet checker and the converter for hosts in C. Build: `rt staticlib capi`, and link target/staticlib/libcapi.a.
+/* The sheet checker and the converter for hosts in C and C++. Build: `rt staticlib capi`, and link target/staticlib/libcapi.a; or
+   `bin/install PREFIX`, and ask `pkg-config --cflags --libs wickpollen`.
 
    The numbers are those of the table in README.md. In every call the lent areas must not overlap, and each must hold as many bytes as
-   its length says; a length of 0 is allowed. Nothing is kept between two calls but what stands in the areas. */
+   its length says; a length of 0 is allowed. Nothing is kept between two calls but what stands in the areas: calls with areas of their own can
+   run at the same time.
+
+   The library is for x86-64 and needs of a C library memcpy and memset alone; it allocates nothing, opens nothing and has no variables. Its
+   stack is bounded by the sheet's limits; with the example sheets it was measured at 130 KB, so a thread of its own should have 1 MB. */
 #ifndef WICKPOLLEN_H
 #define WICKPOLLEN_H
 #include <stddef.h>
 #include <stdint.h>
+
+#ifdef __cplusplus
+extern "C" {
+#endif
 
 /* Tests the rule sheet in sheet[0 .. sheet_len). The answer's low byte is the number, 0 to 10; the rest, answer / 256, is the count of
    the faults. With 8 and 9 the faults stand at the start of the list, four bytes each, and nothing past them is written; with any other
@@ -33,6 +42,9 @@ uint64_t wickpollen_fresh(uint8_t *state, size_t state_len);
      0          the stream has ended and was taken whole: its output is complete.
      16         the part is used up, or only a begun token of it is left: go on with the next part.
      17         the next token's output is longer than the room left: write out what there is and go on; where counts[1] is 0, lend more.
+                What one token writes is set by the sheet's programs: seldom over some hundred bytes, and in the worst case 10,444,626
+                (an empty tag is two events; an event makes at most 65 visits, whose programs print at most 80,343 bytes each, and echoes a tag of at
+                most 18). 65,536 bytes suffice for every sheet that people write.
      20 to 27, 30   a token was refused: it starts at part[counts[0]]; with 27, where nothing is left of the part, counts[0] is part_len.
                 White space counts as a token inside an element that holds text, and inside one that the sheet gives no content (23).
                 The output of what came before it stands. Where an earlier refusal is only repeated, counts[0] is 0 and tells nothing.
@@ -49,5 +61,9 @@ uint64_t wickpollen_fresh(uint8_t *state, size_t state_len);
    other two functions take 7 kB at most.) */
 uint64_t wickpollen_run(const uint8_t *sheet, size_t sheet_len, uint8_t *state, size_t state_len, const uint8_t *part, size_t part_len,
                         uint64_t ended, uint8_t *out, size_t out_len, uint64_t *counts);
+
+#ifdef __cplusplus
+}
+#endif
 
 #endif

@@ -359,6 +359,20 @@ def links_cdpath_and_crons_path_work():
     expect("from bin/", run("check", SHEET, program="./wickpollen", env=env, cwd=os.path.join(HERE, "bin"))[0] == 0)
 
 
+@test
+def it_can_be_installed():
+    if not shutil.which("rt"):
+        return
+    p = subprocess.run([os.path.join(HERE, "bin", "install"), "place"], stdout=subprocess.PIPE, stderr=subprocess.STDOUT)
+    expect("it is installed: " + p.stdout.decode()[-300:], p.returncode == 0)
+    for name in ["bin/wickpollen", "lib/wickpollen/wickpollen", "share/man/man1/wickpollen.1", "include/wickpollen.h", "lib/libwickpollen.a", "lib/pkgconfig/wickpollen.pc"]:
+        expect(name + " is there", os.path.exists(os.path.join("place", name)))
+    env = {"PATH": "/usr/bin:/bin", "HOME": "/"}
+    expect("0", run("check", SHEET, program=os.path.abspath("place/bin/wickpollen"), env=env)[0] == 0)
+    version = run("--version", program=os.path.abspath("place/bin/wickpollen"), env=env)[1]
+    expect("one version", b"Version: " + version.split()[1] in read("place/lib/pkgconfig/wickpollen.pc"))
+
+
 def main():
     words = sys.argv[1:]
     passed = failed = 0
