@@ -1,0 +1,13 @@
+pub mod Program
+pub mod Rules
+pub mod Tokens
+pub mod Gaps
+pub mod Spelled
+pub mod Conditions
+pub mod Statements
+pub mod Expressions
+pub mod Productions
+pub mod Limits
+pub mod RuleText
+pub mod Refusal
+pub mod Promises

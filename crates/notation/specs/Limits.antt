@@ -1,0 +1,59 @@
+-- The limits that are part of the text: what a sheet can hold of one production, one program, and of productions and nodes in all.
+-- Assumes nothing.
+use mathlib.Core.List.{List, [], _∷_}
+use mathlib.Core.Option.{Option, none, some}
+use Prim.Native.Nat.{ℕ, _+_, _≤_}
+use lib.ListN.{length}
+use Rattle.expressions.specs.Expr.{nodes, depth, Content, nothing, tree, nodesOf}
+use Rattle.programs.specs.Program.{programBytes}
+use Rattle.programs.specs.Limits.{nesting}
+use Rattle.notation.specs.Program.{Program, programIn}
+use Rattle.notation.specs.Rules.{Visits, Tree, contentOf, visitsIn, Rule, Rules}
+
+-- its bytes as document 01 encodes it, with its closing 0, and how deep if, not, and, or nest: both the same however tags and strings are numbered
+abbrev pub sizeOf : Program → ℕ
+sizeOf p = length (programBytes (programIn (λ n. 0) (λ s. 0) p))
+
+abbrev pub nestingOf : Program → ℕ
+nestingOf p = nesting (programIn (λ n. 0) (λ s. 0) p)
+
+pub record ProgramWithin (p : Program) : Type 0 where
+  pub short : sizeOf p ≤ 256
+  pub shallow : nestingOf p ≤ 8
+
+abbrev pub OptionWithin : Option Program → Type 0
+OptionWithin none = Unit {0}
+OptionWithin (some p) = ProgramWithin p
+
+abbrev pub VisitsWithin : Visits → Type 0
+VisitsWithin v = OptionWithin (v .first-visit) × OptionWithin (v .second-visit)
+
+abbrev pub AllWithin : List Visits → Type 0
+AllWithin [] = Unit {0}
+AllWithin (v ∷ vs) = VisitsWithin v × AllWithin vs
+
+abbrev pub depthOf : Content → ℕ
+depthOf nothing = 0
+depthOf (tree e) = depth e
+
+pub record ContentWithin (e : Option Tree) : Type 0 where
+  pub few-nodes : nodesOf (contentOf e) ≤ 32
+  pub shallow : depthOf (contentOf e) ≤ 12
+  pub programs : AllWithin (visitsIn e)
+
+pub record RuleWithin (r : Rule) : Type 0 where
+  pub own : VisitsWithin (r .own)
+  pub inside : ContentWithin (r .inside)
+
+abbrev pub EachWithin : List Rule → Type 0
+EachWithin [] = Unit {0}
+EachWithin (r ∷ rs) = RuleWithin r × EachWithin rs
+
+abbrev pub nodesInAll : List Rule → ℕ
+nodesInAll [] = 0
+nodesInAll (r ∷ rs) = nodesOf (contentOf (r .inside)) + nodesInAll rs
+
+pub record Within (r : Rules) : Type 0 where
+  pub few-productions : length (r .productions) ≤ 64
+  pub few-nodes : nodesInAll (r .productions) ≤ 256
+  pub each : EachWithin (r .productions)

@@ -1,0 +1,63 @@
+-- The rules that a text writes: the start, and productions with tags by name and programs beside the nodes that they are of.
+-- Assumes nothing.
+use mathlib.Core.List.{List, [], _∷_, _++_}
+use mathlib.Core.Option.{Option, none, some}
+use Prim.Native.Nat.{ℕ}
+use Rattle.expressions.specs.Expr.{Atom, Exp, Content, nothing, tree}
+use Rattle.notation.specs.Program.{Program}
+
+-- the programs of a production or a node, for its two visits
+pub record Visits : Type 0 where
+  pub first-visit : Option Program
+  pub second-visit : Option Program
+
+-- an expression whose nodes have programs: a node is the programs of its two visits, and what it joins
+mutual
+  pub data Tree : Type 0 where
+    node : Option Program → Option Program → Form → Tree
+
+  pub data Form : Type 0 where
+    atom : Atom → Form
+    cat alt : Tree → Tree → Form
+    star : Tree → Form
+
+-- its expression
+abbrev mutual
+  pub expression : Tree → Exp
+  expression (node f g k) = expressionOf k
+
+  pub expressionOf : Form → Exp
+  expressionOf (atom k) = Exp.atom k
+  expressionOf (cat l r) = Exp.cat (expression l) (expression r)
+  expressionOf (alt l r) = Exp.alt (expression l) (expression r)
+  expressionOf (star e) = Exp.star (expression e)
+
+-- its nodes' programs, in preorder
+abbrev mutual
+  pub visits : Tree → List Visits
+  visits (node f g k) = record { first-visit = f; second-visit = g } ∷ visitsOf k
+
+  pub visitsOf : Form → List Visits
+  visitsOf (atom k) = []
+  visitsOf (cat l r) = visits l ++ visits r
+  visitsOf (alt l r) = visits l ++ visits r
+  visitsOf (star e) = visits e
+
+-- what stands between a tag's parentheses
+abbrev pub contentOf : Option Tree → Content
+contentOf none = nothing
+contentOf (some t) = tree (expression t)
+
+abbrev pub visitsIn : Option Tree → List Visits
+visitsIn none = []
+visitsIn (some t) = visits t
+
+pub record Rule : Type 0 where
+  pub nonterminal : ℕ
+  pub tag : List ℕ
+  pub own : Visits
+  pub inside : Option Tree
+
+pub record Rules : Type 0 where
+  pub start : ℕ
+  pub productions : List Rule

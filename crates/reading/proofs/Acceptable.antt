@@ -1,0 +1,254 @@
+-- A token that the machine takes has a bounded number, name or string, and some bytes. Assumes nothing.
+use mathlib.Core.Path.{_≡_, refl, sym, _∙_, ap, subst}
+use mathlib.Core.Logic.{_⊎_, inl, inr, ⊎-elim}
+use mathlib.Core.Bool.{Bool, true, false, _&&_, _||_}
+use mathlib.Core.Option.{Option, none, some}
+use mathlib.Core.List.{List, [], _∷_, _++_}
+use Prim.Native.Nat.{ℕ, zero, suc, _+_, _/_, _%_, _≤_, _<_}
+use native.Mathlib.Omega.{arith}
+use native.Mathlib.Decide.{decLt}
+use lib.Dec.{ltb, leb, eqb}
+use lib.ListN.{length, length-append}
+use borrow.Author.Tests.{lt-leb, ne-eqb}
+use Rattle.text.specs.Chars.{pick, Char, utf8}
+use Rattle.text.specs.Characters.{AllChar, utf8s}
+use Rattle.text.specs.Names.{nameFirst, nameByte, All, Name}
+use Rattle.text.proofs.Shapes.{char-most, cons≢[], Range, range, shape1, shape2, shape3, shape4}
+use Rattle.text.proofs.NameLaws.{name-all}
+use Rattle.programs.specs.Program.{Operand, Condition}
+use Rattle.programs.specs.Limits.{Visit, first, second, Value, Attribute}
+use Rattle.notation.specs.Program.{Program}
+use Rattle.notation.specs.Tokens.{Mark, plain, left, right, Token, nonterminal, value, attribute, name, start-tag, end-tag, empty-tag, string, word, Word, CHAR, ECHO, ECHO-OFF, REJECT, PRINT, IF, THEN, ELSE, BEGIN, END, AND, OR, NOT, sign, Sign, DEFINED, ASSIGNED, OPEN, CLOSE, BRACE, UNBRACE, DOT, BAR, STAR, SEMICOLON, EQUALS, decimal, bytesOf, markBytes, TagName, StringOf}
+use Rattle.notation.specs.Statements.{parentheses}
+use Rattle.reading.specs.Tests.{tagName?, string?}
+use Rattle.reading.specs.Conditions.{Part, other, partIf, value?, attribute?, attributePart, attributeOf, partOf, Reading, stepPart, stepCondition, valueOf}
+use Rattle.reading.specs.Statements.{Start, no-start, targetIf, current?, startOf, Next, nothing, itemIf, nextOf, Level, Listing, wants, target, assigning, printing, testing, after, thenned, tested, started, targeted, assignedBy, printed, followed, stepStatements, valueOfList}
+use Rattle.reading.specs.Expressions.{Piece, atomIf, nonterminal?, pieceOf, Parsing, stepPiece, unbraces, listing, stepExpression}
+use Rattle.reading.specs.Rules.{Key, keyIf, keyOf, Progress, beginning, first-word, named, defined, own-front, wants-tag, tagged, within, closed, own-back, complete, stepKey, closes, parsing, stepRules}
+use Rattle.reading.proofs.Telling.{none≢some}
+use Rattle.reading.proofs.Braces.{then-stops}
+use Rattle.reading.proofs.Search.{Bounded, Good}
+
+pub record Fine (t : Token) : Type 0 where
+  pub good : Good t
+  pub some-bytes : bytesOf t ≡ [] → ⊥
+
+-- a token that stands nowhere
+record Stray (t : Token) : Type 0 where
+  in-condition : (v : Visit) → partOf v t ≡ other
+  at-start : (v : Visit) → startOf v t ≡ no-start
+  behind : nextOf t ≡ nothing
+  in-expression : pieceOf t ≡ Piece.other
+  outside : keyOf t ≡ Key.other
+
+-- numbers
+pick-some : (b : Bool) (x y : ℕ) (l m : List ℕ) → pick b (x ∷ l) (y ∷ m) ≡ [] → ⊥
+pick-some true x y l m e = cons≢[] e
+pick-some false x y l m e = cons≢[] e
+
+decimal-some : (n : ℕ) → decimal n ≡ [] → ⊥
+unfolding decimal
+decimal-some n e = pick-some (ltb n 10) (48 + n) (48 + n / 10) [] ((48 + n % 10) ∷ []) e
+
+no-part : {P : Type 0} (d : Dec P) (x : Operand) → (P → ⊥) → partIf d x ≡ other
+no-part (yes p) x h = absurd (h p)
+no-part (no p) x h = refl
+
+no-attribute : {P : Type 0} (d : Dec P) (o : Option Operand) → (P → ⊥) → attributePart d o ≡ other
+no-attribute d none h = refl
+no-attribute d (some x) h = no-part d x h
+
+no-target : {P : Type 0} (d : Dec P) (b : Bool) (a : ℕ) → (P → ⊥) → targetIf d b a ≡ no-start
+no-target (yes p) b a h = absurd (h p)
+no-target (no p) b a h = refl
+
+no-item : {P : Type 0} (d : Dec P) (p : Program) → (P → ⊥) → itemIf d p ≡ nothing
+no-item (yes p) q h = absurd (h p)
+no-item (no p) q h = refl
+
+no-atom : {P : Type 0} (d : Dec P) (k : Rattle.expressions.specs.Expr.Atom) → (P → ⊥) → atomIf d k ≡ Piece.other
+no-atom (yes p) k h = absurd (h p)
+no-atom (no p) k h = refl
+
+no-key : {P : Type 0} (d : Dec P) (k : Key) → (P → ⊥) → keyIf d k ≡ Key.other
+no-key (yes p) k h = absurd (h p)
+no-key (no p) k h = refl
+
+-- a byte of a name is a byte
+name-byte : (b : ℕ) → nameByte b ≡ true → b < 256
+name-byte b h = on (decLt b 256)
+  where
+    on : Dec (b < 256) → b < 256
+    on (yes l) = l
+    on (no l) =
+        let big : (k : ℕ) → k < 256 → leb b k ≡ false = λ k i. lt-leb b k (omega arith) in
+        let far : (k : ℕ) → k < 256 → eqb b k ≡ false = λ k i. ne-eqb b k (λ e. omega arith) in
+        let z : nameByte b ≡ false = all-false (leb 65 b) (leb b 90) (leb 97 b) (leb b 122) (eqb b 95) (leb 48 b) (leb b 57) (eqb b 46) (eqb b 45)
+        (big 90 (omega arith)) (big 122 (omega arith)) (far 95 (omega arith)) (big 57 (omega arith)) (far 46 (omega arith)) (far 45 (omega arith)) in
+        absurd (let y : _≡_ {A = ℕ} 0 1 = cc in omega arith)
+      where
+        and-false : (x : Bool) → x && false ≡ false
+        and-false true = refl
+        and-false false = refl
+
+        all-false : (a b c d e f g i j : Bool) → b ≡ false → d ≡ false → e ≡ false → g ≡ false → i ≡ false → j ≡ false
+            → ((a && b) || ((c && d) || e)) || ((f && g) || (i || j)) ≡ false
+        all-false a b c d e f g i j p q r s t u = rw (p, q, r, s, t, u, and-false a, and-false c, and-false f) refl
+
+name-bounded : (k : ℕ) (n : List ℕ) → All nameByte n → length n ≤ k → Bounded k 256 n
+name-bounded zero [] h l = tt
+name-bounded zero (x ∷ n) h l = absurd (omega arith)
+name-bounded (suc k) [] h l = tt
+name-bounded (suc k) (x ∷ n) h l = (name-byte x (h .0), name-bounded k n (h .1) (omega arith))
+
+tag-bounded : (n : List ℕ) → TagName n → Bounded 15 256 n
+tag-bounded n h = name-bounded 15 n (name-all n (h .a-name)) (h .short)
+
+name-some : (n : List ℕ) → Name n → n ≡ [] → ⊥
+name-some [] h e = h
+name-some (x ∷ n) h e = cons≢[] e
+
+utf8-some : (c : ℕ) → 1 ≤ length (utf8 c)
+utf8-some c = on (range c)
+  where
+    on : Range c → 1 ≤ length (utf8 c)
+    on (inl h) = rw (shape1 c h) (omega arith)
+    on (inr (inl h)) = rw (shape2 c (h .0) (omega arith)) (omega arith)
+    on (inr (inr (inl h))) = rw (shape3 c (h .0) (omega arith)) (omega arith)
+    on (inr (inr (inr h))) = rw (shape4 c h) (omega arith)
+
+chars-bounded : (k : ℕ) (cs : List ℕ) → AllChar cs → length (utf8s cs) ≤ k → Bounded k 0x110000 cs
+chars-bounded zero [] h l = tt
+chars-bounded zero (c ∷ cs) h l = absurd (omega (arith, utf8-some c, simp length-append at l))
+chars-bounded (suc k) [] h l = tt
+chars-bounded (suc k) (c ∷ cs) h l = (omega (arith, char-most (h .0)), chars-bounded k cs (h .1) (omega (arith, utf8-some c, simp length-append at l)))
+
+mark-some : (m : Mark) (l : List ℕ) → markBytes m ++ l ≡ [] → ⊥
+mark-some plain l e = cons≢[] e
+mark-some left l e = cons≢[] e
+mark-some right l e = cons≢[] e
+
+word-some : (w : Word) → bytesOf (word w) ≡ [] → ⊥
+word-some CHAR e = cons≢[] e
+word-some ECHO e = cons≢[] e
+word-some ECHO-OFF e = cons≢[] e
+word-some REJECT e = cons≢[] e
+word-some PRINT e = cons≢[] e
+word-some IF e = cons≢[] e
+word-some THEN e = cons≢[] e
+word-some ELSE e = cons≢[] e
+word-some BEGIN e = cons≢[] e
+word-some END e = cons≢[] e
+word-some AND e = cons≢[] e
+word-some OR e = cons≢[] e
+word-some NOT e = cons≢[] e
+
+sign-some : (s : Sign) → bytesOf (sign s) ≡ [] → ⊥
+sign-some DEFINED e = cons≢[] e
+sign-some ASSIGNED e = cons≢[] e
+sign-some OPEN e = cons≢[] e
+sign-some CLOSE e = cons≢[] e
+sign-some BRACE e = cons≢[] e
+sign-some UNBRACE e = cons≢[] e
+sign-some DOT e = cons≢[] e
+sign-some BAR e = cons≢[] e
+sign-some STAR e = cons≢[] e
+sign-some SEMICOLON e = cons≢[] e
+sign-some EQUALS e = cons≢[] e
+
+fine-or-stray : (t : Token) → Fine t ⊎ Stray t
+fine-or-stray (nonterminal n) = on (nonterminal? n)
+  where
+    on : Dec (n < Rattle.expressions.specs.Grammar.nonterminals) → Fine (nonterminal n) ⊎ Stray (nonterminal n)
+    on (yes h) = inl (record { good = omega arith; some-bytes = cons≢[] })
+    on (no h) = inr (record { in-condition = λ v. refl; at-start = λ v. refl; behind = refl; in-expression = no-atom (nonterminal? n) _ h; outside = no-key (nonterminal? n) _ h })
+fine-or-stray (value n) = on (value? n)
+  where
+    on : Dec (Value n) → Fine (value n) ⊎ Stray (value n)
+    on (yes h) = inl (record { good = omega arith; some-bytes = decimal-some n })
+    on (no h) = inr (record { in-condition = λ v. no-part (value? n) _ h; at-start = λ v. refl; behind = refl; in-expression = refl; outside = refl })
+fine-or-stray (attribute m a) = on (attribute? a)
+  where
+    on : Dec (Attribute a) → Fine (attribute m a) ⊎ Stray (attribute m a)
+    on (yes h) = inl (record { good = omega arith; some-bytes = mark-some m _ })
+    on (no h) = inr (record { in-condition = λ v. no-attribute (attribute? a) (attributeOf v m a) h; at-start = λ v. no-target (attribute? a) (current? v m) a h; behind = refl; in-expression = refl; outside = refl })
+fine-or-stray (name n) = on (tagName? n)
+  where
+    on : Dec (TagName n) → Fine (name n) ⊎ Stray (name n)
+    on (yes h) = inl (record { good = tag-bounded n h; some-bytes = name-some n (h .a-name) })
+    on (no h) = inr (record { in-condition = λ v. refl; at-start = λ v. refl; behind = refl; in-expression = refl; outside = no-key (tagName? n) _ h })
+fine-or-stray (start-tag n) = on (tagName? n)
+  where
+    on : Dec (TagName n) → Fine (start-tag n) ⊎ Stray (start-tag n)
+    on (yes h) = inl (record { good = tag-bounded n h; some-bytes = cons≢[] })
+    on (no h) = inr (record { in-condition = λ v. refl; at-start = λ v. refl; behind = no-item (tagName? n) _ h; in-expression = refl; outside = refl })
+fine-or-stray (end-tag n) = on (tagName? n)
+  where
+    on : Dec (TagName n) → Fine (end-tag n) ⊎ Stray (end-tag n)
+    on (yes h) = inl (record { good = tag-bounded n h; some-bytes = cons≢[] })
+    on (no h) = inr (record { in-condition = λ v. refl; at-start = λ v. refl; behind = no-item (tagName? n) _ h; in-expression = refl; outside = refl })
+fine-or-stray (empty-tag n) = on (tagName? n)
+  where
+    on : Dec (TagName n) → Fine (empty-tag n) ⊎ Stray (empty-tag n)
+    on (yes h) = inl (record { good = tag-bounded n h; some-bytes = cons≢[] })
+    on (no h) = inr (record { in-condition = λ v. refl; at-start = λ v. refl; behind = no-item (tagName? n) _ h; in-expression = refl; outside = refl })
+fine-or-stray (string cs) = on (string? cs)
+  where
+    on : Dec (StringOf cs) → Fine (string cs) ⊎ Stray (string cs)
+    on (yes h) = inl (record { good = chars-bounded 255 cs (h .characters) (h .short); some-bytes = cons≢[] })
+    on (no h) = inr (record { in-condition = λ v. refl; at-start = λ v. refl; behind = no-item (string? cs) _ h; in-expression = refl; outside = refl })
+fine-or-stray (word w) = inl (record { good = tt; some-bytes = word-some w })
+fine-or-stray (sign s) = inl (record { good = tt; some-bytes = sign-some s })
+
+-- no machine takes it
+part-stops : (p : ℕ) (s : Reading) → stepPart p s other ≡ none
+part-stops p (Reading.wants l ls) = refl
+part-stops p (Reading.compares x l ls) = refl
+part-stops p (Reading.wants-other x l ls) = refl
+part-stops p (Reading.after d o ls) = refl
+
+list-stops : (v : Visit) (s : Listing) (t : Token) → Stray t → stepStatements v s t ≡ none
+list-stops v (wants w l ls) t h = ap (started w l ls) (h .at-start v)
+list-stops v (target a l ls) t h = ap (targeted a l ls) (h .behind)
+list-stops v (assigning a l ls) t h = ap (assignedBy a l ls) (h .in-condition v)
+list-stops v (printing l ls) t h = ap (printed l ls) (h .behind)
+list-stops v (testing r l ls) t h =
+    ap (λ k. tested (stepPart parentheses r k) (valueOf r) l ls (nextOf t)) (h .in-condition v)
+    ∙ ap (λ o. tested o (valueOf r) l ls (nextOf t)) (part-stops parentheses r)
+    ∙ ap (thenned (valueOf r) l ls) (h .behind) ∙ then-stops (valueOf r) l ls
+list-stops v (after b p l ls) t h = ap (followed b p l ls) (h .behind)
+
+listing-stops : {S : Type 0} (v : Visit) (q : Listing) (t : Token) (holds : Listing → S) (ended : Program → S) → Stray t → listing (stepStatements v q t) holds (unbraces (pieceOf t) (valueOfList q) ended) ≡ none
+listing-stops v q t holds ended h = ap (λ o. listing o holds (unbraces (pieceOf t) (valueOfList q) ended)) (list-stops v q t h) ∙ ap (λ k. unbraces k (valueOfList q) ended) (h .in-expression)
+
+piece-stops : (s : Parsing) → stepPiece s Piece.other ≡ none
+piece-stops (Parsing.wants b l ls) = refl
+piece-stops (Parsing.in-front q ls) = refl
+piece-stops (Parsing.after e l ls) = refl
+piece-stops (Parsing.behind q f k ls) = refl
+piece-stops (Parsing.over e ls) = refl
+
+content-stops : (s : Parsing) (t : Token) → Stray t → stepExpression s t ≡ none
+content-stops (Parsing.wants b l ls) t h = ap (stepPiece (Parsing.wants b l ls)) (h .in-expression)
+content-stops (Parsing.in-front q ls) t h = listing-stops first q t _ _ h
+content-stops (Parsing.after e l ls) t h = ap (stepPiece (Parsing.after e l ls)) (h .in-expression)
+content-stops (Parsing.behind q f k ls) t h = listing-stops second q t _ _ h
+content-stops (Parsing.over e ls) t h = ap (stepPiece (Parsing.over e ls)) (h .in-expression)
+
+rules-stop : (s : Progress) (t : Token) → Stray t → stepRules s t ≡ none
+rules-stop beginning t h = ap (stepKey beginning) (h .outside)
+rules-stop (first-word n) t h = ap (stepKey (first-word n)) (h .outside)
+rules-stop (named d) t h = ap (stepKey (named d)) (h .outside)
+rules-stop (defined d) t h = ap (stepKey (defined d)) (h .outside)
+rules-stop (own-front q d) t h = listing-stops first q t _ _ h
+rules-stop (wants-tag f d) t h = ap (stepKey (wants-tag f d)) (h .outside)
+rules-stop (tagged f u d) t h = ap (stepKey (tagged f u d)) (h .outside)
+rules-stop (within x f u d) t h =
+    ap (λ o. parsing o (closes (keyOf t) (Rattle.reading.specs.Expressions.valueOfContent x) f u d) f u d) (content-stops x t h)
+    ∙ ap (λ k. closes k (Rattle.reading.specs.Expressions.valueOfContent x) f u d) (h .outside)
+rules-stop (closed f u e d) t h = ap (stepKey (closed f u e d)) (h .outside)
+rules-stop (own-back q f u e d) t h = listing-stops second q t _ _ h
+rules-stop (complete r d) t h = ap (stepKey (complete r d)) (h .outside)
+
+pub taken-is-fine : (s s′ : Progress) (t : Token) → stepRules s t ≡ some s′ → Fine t
+taken-is-fine s s′ t e = ⊎-elim (λ (f : Fine t). f) (λ (h : Stray t). absurd (none≢some (rules-stop s t h) e)) (fine-or-stray t)
