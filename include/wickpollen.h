@@ -6,7 +6,7 @@
    run at the same time.
 
    The library is for x86-64 and needs of a C library memcpy and memset alone; it allocates nothing, opens nothing and has no variables. Its
-   stack is bounded by the sheet's limits; with the example sheets it was measured at 130 KB, so a thread of its own should have 1 MB. */
+   stack is bounded by the sheet's limits: a call takes at most 75 kB of it, most of them for expressions nested 12 deep (bench/stack adds them up). */
 #ifndef WICKPOLLEN_H
 #define WICKPOLLEN_H
 #include <stddef.h>
@@ -52,13 +52,11 @@ uint64_t wickpollen_fresh(uint8_t *state, size_t state_len);
      28, 29     the stream had ended before; the state is none of this sheet's, or state_len is not what wickpollen_fresh answered.
 
    state[0 .. state_len) holds the state after the part; with 1 to 9, 28, 29, and where an earlier refusal is only repeated, nothing is
-   taken or written and every byte of the state is as it was. A state that wickpollen_fresh made, or that any other
-   number came with, has one form: what is not in use is 0, so it may be stored, and two of them hold the same exactly when their bytes are equal. A call that takes nothing and answers 16 or 17 leaves
-   the bytes of such a state as they were. counts[0] is at most part_len and counts[1] at most out_len.
+   taken or written and every byte of the state is as it was. A state that wickpollen_fresh made, or that any other number
+   came with, has one form: what is not in use is 0, so it may be stored, and two of them hold the same exactly when their bytes are
+   equal. A call that takes nothing and answers 16 or 17 leaves the bytes of such a state as they were. counts[0] is at most part_len and counts[1] at most out_len.
 
-   The sheet is tested in every call, so a part of some thousand bytes costs much less than as many small ones. A call takes at most
-   75 kB of stack, most of it for expressions nested 12 deep; with examples/programmes.sheet it takes 23 kB. (bench/stack; the
-   other two functions take 7 kB at most.) */
+   The sheet is tested in every call, so a part of some thousand bytes costs much less than as many small ones. */
 uint64_t wickpollen_run(const uint8_t *sheet, size_t sheet_len, uint8_t *state, size_t state_len, const uint8_t *part, size_t part_len,
                         uint64_t ended, uint8_t *out, size_t out_len, uint64_t *counts);
 
