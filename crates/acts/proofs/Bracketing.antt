@@ -36,8 +36,9 @@ use Rattle.state.proofs.Meant.{inside-open, meaning-saved, meaning-restored, sh
 use Rattle.visits.specs.Written.{Pen}
 use Rattle.visits.specs.Ran.{Comes as Came}
 use Rattle.visits.proofs.Running.{pen-at}
-use Rattle.ways.specs.Held.{codeOf, codes, LineIs}
-use Rattle.ways.specs.declared.Line.{Line}
+use Rattle.ways.specs.Held.{codeOf, codes}
+use Rattle.ways.specs.Answers.{mostBrackets}
+use Rattle.ways.proofs.Holds.{length-codes}
 use Rattle.acts.specs.Seen.{Outcome as Acted}
 use Rattle.acts.specs.Acted.{Done, Comes, visitReach, BracketsAs}
 use Rattle.acts.specs.Visited.{VisitedAs, Room, setsAfter, NodeAs, BracketAs}
@@ -320,35 +321,37 @@ pub record BracketAt (α : List Bracket) (l : List ℕ) (i : ℕ) : Type 0 where
   pub rest : drop i α ≡ it ∷ drop (suc i) α
   pub byte : getD l i 0 ≡ codeOf it
 
-bracket-at : (α : List Bracket) (zs : List ℕ) (i : ℕ) → i < length α → BracketAt α (codes α ++ zs) i
-bracket-at [] zs i h = absurd (omega arith)
-bracket-at (b ∷ α) zs zero h = record { it = b; rest = refl; byte = refl }
-bracket-at (b ∷ α) zs (suc i) h = let u = bracket-at α zs i (omega arith) in record { it = u .it; rest = u .rest; byte = u .byte }
+bracket-at : (α : List Bracket) (i : ℕ) → i < length α → BracketAt α (codes α) i
+bracket-at [] i h = absurd (omega arith)
+bracket-at (b ∷ α) zero h = record { it = b; rest = refl; byte = refl }
+bracket-at (b ∷ α) (suc i) h = let u = bracket-at α i (omega arith) in record { it = u .it; rest = u .rest; byte = u .byte }
 
-pub line-bracket : (α : List Bracket) (line : Line) → LineIs (some α) line → (i : ℕ) → i < line .length → BracketAt α (line .brackets) i
-line-bracket α line l i h =
-    subst (λ (bytes : List ℕ). BracketAt α bytes i) (sym (l .brackets-is)) (bracket-at α (replicate (128 - length α) 0) i (omega (arith, l .length-is)))
+codes-long : (α : List Bracket) (line : List ℕ) → line ≡ codes α → length line ≡ length α
+codes-long α line l = ap length l ∙ length-codes α
+
+pub line-bracket : (α : List Bracket) (line : List ℕ) → line ≡ codes α → (i : ℕ) → i < length line → BracketAt α line i
+line-bracket α line l i h = subst (λ (bytes : List ℕ). BracketAt α bytes i) (sym l) (bracket-at α i (omega (arith, codes-long α line l)))
 
 -- ---- the loop: after i brackets, what is left
-pub record LeftIn (s : List ℕ) (q : ℕ) (line : Line) (i : ℕ) (z₀ : State) (p : Pen) (z : State) (at : ℕ) (d : List ℕ) : Type 0 where
-  pub few : i ≤ line .length
+pub record LeftIn (s : List ℕ) (q : ℕ) (line : List ℕ) (i : ℕ) (z₀ : State) (p : Pen) (z : State) (at : ℕ) (d : List ℕ) : Type 0 where
+  pub few : i ≤ length line
   pub reach : at ≤ p .at + visitReach * i
   pub count : z .count ≤ z₀ .count + i
   pub deep : z .depth ≡ z₀ .depth
   pub dry : p .write ≡ false → d ≡ p .lent
-  pub left-of : (a : Sheet) → IsSheet s a → (α : List Bracket) → LineIs (some α) line → Shaped z₀ → (o : Open) (os : List Open) → meaningOf z₀ .control ≡ inside o os →
+  pub left-of : (a : Sheet) → IsSheet s a → (α : List Bracket) → line ≡ codes α → Shaped z₀ → (o : Open) (os : List Open) → meaningOf z₀ .control ≡ inside o os →
       (ns ns′ : List ℕ) → through-nodes 12 α ns ≡ some ns′ → topOf z₀ .«open» ≡ suc (length ns) → LeftOf a q α (drop i α) ns′ z₀ z p at d
 
 none-behind : (α : List Bracket) (i : ℕ) → i ≡ length α → drop i α ≡ []
 none-behind α i e = ap (λ (k : ℕ). drop k α) e ∙ drop-length α
 
-module _ (s : List ℕ) (q : ℕ) (line : Line) (z₀ : State) (p : Pen) where
+module _ (s : List ℕ) (q : ℕ) (line : List ℕ) (z₀ : State) (p : Pen) where
   pub all-left : LeftIn s q line 0 z₀ p z₀ (p .at) (p .lent)
   all-left = record { few = omega arith; reach = omega arith; count = omega arith; deep = refl; dry = λ u. refl; left-of = λ a y α l h o os e ns ns′ t n. left-all a q α ns ns′ z₀ p h t n }
 
   module _ (i : ℕ) (z : State) (at : ℕ) (d : List ℕ) (L : LeftIn s q line i z₀ p z at d) where
     -- the string has ended
-    pub none-left : line .length ≤ 128 → line .length ≤ i → BracketsAs s q line z₀ p (record { ok = true; at = at; state = z }) d
+    pub none-left : length line ≤ mostBrackets → length line ≤ i → BracketsAs s q line z₀ p (record { ok = true; at = at; state = z }) d
     none-left few past =
         record {
           reach = omega (arith, L .few, L .reach);
@@ -356,22 +359,22 @@ module _ (s : List ℕ) (q : ℕ) (line : Line) (z₀ : State) (p : Pen) where
           deep = L .deep;
           dry = L .dry;
           right = λ a y α l h o os e ns ns′ t n.
-              left-none s a y q α ns′ z₀ z p at d o os e (subst (λ (β : List Bracket). LeftOf a q α β ns′ z₀ z p at d) (none-behind α i (omega (arith, l .length-is, past, L .few))) (L .left-of a y α l h o os e ns ns′ t n));
+              left-none s a y q α ns′ z₀ z p at d o os e (subst (λ (β : List Bracket). LeftOf a q α β ns′ z₀ z p at d) (none-behind α i (omega (arith, codes-long α line l, past, L .few))) (L .left-of a y α l h o os e ns ns′ t n));
         }
 
     -- one more bracket
-    module _ (here : i < line .length) (v : Acted) (d₁ : List ℕ) (B : BracketAs s q (getD (line .brackets) i 0) z (pen-at p d at) v d₁) where
-      abbrev it : (α : List Bracket) → LineIs (some α) line → BracketAt α (line .brackets) i
+    module _ (here : i < length line) (v : Acted) (d₁ : List ℕ) (B : BracketAs s q (getD line i 0) z (pen-at p d at) v d₁) where
+      abbrev it : (α : List Bracket) → line ≡ codes α → BracketAt α (line) i
       it α l = line-bracket α line l i here
 
-      its-node : (α : List Bracket) (l : LineIs (some α) line) → NodeAs s q (it α l .it) z (pen-at p d at) v d₁
+      its-node : (α : List Bracket) (l : line ≡ codes α) → NodeAs s q (it α l .it) z (pen-at p d at) v d₁
       its-node α l = B .right (it α l .it) (it α l .byte)
 
-      at-it : (a : Sheet) → IsSheet s a → (α : List Bracket) (l : LineIs (some α) line) → Shaped z₀ → (o : Open) (os : List Open) → meaningOf z₀ .control ≡ inside o os →
+      at-it : (a : Sheet) → IsSheet s a → (α : List Bracket) (l : line ≡ codes α) → Shaped z₀ → (o : Open) (os : List Open) → meaningOf z₀ .control ≡ inside o os →
           (ns ns′ : List ℕ) → through-nodes 12 α ns ≡ some ns′ → topOf z₀ .«open» ≡ suc (length ns) → LeftOf a q α (it α l .it ∷ drop (suc i) α) ns′ z₀ z p at d
       at-it a y α l h o os e ns ns′ t n = subst (λ (β : List Bracket). LeftOf a q α β ns′ z₀ z p at d) (it α l .rest) (L .left-of a y α l h o os e ns ns′ t n)
 
-      pub stops-here : line .length ≤ 128 → v .ok ≡ false → BracketsAs s q line z₀ p v d₁
+      pub stops-here : length line ≤ mostBrackets → v .ok ≡ false → BracketsAs s q line z₀ p v d₁
       stops-here few f =
           record {
             reach = omega (arith, here, L .reach, B .reach);

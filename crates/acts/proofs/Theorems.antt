@@ -19,8 +19,7 @@ use Rattle.state.specs.Changes.{topOf}
 use Rattle.state.specs.Meaning.{meaningOf, opensOf, Shaped}
 use Rattle.state.specs.declared.State.{State}
 use Rattle.visits.specs.Written.{Pen}
-use Rattle.ways.specs.Held.{LineIs}
-use Rattle.ways.specs.declared.Line.{Line}
+use Rattle.ways.specs.Held.{codes}
 use Rattle.acts.specs.Seen.{Outcome as Acted}
 use Rattle.acts.specs.Acted.{Comes, BracketsAs, EntersAs, LeavesAs, ReadsAs}
 
@@ -53,7 +52,7 @@ module _ (z : State) (p : Pen) (r t : Acted) (d e : List ℕ) where
       pub one-answer-leave : LeavesAs s q z p r d → LeavesAs s q z p t e → 0 < topOf z .«open» → Agree p r t d e
       one-answer-leave R T n = one-outcome (act a (end-tag q) (meaningOf z .store)) (outer os) (R .dry) (T .dry) (R .right a y h o os k n) (T .right a y h o os k n)
 
-      pub one-answer-brackets : (line : Line) → BracketsAs s q line z p r d → BracketsAs s q line z p t e → (α : List Bracket) → LineIs (some α) line →
+      pub one-answer-brackets : (line : List ℕ) → BracketsAs s q line z p r d → BracketsAs s q line z p t e → (α : List Bracket) → line ≡ codes α →
           (ns ns′ : List ℕ) → through-nodes 12 α ns ≡ some ns′ → topOf z .«open» ≡ suc (length ns) → Agree p r t d e
       one-answer-brackets line R T α l ns ns′ w n =
           one-outcome (acts a (bracket-acts q α) (meaningOf z .store)) (meaningOf z .control) (R .dry) (T .dry) (R .right a y α l h o os k ns ns′ w n) (T .right a y α l h o os k ns ns′ w n)

@@ -12,8 +12,8 @@ use Rattle.expressions.specs.Words.{Bracket}
 use Rattle.sheet.specs.Sheet.{Sheet, IsSheet}
 use Rattle.visits.specs.Written.{Pen}
 use Rattle.visits.specs.Ran.{mostPrinted}
-use Rattle.ways.specs.Held.{LineIs}
-use Rattle.ways.specs.declared.Line.{Line}
+use Rattle.ways.specs.Held.{codes}
+use Rattle.ways.specs.Answers.{mostBrackets}
 use Rattle.runs.specs.Acts.{start-tag, end-tag, letter-read, bracket-acts, Store, act, acts}
 use Rattle.runs.specs.Machine.{Open, Control, inside, outer, at-start}
 use Rattle.runs.specs.Nodes.{through-nodes}
@@ -41,12 +41,12 @@ abbrev pub visitReach : ℕ
 visitReach = mostPrinted * 16384 + 64
 
 -- the brackets' visits of production q, where the string's openings and closings fit the sets that are kept: ns are the nodes open before it
-pub record BracketsAs (s : List ℕ) (q : ℕ) (line : Line) (z : State) (p : Pen) (r : Acted) (d : List ℕ) : Type 0 where
-  pub reach : r .at ≤ p .at + 128 * visitReach
-  pub count : r .state .count ≤ z .count + 128
+pub record BracketsAs (s : List ℕ) (q : ℕ) (line : List ℕ) (z : State) (p : Pen) (r : Acted) (d : List ℕ) : Type 0 where
+  pub reach : r .at ≤ p .at + mostBrackets * visitReach
+  pub count : r .state .count ≤ z .count + mostBrackets
   pub deep : r .state .depth ≡ z .depth
   pub dry : p .write ≡ false → d ≡ p .lent
-  pub right : (a : Sheet) → IsSheet s a → (α : List Bracket) → LineIs (some α) line → Shaped z → (o : Open) (os : List Open) → meaningOf z .control ≡ inside o os →
+  pub right : (a : Sheet) → IsSheet s a → (α : List Bracket) → line ≡ codes α → Shaped z → (o : Open) (os : List Open) → meaningOf z .control ≡ inside o os →
       (ns ns′ : List ℕ) → through-nodes 12 α ns ≡ some ns′ → topOf z .«open» ≡ suc (length ns) →
       Comes (acts a (bracket-acts q α) (meaningOf z .store)) (meaningOf z .control) z p r d
 

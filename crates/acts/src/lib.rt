@@ -8,6 +8,7 @@ ghost use Rattle.expressions.specs.Words.{opening, closing};
 ghost use Rattle.layout.specs.LaidOut.{LaidOut};
 ghost use Rattle.sheet.specs.Defect.{WellFormed};
 ghost use Rattle.live.specs.Live.{full, SameBelow};
+ghost use Rattle.ways.specs.Answers.{mostBrackets};
 ghost use Rattle.acts.specs.Seen.{seen};
 ghost use Rattle.acts.specs.Acted.{EntersAs, LeavesAs, ReadsAs, BracketsAs};
 ghost use Rattle.acts.specs.Visited.{FieldFound, VisitedAs, EchoedAs, NodeAs, BracketAs};
@@ -15,7 +16,6 @@ use layout::Layout;
 use live::Live;
 use state::Frame;
 use state::Saved;
-use ways::Line;
 
 // A field that names no program.
 const NONE: usize = 65535;
@@ -311,7 +311,7 @@ pub fn brackets(
     s: &[u8],
     l: Layout,
     q: usize,
-    line: Line,
+    line: &[u8],
     z: Live,
     out: &mut [u8],
     at: usize,
@@ -319,18 +319,17 @@ pub fn brackets(
 ) -> Acted
     requires { ⌜ LaidOut (now s) l ⌝ }
     requires { ⌜ q < l .productions ⌝ }
-    requires { ⌜ line .length ≤ 128 ⌝ }
+    requires { ⌜ length (now line) ≤ mostBrackets ⌝ }
     requires { ⌜ at ≤ 2 ^ 59 ⌝ }
     requires { ⌜ z .count ≤ 2 ^ 63 ⌝ }
     requires { ⌜ WellFormed (now s) ⌝ }
-    ensures { λ r. ⌜ ((b : List ℕ) → BracketsAs (now (s .entry)) q line (full z b) (record { write = write; lent = now (out .entry); at = at }) (seen r b) (now (out .exit))) ⌝ }
+    ensures { λ r. ⌜ ((b : List ℕ) → BracketsAs (now (s .entry)) q (now (line .entry)) (full z b) (record { write = write; lent = now (out .entry); at = at }) (seen r b) (now (out .exit))) ⌝ }
 {
-    let codes = line.brackets;
     let mut i = 0;
     let mut to = at;
     let mut live = z;
-    while i < line.length {
-        let next = bracket(s, l, q, codes[i], live, out, to, write);
+    while i < line.len() {
+        let next = bracket(s, l, q, line[i], live, out, to, write);
         if !next.ok {
             return next;
         }

@@ -9,16 +9,16 @@ use Prim.Native.Nat.{ℕ, suc, _+_, _*_, _≤_, _<_}
 use native.Mathlib.Omega.{arith}
 use borrow.Author.Tests.{eq-eqb, ne-eqb}
 use lib.Dec.{ltb}
-use lib.ListN.{length}
+use lib.ListN.{length, take}
 use Rattle.expressions.specs.Words.{Bracket}
 use Rattle.expressions.specs.Grammar.{contentOf}
 use Rattle.layout.specs.LaidOut.{Reads}
 use Rattle.layout.specs.Records.{tagNumberOf}
 use Rattle.sheet.specs.Sheet.{Sheet, IsSheet}
 use Rattle.visits.specs.Written.{Pen}
-use Rattle.ways.specs.Answers.{EndWayIs}
+use Rattle.ways.specs.Answers.{mostBrackets, EndWayIs}
 use Rattle.ways.specs.Held.{LineIs}
-use Rattle.ways.specs.declared.Line.{Line}
+use Rattle.ways.specs.Held.{LineIn as Line}
 use Rattle.runs.specs.Lookup.{tagOf}
 use Rattle.runs.specs.Visits.{grammar, Saved}
 use Rattle.runs.specs.Events.{ends}
@@ -35,7 +35,7 @@ use Rattle.state.proofs.Meant.{inside-open}
 use Rattle.acts.specs.Acted.{Done, Comes, BracketsAs, LeavesAs, visitReach}
 use Rattle.acts.specs.Seen.{Outcome as Acted}
 use Rattle.steps.specs.Seen.{Whole as Stepped}
-use Rattle.steps.specs.Stepped.{tagIn, SteppedAs}
+use Rattle.steps.specs.Stepped.{eventVisits, tagIn, SteppedAs}
 use Rattle.steps.specs.Parts.{answering}
 use Rattle.steps.proofs.Joined.{onPen}
 use Rattle.steps.proofs.Places.{Inside, inside-at, sets-are}
@@ -91,7 +91,7 @@ record Closes (a : Sheet) (z : State) (os : List Open) (t : ℕ) (p : Pen) (b : 
   left : (m : Store) → acts a (bracket-acts (topOf z .production) string) (meaningOf z .store) ≡ some m → Done (meaningOf z .control) m z p b mid → 0 < topOf (b .state) .«open»
 
 closes : {s : List ℕ} {a : Sheet} (i : IsSheet s a) {z : State} (h : Shaped z) (f : RunFits a (meaningOf z)) (o : 0 < z .depth) {t u : ℕ} → Reads 256 (tagNumberOf s (topOf z .production)) u → u ≡ t →
-    {w : Line} → EndWayIs s (topOf z .production) (topOf z .place) w → w .found ≡ true → {p : Pen} {b : Acted} {mid : List ℕ} → BracketsAs s (topOf z .production) w z p b mid →
+    {w : Line} → EndWayIs s (topOf z .production) (topOf z .place) w → w .found ≡ true → {p : Pen} {b : Acted} {mid : List ℕ} → BracketsAs s (topOf z .production) (take (w .length) (w .bytes)) z p b mid →
     Closes a z (inside-at z h o .around) t p b mid
 closes {s} {a} i {z} h f o R own {w} W there {p} {b} {mid} B =
     let j = inside-at z h o in
@@ -101,7 +101,7 @@ closes {s} {a} i {z} h f o R own {w} W there {p} {b} {mid} B =
     record {
       string = v .0;
       asks = own-turn i h f o R own (some (v .0)) (v .1);
-      comes = B .right a i (v .0) (subst (λ (y : Option (List Bracket)). LineIs y w) (v .1) L) h (openOf (topOf z)) (j .around) (j .stands) (T .0) [] (T .1) (sym (sets-are z h o) ∙ T .2);
+      comes = B .right a i (v .0) (subst (λ (y : Option (List Bracket)). LineIs y w) (v .1) L .string-is .1) h (openOf (topOf z)) (j .around) (j .stands) (T .0) [] (T .1) (sym (sets-are z h o) ∙ T .2);
       left = λ m e D. one-left a (topOf z .production) (v .0) z p b mid m h j (T .0) (T .1) (T .2) e D;
     }
 
@@ -119,18 +119,18 @@ module _ {s : List ℕ} {z : State} {p : Pen} {r : Stepped} {d : List ℕ} (t : 
       pub end-no-way : r ≡ refusedAt 23 z p → d ≡ p .lent → w .found ≡ false → SteppedAs s (ends (tagIn t)) z p r d
       end-no-way e k m = refusal 23 e k (λ a i h f. own-turn i h f o R own none (line-missing _ w (end-is i (top-below i h f o) W) m))
 
-      module _ (there : w .found ≡ true) {b : Acted} {mid : List ℕ} (B : BracketsAs s (topOf z .production) w z p b mid) where
+      module _ (there : w .found ≡ true) {b : Acted} {mid : List ℕ} (B : BracketsAs s (topOf z .production) (take (w .length) (w .bytes)) z p b mid) where
         pub end-rejected : d ≡ mid → b .ok ≡ false → r ≡ answering b → SteppedAs s (ends (tagIn t)) z p r d
         end-rejected same bad e =
             subst (λ (y : List ℕ). SteppedAs s (ends (tagIn t)) z p r y) (sym same)
-            (went-as b (128 * visitReach) 128 (omega arith) (omega arith) (record { reach = B .reach; count = B .count; dry = B .dry }) e
+            (went-as b (mostBrackets * visitReach) mostBrackets (omega arith) (omega arith) (record { reach = B .reach; count = B .count; dry = B .dry }) e
             (λ a i h f.
             let K = closes i h f o R own W there B in
             rejected-first a z p b mid (bracket-acts (topOf z .production) (K .string)) (end-tag (topOf z .production)) (meaningOf z .control) (outer (inside-at z h o .around)) (ends (tagIn t)) (K .asks) (K .comes) bad))
 
         pub end-done : b .ok ≡ true → (e : Acted) → LeavesAs s (topOf z .production) (b .state) (onPen p mid (b .at)) e d → r ≡ answering e → SteppedAs s (ends (tagIn t)) z p r d
         end-done good e E k =
-            went-as e (128 * visitReach + visitReach) 129 (omega arith) (omega arith)
+            went-as e (mostBrackets * visitReach + visitReach) eventVisits (omega arith) (omega arith)
             (went-on b e (record { reach = B .reach; count = B .count; dry = B .dry }) (record { reach = E .reach; count = E .count; dry = E .dry })) k right
           where
             right : Owed s (ends (tagIn t)) z p (answering e) d

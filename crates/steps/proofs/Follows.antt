@@ -8,8 +8,7 @@ use Prim.Native.Nat.{ℕ}
 use Rattle.expressions.specs.Grammar.{Next, tagsOf, contentOf}
 use Rattle.sheet.specs.Sheet.{Sheet, IsSheet}
 use Rattle.visits.specs.Written.{Pen}
-use Rattle.ways.specs.Held.{WayIs}
-use Rattle.ways.specs.declared.Way.{Way}
+use Rattle.ways.specs.Held.{codes}
 use Rattle.runs.specs.Acts.{Store, bracket-acts, acts}
 use Rattle.runs.specs.Way.{Way as Found, atomWay}
 use Rattle.runs.specs.Visits.{grammar}
@@ -38,37 +37,37 @@ moved o os m z p b d n e D =
       written = D .written;
     }
 
-module _ {s : List ℕ} {w : Way} {z : State} {p : Pen} (b : Acted) {d : List ℕ} (B : BracketsAs s (topOf z .production) (w .line) z p b d) where
+module _ {s : List ℕ} {line : List ℕ} {z : State} {p : Pen} (b : Acted) {d : List ℕ} (B : BracketsAs s (topOf z .production) line z p b d) where
   came : (a : Sheet) → IsSheet s a → Shaped z → RunFits a (meaningOf z) → (os : List Open) → meaningOf z .control ≡ inside (openOf (topOf z)) os →
-      (x : Next) (v : Found) → atomWay (tagsOf (grammar a)) (contentOf (grammar a) (topOf z .production)) (topOf z .place) x ≡ some v → WayIs (some v) w →
+      (x : Next) (v : Found) → atomWay (tagsOf (grammar a)) (contentOf (grammar a) (topOf z .production)) (topOf z .place) x ≡ some v → line ≡ codes (v .string) →
       Comes (acts a (bracket-acts (topOf z .production) (v .string)) (meaningOf z .store)) (meaningOf z .control) z p b d
   came a i h f os c x v e W =
       let t = top-balanced i h f (inside-open z (openOf (topOf z)) os c) x v e in
-      B .right a i (v .string) (W .line-is) h (openOf (topOf z)) os c (t .0) (t .1) (t .2) (t .3)
+      B .right a i (v .string) W h (openOf (topOf z)) os c (t .0) (t .1) (t .2) (t .3)
 
-  pub follow-rejected : b .ok ≡ false → FollowsAs s w z p b d
-  follow-rejected k =
+  pub follow-rejected : {place : ℕ} → b .ok ≡ false → FollowsAs s place line z p b d
+  follow-rejected {place} k =
       record {
         reach = B .reach;
         count = B .count;
         deep = B .deep;
         dry = B .dry;
-        right = λ a i h f os c x v e W.
+        right = λ a i h f os c x v e P W.
             let n = rejected-is (acts a (bracket-acts (topOf z .production) (v .string)) (meaningOf z .store)) (meaningOf z .control) z p b d (came a i h f os c x v e W) k in
             subst (λ (y : Option Store). Comes y (inside (at-place (openOf (topOf z)) (v .place)) os) z p b d) (sym n) k;
       }
 
-  pub follow-done : b .ok ≡ true → (r : Acted) → r ≡ record { ok = true; at = b .at; state = placed (b .state) (w .place) } → FollowsAs s w z p r d
-  follow-done k r q =
-      subst (λ (y : Acted). FollowsAs s w z p y d) (sym q)
+  pub follow-done : {place : ℕ} → b .ok ≡ true → (r : Acted) → r ≡ record { ok = true; at = b .at; state = placed (b .state) place } → FollowsAs s place line z p r d
+  follow-done {place} k r q =
+      subst (λ (y : Acted). FollowsAs s place line z p y d) (sym q)
       (record {
         reach = B .reach;
         count = B .count;
         deep = B .deep;
         dry = B .dry;
-        right = λ a i h f os c x v e W.
+        right = λ a i h f os c x v e P W.
             let D = done-is (acts a (bracket-acts (topOf z .production) (v .string)) (meaningOf z .store)) (meaningOf z .control) z p b d (came a i h f os c x v e W) k in
-            subst (λ (y : Option Store). Comes y (inside (at-place (openOf (topOf z)) (v .place)) os) z p (record { ok = true; at = b .at; state = placed (b .state) (w .place) }) d) (sym (D .1))
-            (subst (λ (n : ℕ). Done (inside (at-place (openOf (topOf z)) n) os) (D .0) z p (record { ok = true; at = b .at; state = placed (b .state) (w .place) }) d) (W .place-is)
-            (moved (openOf (topOf z)) os (D .0) z p b d (w .place) c (D .2)));
+            subst (λ (y : Option Store). Comes y (inside (at-place (openOf (topOf z)) (v .place)) os) z p (record { ok = true; at = b .at; state = placed (b .state) place }) d) (sym (D .1))
+            (subst (λ (n : ℕ). Done (inside (at-place (openOf (topOf z)) n) os) (D .0) z p (record { ok = true; at = b .at; state = placed (b .state) place }) d) P
+            (moved (openOf (topOf z)) os (D .0) z p b d place c (D .2)));
       })

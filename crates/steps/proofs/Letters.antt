@@ -6,12 +6,13 @@ use mathlib.Core.List.{List, [], _∷_, _++_}
 use mathlib.Core.Option.{Option}
 use Prim.Native.Nat.{ℕ, _+_, _*_, _<_}
 use native.Mathlib.Omega.{arith}
+use lib.ListN.{take}
 use Rattle.expressions.specs.Grammar.{character}
 use Rattle.trees.specs.declared.Symbol.the-variants.{Character}
 use Rattle.sheet.specs.Sheet.{Sheet}
 use Rattle.visits.specs.Written.{Pen}
-use Rattle.ways.specs.Answers.{AtomWayIs}
-use Rattle.ways.specs.declared.Way.{Way}
+use Rattle.ways.specs.Answers.{mostBrackets, AtomWayIs}
+use Rattle.ways.specs.Held.{WayIn as Way}
 use Rattle.runs.specs.Events.{letter}
 use Rattle.runs.specs.Acts.{letter-read, bracket-acts, act, acts}
 use Rattle.runs.specs.Way.{Way as Found}
@@ -50,20 +51,20 @@ module _ {s : List ℕ} {z : State} {p : Pen} {r : Stepped} {d : List ℕ} (c : 
         at-step a (meaningOf z) (inside (openOf (topOf z)) (j .around)) (j .stands) (letter c)
         ∙ ap (λ (y : Option Found). turned a (meaningOf z .store) (char-by (openOf (topOf z)) (j .around) c y)) (no-way-there i h f o W m))
 
-    module _ (there : w .line .found ≡ true) {u : Acted} {mid : List ℕ} (F : FollowsAs s w z p u mid) where
+    module _ (there : w .line .found ≡ true) {u : Acted} {mid : List ℕ} (F : FollowsAs s (w .place) (take (w .line .length) (w .line .bytes)) z p u mid) where
       pub char-rejected : d ≡ mid → u .ok ≡ false → r ≡ answering u → SteppedAs s (letter c) z p r d
       char-rejected same bad e =
           subst (λ (y : List ℕ). SteppedAs s (letter c) z p r y) (sym same)
-          (went-as u (128 * visitReach) 128 (omega arith) (omega arith) (record { reach = F .reach; count = F .count; dry = F .dry }) e
+          (went-as u (mostBrackets * visitReach) mostBrackets (omega arith) (omega arith) (record { reach = F .reach; count = F .count; dry = F .dry }) e
           (λ a i h f.
           let L = way-leads i h f o W there in
           let to : Control = inside (at-place (openOf (topOf z)) (L .way .place)) (L .os) in
           rejected-first a z p u mid (bracket-acts (topOf z .production) (L .way .string)) (letter-read c) to to (letter c) (char-turn a z c w L)
-          (F .right a i h f (L .os) (L .stands) character (L .way) (L .is-way) (L .held)) bad))
+          (F .right a i h f (L .os) (L .stands) character (L .way) (L .is-way) (L .held .place-is) (L .held .line-is .string-is .1)) bad))
 
       pub char-done : u .ok ≡ true → (e : Acted) → ReadsAs c (u .state) (onPen p mid (u .at)) e d → r ≡ answering e → SteppedAs s (letter c) z p r d
       char-done good e E k =
-          went-as e (128 * visitReach + visitReach) 128 (omega arith) (omega arith)
+          went-as e (mostBrackets * visitReach + visitReach) mostBrackets (omega arith) (omega arith)
           (went-on u e {v′ = 0} (record { reach = F .reach; count = F .count; dry = F .dry }) (record { reach = E .reach; count = omega (arith, E .count); dry = E .dry })) k right
         where
           right : Owed s (letter c) z p (answering e) d
@@ -71,6 +72,6 @@ module _ {s : List ℕ} {z : State} {p : Pen} {r : Stepped} {d : List ℕ} (c : 
               let L = way-leads i h f o W there in
               let to : Control = inside (at-place (openOf (topOf z)) (L .way .place)) (L .os) in
               both-done a z p u mid (bracket-acts (topOf z .production) (L .way .string)) (letter-read c) to to (letter c) (char-turn a z c w L)
-              (F .right a i h f (L .os) (L .stands) character (L .way) (L .is-way) (L .held)) good e d
+              (F .right a i h f (L .os) (L .stands) character (L .way) (L .is-way) (L .held .place-is) (L .held .line-is .string-is .1)) good e d
               (λ m D.
               subst (λ (y : Control). Comes (act a (letter-read c) (meaningOf (u .state) .store)) y (u .state) (onPen p mid (u .at)) e d) (ap (λ (y : Standing). y .control) (D .means)) (E .right a (D .shaped)))

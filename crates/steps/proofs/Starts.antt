@@ -9,14 +9,14 @@ use Prim.Native.Nat.{ℕ, suc, _+_, _*_, _≤_, _<_}
 use native.Mathlib.Omega.{arith}
 use borrow.Author.Tests.{lt-ltb, le-ltb, le-leb, lt-leb}
 use lib.Dec.{leb}
-use lib.ListN.{length}
+use lib.ListN.{length, take}
 use Rattle.expressions.specs.Grammar.{tag, contentOf}
 use Rattle.layout.specs.Layout.{start}
 use Rattle.trees.specs.declared.Symbol.the-variants.{Tag}
 use Rattle.sheet.specs.Sheet.{Sheet}
 use Rattle.visits.specs.Written.{Pen}
-use Rattle.ways.specs.Answers.{AtomWayIs}
-use Rattle.ways.specs.declared.Way.{Way}
+use Rattle.ways.specs.Answers.{mostBrackets, AtomWayIs}
+use Rattle.ways.specs.Held.{WayIn as Way}
 use Rattle.runs.specs.Lookup.{find}
 use Rattle.runs.specs.Visits.{grammar}
 use Rattle.runs.specs.Events.{Event, starts}
@@ -30,7 +30,7 @@ use Rattle.state.specs.Meaning.{openOf, opensOf, meaningOf}
 use Rattle.acts.specs.Acted.{Comes, EntersAs, visitReach}
 use Rattle.acts.specs.Seen.{Outcome as Acted}
 use Rattle.steps.specs.Seen.{Whole as Stepped}
-use Rattle.steps.specs.Stepped.{AnsweredAs, tagIn, SteppedAs}
+use Rattle.steps.specs.Stepped.{eventVisits, AnsweredAs, tagIn, SteppedAs}
 use Rattle.steps.specs.Parts.{answering, FollowsAs}
 use Rattle.steps.proofs.Joined.{onPen, answered-as}
 use Rattle.steps.proofs.Places.{outside, inside-at, depth-is}
@@ -138,21 +138,21 @@ module _ {s : List ℕ} {z : State} {p : Pen} {r : Stepped} {d : List ℕ} where
               let L = way-leads i h f o W there in
               depth-turn a z t q w g L (production-found i P real) false (lt-leb (suc (suc (length (L .os)))) 32 (omega (arith, L .deep, m))))
 
-          module _ (room : z .depth < 32) {u : Acted} {mid : List ℕ} (F : FollowsAs s w z p u mid) where
+          module _ (room : z .depth < 32) {u : Acted} {mid : List ℕ} (F : FollowsAs s (w .place) (take (w .line .length) (w .line .bytes)) z p u mid) where
             pub start-rejected : d ≡ mid → u .ok ≡ false → r ≡ answering u → SteppedAs s (starts (tagIn t)) z p r d
             start-rejected same bad e =
                 subst (λ (y : List ℕ). SteppedAs s (starts (tagIn t)) z p r y) (sym same)
-                (went-as u (128 * visitReach) 128 (omega arith) (omega arith) (record { reach = F .reach; count = F .count; dry = F .dry }) e
+                (went-as u (mostBrackets * visitReach) mostBrackets (omega arith) (omega arith) (record { reach = F .reach; count = F .count; dry = F .dry }) e
                 (λ a i h f.
                 let L = way-leads i h f o W there in
                 rejected-first a z p u mid (bracket-acts (topOf z .production) (L .way .string)) (start-tag q) (inside (at-place (openOf (topOf z)) (L .way .place)) (L .os))
                 (inside (at-start q) (at-place (openOf (topOf z)) (L .way .place) ∷ L .os)) (starts (tagIn t))
                 (depth-turn a z t q w g L (production-found i P real) true (le-leb (suc (suc (length (L .os)))) 32 (omega (arith, L .deep, room))))
-                (F .right a i h f (L .os) (L .stands) (tag t) (L .way) (L .is-way) (L .held)) bad))
+                (F .right a i h f (L .os) (L .stands) (tag t) (L .way) (L .is-way) (L .held .place-is) (L .held .line-is .string-is .1)) bad))
 
             pub start-done : u .ok ≡ true → (e : Acted) → EntersAs s q (u .state) (onPen p mid (u .at)) e d → r ≡ answering e → SteppedAs s (starts (tagIn t)) z p r d
             start-done good e E k =
-                went-as e (128 * visitReach + visitReach) 129 (omega arith) (omega arith)
+                went-as e (mostBrackets * visitReach + visitReach) eventVisits (omega arith) (omega arith)
                 (went-on u e (record { reach = F .reach; count = F .count; dry = F .dry }) (record { reach = E .reach; count = E .count; dry = E .dry })) k right
               where
                 right : Owed s (starts (tagIn t)) z p (answering e) d
@@ -161,7 +161,7 @@ module _ {s : List ℕ} {z : State} {p : Pen} {r : Stepped} {d : List ℕ} where
                     let to : Control = inside (at-place (openOf (topOf z)) (L .way .place)) (L .os) in
                     both-done a z p u mid (bracket-acts (topOf z .production) (L .way .string)) (start-tag q) to (inside (at-start q) (at-place (openOf (topOf z)) (L .way .place) ∷ L .os)) (starts (tagIn t))
                     (depth-turn a z t q w g L (production-found i P real) true (le-leb (suc (suc (length (L .os)))) 32 (omega (arith, L .deep, room))))
-                    (F .right a i h f (L .os) (L .stands) (tag t) (L .way) (L .is-way) (L .held)) good e d
+                    (F .right a i h f (L .os) (L .stands) (tag t) (L .way) (L .is-way) (L .held .place-is) (L .held .line-is .string-is .1)) good e d
                     (λ m D.
                     let at : meaningOf (u .state) .control ≡ to = ap (λ (y : Standing). y .control) (D .means) in
                     subst (λ (y : Control). Comes (act a (start-tag q) (meaningOf (u .state) .store)) (inside (at-start q) (opensOf y)) (u .state) (onPen p mid (u .at)) e d) at

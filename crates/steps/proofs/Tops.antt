@@ -30,8 +30,8 @@ use Rattle.visits.specs.Written.{Pen}
 use Rattle.sheet.proofs.SheetLaws.{sheet-grammar, few-productions}
 use Rattle.ways.specs.Held.{argumentNumber, LineIs, WayIs}
 use Rattle.ways.specs.Answers.{EndWayIs, AtomWayIs}
-use Rattle.ways.specs.declared.Line.{Line}
-use Rattle.ways.specs.declared.Way.{Way}
+use Rattle.ways.specs.Held.{LineIn as Line}
+use Rattle.ways.specs.Held.{WayIn as Way}
 use Rattle.runs.specs.Lookup.{tagOf, produces, find}
 use Rattle.runs.specs.Visits.{grammar}
 use Rattle.runs.specs.Way.{Way as Found, endWay, atomWay}
@@ -178,7 +178,7 @@ module _ (s : List ℕ) (z : State) {f : Frame} (e : f ≡ topOf z) where
   pub top-reads : {u : ℕ} → Reads 256 (tagNumberOf s (f .production)) u → Reads 256 (tagNumberOf s (topOf z .production)) u
   top-reads {u} h = subst (λ (k : Frame). Reads 256 (tagNumberOf s (k .production)) u) e h
 
-  pub top-brackets : {w : Line} {p : Pen} {r : Acted} {d : List ℕ} → BracketsAs s (f .production) w z p r d → BracketsAs s (topOf z .production) w z p r d
+  pub top-brackets : {w : List ℕ} {p : Pen} {r : Acted} {d : List ℕ} → BracketsAs s (f .production) w z p r d → BracketsAs s (topOf z .production) w z p r d
   top-brackets {w} {p} {r} {d} h = subst (λ (k : Frame). BracketsAs s (k .production) w z p r d) e h
 
   pub top-leaves : {b : State} {p : Pen} {r : Acted} {d : List ℕ} → LeavesAs s (f .production) b p r d → LeavesAs s (topOf z .production) b p r d

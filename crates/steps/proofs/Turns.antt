@@ -21,7 +21,7 @@ use Rattle.state.specs.declared.State.{State}
 use Rattle.acts.specs.Acted.{Done, Comes}
 use Rattle.acts.specs.Seen.{Outcome as Acted}
 use Rattle.steps.specs.Seen.{Whole as Stepped}
-use Rattle.steps.specs.Stepped.{AnsweredAs, SteppedAs, eventReach}
+use Rattle.steps.specs.Stepped.{eventVisits, AnsweredAs, SteppedAs, eventReach}
 use Rattle.steps.specs.Parts.{answering}
 use Rattle.steps.proofs.Joined.{onPen, join, answered-as}
 
@@ -49,7 +49,7 @@ pub record Went (bytes visits : ℕ) (z : State) (p : Pen) (r : Acted) (d : List
   pub count : r .state .count ≤ z .count + visits
   pub dry : p .write ≡ false → d ≡ p .lent
 
-pub went-as : {s : List ℕ} {x : Event} {z : State} {p : Pen} (e : Acted) {r : Stepped} {d : List ℕ} (bytes visits : ℕ) → bytes ≤ eventReach → visits ≤ 129 →
+pub went-as : {s : List ℕ} {x : Event} {z : State} {p : Pen} (e : Acted) {r : Stepped} {d : List ℕ} (bytes visits : ℕ) → bytes ≤ eventReach → visits ≤ eventVisits →
     Went bytes visits z p e d → r ≡ answering e → Owed s x z p (answering e) d → SteppedAs s x z p r d
 went-as {s} {x} {z} {p} e {r} {d} bytes visits b v w q f =
     subst (λ (y : Stepped). SteppedAs s x z p y d) (sym q) (record { reach = omega (arith, b, w .reach); count = omega (arith, v, w .count); dry = w .dry; right = f })

@@ -9,8 +9,8 @@ use lib.ListN.{length}
 use Rattle.expressions.specs.Grammar.{tagsOf, contentOf, Next}
 use Rattle.sheet.specs.Sheet.{Sheet, IsSheet}
 use Rattle.visits.specs.Written.{Pen}
-use Rattle.ways.specs.Held.{WayIs}
-use Rattle.ways.specs.declared.Way.{Way}
+use Rattle.ways.specs.Held.{codes}
+use Rattle.ways.specs.Answers.{mostBrackets}
 use Rattle.runs.specs.Acts.{bracket-acts, acts}
 use Rattle.runs.specs.Machine.{Open, inside, at-place}
 use Rattle.runs.specs.Spells.{Token, passesAt, stepToken}
@@ -29,7 +29,7 @@ use Rattle.live.specs.declared.Live.{Live}
 use Rattle.live.specs.Live.{full, SameBelow}
 use Rattle.steps.specs.Seen.{whole}
 use Rattle.steps.specs.Seen.{Whole as Stepped}
-use Rattle.steps.specs.Stepped.{AnsweredAs, SteppedAs, eventReach}
+use Rattle.steps.specs.Stepped.{AnsweredAs, SteppedAs, eventReach, eventVisits}
 
 -- the bytes are a sheet, and the state is of a run that fits it
 pub record Ready (s : List ℕ) (z : State) : Type 0 where
@@ -60,14 +60,14 @@ answeringLive x = record { number = cond (x .ok) 0 25; at = x .at; live = x .liv
 abbrev pub answering : Acted → Stepped
 answering x = record { number = cond (x .ok) 0 25; at = x .at; state = x .state }
 
--- the brackets' visits of a way to an atom that can be x, and the innermost element at its place
-pub record FollowsAs (s : List ℕ) (w : Way) (z : State) (p : Pen) (r : Acted) (d : List ℕ) : Type 0 where
-  pub reach : r .at ≤ p .at + 128 * visitReach
-  pub count : r .state .count ≤ z .count + 128
+-- the brackets' visits of a way to an atom that can be x, whose string's bytes are the line, and the innermost element at its place
+pub record FollowsAs (s : List ℕ) (place : ℕ) (line : List ℕ) (z : State) (p : Pen) (r : Acted) (d : List ℕ) : Type 0 where
+  pub reach : r .at ≤ p .at + mostBrackets * visitReach
+  pub count : r .state .count ≤ z .count + mostBrackets
   pub deep : r .state .depth ≡ z .depth
   pub dry : p .write ≡ false → d ≡ p .lent
   pub right : (a : Sheet) → IsSheet s a → Shaped z → RunFits a (meaningOf z) → (os : List Open) → meaningOf z .control ≡ inside (openOf (topOf z)) os →
-      (x : Next) (v : Found) → atomWay (tagsOf (grammar a)) (contentOf (grammar a) (topOf z .production)) (topOf z .place) x ≡ some v → WayIs (some v) w →
+      (x : Next) (v : Found) → atomWay (tagsOf (grammar a)) (contentOf (grammar a) (topOf z .production)) (topOf z .place) x ≡ some v → place ≡ v .place → line ≡ codes (v .string) →
       Comes (acts a (bracket-acts (topOf z .production) (v .string)) (meaningOf z .store)) (inside (at-place (openOf (topOf z)) (v .place)) os) z p r d
 
 -- whether white space is no event where the run stands
@@ -77,6 +77,6 @@ pub record PassesAs (s : List ℕ) (z : State) (r : Bool) : Type 0 where
 -- the token k
 pub record OneTokenAs (s : List ℕ) (k : Token) (z : State) (p : Pen) (r : Stepped) (d : List ℕ) : Type 0 where
   pub reach : r .at ≤ p .at + 2 * eventReach
-  pub count : r .state .count ≤ z .count + 258
+  pub count : r .state .count ≤ z .count + 2 * eventVisits
   pub dry : p .write ≡ false → d ≡ p .lent
   pub right : (a : Sheet) → IsSheet s a → Shaped z → RunFits a (meaningOf z) → AnsweredAs (stepToken a (meaningOf z) k) z p r d

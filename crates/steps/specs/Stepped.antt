@@ -19,6 +19,7 @@ use Rattle.calls.specs.Names.{tokenOf}
 use Rattle.fit.specs.RunFits.{RunFits}
 use Rattle.state.specs.Meaning.{meaningOf, Shaped}
 use Rattle.state.specs.declared.State.{State}
+use Rattle.ways.specs.Answers.{mostBrackets}
 use Rattle.acts.specs.Acted.{visitReach}
 use Rattle.steps.specs.Seen.{Whole as Stepped}
 
@@ -38,20 +39,23 @@ AnsweredAs (took m) z p r d = Took m z p r d
 abbrev pub tagIn : ℕ → Option ℕ
 tagIn t = cond (ltb t 256) (some t) none
 
--- the most that the visits of one event write, and the most visits of one
+-- the most visits of one event, a way's brackets and a production's own, and the most that they write
+abbrev pub eventVisits : ℕ
+eventVisits = mostBrackets + 1
+
 abbrev pub eventReach : ℕ
-eventReach = 129 * visitReach
+eventReach = eventVisits * visitReach
 
 -- the event x
 pub record SteppedAs (s : List ℕ) (x : Event) (z : State) (p : Pen) (r : Stepped) (d : List ℕ) : Type 0 where
   pub reach : r .at ≤ p .at + eventReach
-  pub count : r .state .count ≤ z .count + 129
+  pub count : r .state .count ≤ z .count + eventVisits
   pub dry : p .write ≡ false → d ≡ p .lent
   pub right : (a : Sheet) → IsSheet s a → Shaped z → RunFits a (meaningOf z) → AnsweredAs (step a (meaningOf z) x) z p r d
 
 -- the token e of a part, its start and its end together where it is an empty tag
 pub record TokenAs (s part : List ℕ) (e : Read) (z : State) (p : Pen) (r : Stepped) (d : List ℕ) : Type 0 where
   pub reach : r .at ≤ p .at + 2 * eventReach
-  pub count : r .state .count ≤ z .count + 258
+  pub count : r .state .count ≤ z .count + 2 * eventVisits
   pub dry : p .write ≡ false → d ≡ p .lent
   pub right : (a : Sheet) → IsSheet s a → Shaped z → RunFits a (meaningOf z) → AnsweredAs (stepToken a (meaningOf z) (tokenOf a part e)) z p r d

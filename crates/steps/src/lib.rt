@@ -7,9 +7,10 @@ ghost use Rattle.text.specs.Chars.{Char};
 ghost use Rattle.text.specs.Names.{blank};
 ghost use Rattle.runs.specs.Events.{starts, ends, letter};
 ghost use Rattle.live.specs.Live.{full};
+ghost use Rattle.ways.specs.Answers.{mostBrackets};
 ghost use Rattle.acts.specs.Seen.{seen};
 ghost use Rattle.steps.specs.Seen.{whole};
-ghost use Rattle.steps.specs.Stepped.{tagIn, SteppedAs, TokenAs};
+ghost use Rattle.steps.specs.Stepped.{tagIn, eventVisits, SteppedAs, TokenAs};
 ghost use Rattle.steps.specs.Taken.{EventIn, TakenAs};
 ghost use Rattle.steps.specs.Parts.{refusing, answeringLive, ReadyAt, Over, FollowsAs, PassesAs, OneTokenAs};
 ghost use Rattle.runs.specs.Spells.{empty-token, literal};
@@ -21,9 +22,7 @@ use lookups::production_for;
 use lookups::tag_named;
 use tokens::Event;
 use trees::Symbol;
-use ways::Way;
-use ways::way_to_atom;
-use ways::way_to_end;
+use ways::find_way;
 
 // What a lookup answers where there is no tag or production.
 const MISSING: usize = 256;
@@ -85,20 +84,28 @@ impl Run {
         }
     }
 
-    // The brackets' visits of a way, and then the innermost element at the way's place.
-    fn follow(self, s: &[u8], l: Layout, w: Way, stack: &[u8], out: &mut [u8], write: bool) -> Acted
+    // The brackets' visits of a way, whose string is the line, and then the innermost element at the way's place.
+    fn follow(
+        self,
+        s: &[u8],
+        l: Layout,
+        place: usize,
+        line: &[u8],
+        stack: &[u8],
+        out: &mut [u8],
+        write: bool,
+    ) -> Acted
         requires { ⌜ LaidOut (now s) l ⌝ }
         requires { ⌜ ReadyAt (now s) (self .live) (now stack) ⌝ }
         requires { ⌜ 0 < self .live .depth ⌝ }
-        requires { ⌜ w .place < 256 ⌝ }
-        requires { ⌜ w .line .length ≤ 128 ⌝ }
+        requires { ⌜ place < 256 ⌝ }
+        requires { ⌜ length (now line) ≤ mostBrackets ⌝ }
         requires { ⌜ self .at ≤ 2 ^ 58 ⌝ }
-        requires { ⌜ self .live .count ≤ 2 ^ 62 + 129 ⌝ }
-        ensures { λ r. ⌜ FollowsAs (now (s .entry)) w (full (self .live) (now (stack .entry))) (record { write = write; lent = now (out .entry); at = self .at }) (seen r (now (stack .entry))) (now (out .exit)) ⌝ }
+        requires { ⌜ self .live .count ≤ 2 ^ 62 + eventVisits ⌝ }
+        ensures { λ r. ⌜ FollowsAs (now (s .entry)) place (now (line .entry)) (full (self .live) (now (stack .entry))) (record { write = write; lent = now (out .entry); at = self .at }) (seen r (now (stack .entry))) (now (out .exit)) ⌝ }
     {
         let live = self.live;
         let f = live.top();
-        let line = w.line;
         let done = acts::brackets(s, l, f.production as usize, line, live, out, self.at, write);
         if !done.ok {
             return done;
@@ -107,7 +114,7 @@ impl Run {
         Acted {
             ok: true,
             at: done.at,
-            live: after.at_place(w.place as u8),
+            live: after.at_place(place as u8),
         }
     }
 
@@ -125,7 +132,7 @@ impl Run {
         requires { ⌜ ReadyAt (now s) (self .live) (now stack) ⌝ }
         requires { ⌜ self .live .depth ≡ 0 ⌝ }
         requires { ⌜ self .at ≤ 2 ^ 58 ⌝ }
-        requires { ⌜ self .live .count ≤ 2 ^ 62 + 129 ⌝ }
+        requires { ⌜ self .live .count ≤ 2 ^ 62 + eventVisits ⌝ }
         ensures { λ r. ⌜ Over (self .live) (now (stack .entry)) (now (stack .exit)) (SteppedAs (now (s .entry)) (starts (tagIn t)) (full (self .live) (now (stack .entry))) (record { write = write; lent = now (out .entry); at = self .at }) (whole r (now (stack .exit))) (now (out .exit))) ⌝ }
     {
         let live = self.live;
@@ -158,17 +165,19 @@ impl Run {
         requires { ⌜ 0 < self .live .depth ⌝ }
         requires { ⌜ t ≤ 255 ⌝ }
         requires { ⌜ self .at ≤ 2 ^ 58 ⌝ }
-        requires { ⌜ self .live .count ≤ 2 ^ 62 + 129 ⌝ }
+        requires { ⌜ self .live .count ≤ 2 ^ 62 + eventVisits ⌝ }
         ensures { λ r. ⌜ Over (self .live) (now (stack .entry)) (now (stack .exit)) (SteppedAs (now (s .entry)) (starts (tagIn t)) (full (self .live) (now (stack .entry))) (record { write = write; lent = now (out .entry); at = self .at }) (whole r (now (stack .exit))) (now (out .exit))) ⌝ }
     {
         let live = self.live;
         let f = live.top();
-        let w = way_to_atom(
+        let mut line = [0u8; ways::MOST];
+        let w = find_way(
             s,
             l,
             f.production as usize,
             f.place as usize,
             Symbol::Tag(t),
+            &mut line,
         );
         if !w.line.found {
             return self.refuse(23);
@@ -180,7 +189,8 @@ impl Run {
         if Live::DEPTH <= live.depth {
             return self.refuse(24);
         }
-        let led = self.follow(s, l, w, stack, out, write);
+        let n = w.line.length;
+        let led = self.follow(s, l, w.place, &line[..n], stack, out, write);
         if !led.ok {
             return answer(led);
         }
@@ -202,7 +212,7 @@ impl Run {
         requires { ⌜ LaidOut (now s) l ⌝ }
         requires { ⌜ ReadyAt (now s) (self .live) (now stack) ⌝ }
         requires { ⌜ self .at ≤ 2 ^ 58 ⌝ }
-        requires { ⌜ self .live .count ≤ 2 ^ 62 + 129 ⌝ }
+        requires { ⌜ self .live .count ≤ 2 ^ 62 + eventVisits ⌝ }
         ensures { λ r. ⌜ Over (self .live) (now (stack .entry)) (now (stack .exit)) (SteppedAs (now (s .entry)) (starts (tagIn t)) (full (self .live) (now (stack .entry))) (record { write = write; lent = now (out .entry); at = self .at }) (whole r (now (stack .exit))) (now (out .exit))) ⌝ }
     {
         if self.live.depth == 0 {
@@ -228,7 +238,7 @@ impl Run {
         requires { ⌜ ReadyAt (now s) (self .live) (now stack) ⌝ }
         requires { ⌜ 0 < self .live .depth ⌝ }
         requires { ⌜ self .at ≤ 2 ^ 58 ⌝ }
-        requires { ⌜ self .live .count ≤ 2 ^ 62 + 129 ⌝ }
+        requires { ⌜ self .live .count ≤ 2 ^ 62 + eventVisits ⌝ }
         ensures { λ r. ⌜ SteppedAs (now (s .entry)) (ends (tagIn t)) (full (self .live) (now (stack .entry))) (record { write = write; lent = now (out .entry); at = self .at }) (whole r (now (stack .entry))) (now (out .exit)) ⌝ }
     {
         let live = self.live;
@@ -237,11 +247,13 @@ impl Run {
         if layout::tag_number_of(s, l, q) != t {
             return self.refuse(22);
         }
-        let line = way_to_end(s, l, q, f.place as usize);
-        if !line.found {
+        let mut line = [0u8; ways::MOST];
+        let w = find_way(s, l, q, f.place as usize, Symbol::End, &mut line);
+        if !w.line.found {
             return self.refuse(23);
         }
-        let done = acts::brackets(s, l, q, line, live, out, self.at, write);
+        let n = w.line.length;
+        let done = acts::brackets(s, l, q, &line[..n], live, out, self.at, write);
         if !done.ok {
             return answer(done);
         }
@@ -263,7 +275,7 @@ impl Run {
         requires { ⌜ LaidOut (now s) l ⌝ }
         requires { ⌜ ReadyAt (now s) (self .live) (now stack) ⌝ }
         requires { ⌜ self .at ≤ 2 ^ 58 ⌝ }
-        requires { ⌜ self .live .count ≤ 2 ^ 62 + 129 ⌝ }
+        requires { ⌜ self .live .count ≤ 2 ^ 62 + eventVisits ⌝ }
         ensures { λ r. ⌜ SteppedAs (now (s .entry)) (ends (tagIn t)) (full (self .live) (now (stack .entry))) (record { write = write; lent = now (out .entry); at = self .at }) (whole r (now (stack .entry))) (now (out .exit)) ⌝ }
     {
         let live = self.live;
@@ -291,22 +303,25 @@ impl Run {
         requires { ⌜ 0 < self .live .depth ⌝ }
         requires { ⌜ Char c ⌝ }
         requires { ⌜ self .at ≤ 2 ^ 58 ⌝ }
-        requires { ⌜ self .live .count ≤ 2 ^ 62 + 129 ⌝ }
+        requires { ⌜ self .live .count ≤ 2 ^ 62 + eventVisits ⌝ }
         ensures { λ r. ⌜ SteppedAs (now (s .entry)) (letter c) (full (self .live) (now (stack .entry))) (record { write = write; lent = now (out .entry); at = self .at }) (whole r (now (stack .entry))) (now (out .exit)) ⌝ }
     {
         let live = self.live;
         let f = live.top();
-        let w = way_to_atom(
+        let mut line = [0u8; ways::MOST];
+        let w = find_way(
             s,
             l,
             f.production as usize,
             f.place as usize,
             Symbol::Character,
+            &mut line,
         );
         if !w.line.found {
             return self.refuse(23);
         }
-        let led = self.follow(s, l, w, stack, out, write);
+        let n = w.line.length;
+        let led = self.follow(s, l, w.place, &line[..n], stack, out, write);
         if !led.ok {
             return answer(led);
         }
@@ -329,7 +344,7 @@ impl Run {
         requires { ⌜ ReadyAt (now s) (self .live) (now stack) ⌝ }
         requires { ⌜ Char c ⌝ }
         requires { ⌜ self .at ≤ 2 ^ 58 ⌝ }
-        requires { ⌜ self .live .count ≤ 2 ^ 62 + 129 ⌝ }
+        requires { ⌜ self .live .count ≤ 2 ^ 62 + eventVisits ⌝ }
         ensures { λ r. ⌜ SteppedAs (now (s .entry)) (letter c) (full (self .live) (now (stack .entry))) (record { write = write; lent = now (out .entry); at = self .at }) (whole r (now (stack .entry))) (now (out .exit)) ⌝ }
     {
         let live = self.live;

@@ -13,23 +13,24 @@ use Rattle.runs.specs.Options.{orElse}
 use Rattle.runs.specs.Way.{led, into, out-of, across}
 use Rattle.trees.specs.declared.Symbol.{Symbol}
 use Rattle.trees.specs.Symbol.{nextOf}
-use Rattle.ways.specs.declared.Line.{Line}
-use Rattle.ways.specs.declared.Way.{Way}
+use Rattle.ways.specs.Held.{LineIn as Line}
+use Rattle.ways.specs.Held.{WayIn as Way}
 use Rattle.ways.specs.declared.Spot.{Spot}
 use Rattle.ways.specs.declared.Parts.{Parts}
-use Rattle.ways.specs.Held.{WayIs}
+use Rattle.ways.specs.Held.{again, Kept, WayIs, MissingWay}
 use Rattle.ways.specs.Spot.{SpotIn, PartOf, PartsOf}
 use Rattle.ways.specs.Walks.{Into, OutOf, Across}
 use Rattle.ways.proofs.Strings.{led-assoc, led-none, led-first, led-second}
-use Rattle.ways.proofs.Holds.{way-moved}
+use Rattle.ways.proofs.Holds.{way-moved, kept-then, kept-again, line-again, missing-kept, missing-way}
 use Rattle.ways.proofs.Spots.{by-leaf, by-star, by-two, by-cat, by-alt, part-at}
 
 module _ (s : List ℕ) (t : Spot) (k : ℕ) (kind : k ≡ kindOf s (t .node)) (p : ℕ) (x : Symbol) (w : Line) where
-  pub across-leaf : k < 3 → (r : Way) → WayIs none r → Across s t p x w r
+  pub across-leaf : k < 3 → (r : Way) → MissingWay w r → Across s t p x w r
   across-leaf b r z =
       record {
         few = omega (arith, z .line-is .length-is);
-        is = λ g γ e i j at o h. by-leaf s t k kind (λ (u : Exp). WayIs (led o (across (tagsOf g) u i j p (nextOf x))) r) b (λ _ _. way-moved (sym (led-none o)) z) e at;
+        kept = missing-kept (z .line-is);
+        is = λ g γ e i j at o h. by-leaf s t k kind (λ (u : Exp). WayIs (led o (across (tagsOf g) u i j p (nextOf x))) r) b (λ _ _. way-moved (sym (led-none o)) (missing-way z)) e at;
       }
 
   -- a star: within one turn, or out of it and into the next
@@ -38,6 +39,7 @@ module _ (s : List ℕ) (t : Spot) (k : ℕ) (kind : k ≡ kindOf s (t .node)) (
     across-turn found =
         record {
           few = omega (arith, inner .few, part .nodes-are, spot .any);
+          kept = inner .kept;
           is = λ g γ e i j at o h. by-star s t k kind (λ (u : Exp). WayIs (led o (across (tagsOf g) u i j p (nextOf x))) a) b
               (λ f y.
               let v = across (tagsOf g) f (suc i) j p (nextOf x) in
@@ -47,10 +49,11 @@ module _ (s : List ℕ) (t : Spot) (k : ℕ) (kind : k ≡ kindOf s (t .node)) (
               e at;
         }
 
-    pub across-turns : a .line .found ≡ false → (out : Line) → OutOf s only p w out → (r : Way) → Into s only x out r → Across s t p x w r
+    pub across-turns : a .line .found ≡ false → (out : Line) → OutOf s only p (again w (a .line .bytes)) out → (r : Way) → Into s only x out r → Across s t p x w r
     across-turns missed out left r entered =
         record {
           few = omega (arith, left .few, entered .few, part .nodes-are, spot .any);
+          kept = kept-then (kept-again (inner .kept)) (kept-then (left .kept) (entered .kept));
           is = λ g γ e i j at o h. by-star s t k kind (λ (u : Exp). WayIs (led o (across (tagsOf g) u i j p (nextOf x))) r) b
               (λ f y.
               let v = across (tagsOf g) f (suc i) j p (nextOf x) in
@@ -58,7 +61,7 @@ module _ (s : List ℕ) (t : Spot) (k : ℕ) (kind : k ≡ kindOf s (t .node)) (
               let q = into (tagsOf g) f (suc i) j (nextOf x) in
               let here = part-at s t only part f y i j (at .bracket-is) (at .atom-is) in
               let tried = inner .is g γ f _ _ here o h in
-              way-moved (led-assoc o u q ∙ led-second o v (led u q) (sym (tried .line-is .found-is) ∙ missed)) (entered .is g γ f _ _ here _ (left .is f _ _ here o h)))
+              way-moved (led-assoc o u q ∙ led-second o v (led u q) (sym (tried .line-is .found-is) ∙ missed)) (entered .is g γ f _ _ here _ (left .is f _ _ here o (line-again (inner .kept) o h))))
               e at;
         }
 
@@ -67,6 +70,7 @@ module _ (s : List ℕ) (t : Spot) (k : ℕ) (kind : k ≡ kindOf s (t .node)) (
     across-first found =
         record {
           few = omega (arith, parts .both, first .few);
+          kept = first .kept;
           is = λ g γ e i j at o h.
               let next = nextOf x in
               by-two s t k kind (λ (u : Exp). WayIs (led o (across (tagsOf g) u i j p next)) a) low high
@@ -88,11 +92,15 @@ module _ (s : List ℕ) (t : Spot) (k : ℕ) (kind : k ≡ kindOf s (t .node)) (
 
     module _ (missed : a .line .found ≡ false) where
       -- a concatenation: out of the first part and into the second, or within the second
-      module _ (c : k ≡ 3) (out : Line) (left : OutOf s (two .first) p w out) (b : Way) (entered : Into s (two .second) x out b) where
+      module _ (c : k ≡ 3) (out : Line) (left : OutOf s (two .first) p (again w (a .line .bytes)) out) (b : Way) (entered : Into s (two .second) x out b) where
+        between : Kept w (b .line)
+        between = kept-then (kept-again (first .kept)) (kept-then (left .kept) (entered .kept))
+
         pub across-between : b .line .found ≡ true → Across s t p x w b
         across-between found =
             record {
               few = omega (arith, parts .both, left .few, entered .few);
+              kept = between;
               is = λ g γ e i j at o h. by-cat s t k kind (λ (u : Exp). WayIs (led o (across (tagsOf g) u i j p (nextOf x))) b) c
                   (λ l m y z.
                   let v = across (tagsOf g) l (suc i) j p (nextOf x) in
@@ -101,16 +109,17 @@ module _ (s : List ℕ) (t : Spot) (k : ℕ) (kind : k ≡ kindOf s (t .node)) (
                   let q = across (tagsOf g) m (suc i + nodes l) (j + atoms l) p (nextOf x) in
                   let here = parts .first-at l y i j (at .bracket-is) (at .atom-is) in
                   let tried = first .is g γ l _ _ here o h in
-                  let over = entered .is g γ m _ _ (parts .second-at l m y z i j (at .bracket-is) (at .atom-is)) _ (left .is l _ _ here o h) in
+                  let over = entered .is g γ m _ _ (parts .second-at l m y z i j (at .bracket-is) (at .atom-is)) _ (left .is l _ _ here o (line-again (first .kept) o h)) in
                   let moved = way-moved (led-assoc o u n ∙ led-second o v (led u n) (sym (tried .line-is .found-is) ∙ missed)) over in
                   way-moved (led-first o (orElse v (led u n)) q (sym (moved .line-is .found-is) ∙ found)) moved)
                   e at;
             }
 
-        pub across-cat : b .line .found ≡ false → (r : Way) → Across s (two .second) p x w r → Across s t p x w r
+        pub across-cat : b .line .found ≡ false → (r : Way) → Across s (two .second) p x (again w (b .line .bytes)) r → Across s t p x w r
         across-cat missed-too r second =
             record {
               few = omega (arith, parts .both, second .few);
+              kept = kept-then (kept-again between) (second .kept);
               is = λ g γ e i j at o h. by-cat s t k kind (λ (u : Exp). WayIs (led o (across (tagsOf g) u i j p (nextOf x))) r) c
                   (λ l m y z.
                   let v = across (tagsOf g) l (suc i) j p (nextOf x) in
@@ -120,22 +129,23 @@ module _ (s : List ℕ) (t : Spot) (k : ℕ) (kind : k ≡ kindOf s (t .node)) (
                   let here = parts .first-at l y i j (at .bracket-is) (at .atom-is) in
                   let there-at = parts .second-at l m y z i j (at .bracket-is) (at .atom-is) in
                   let tried = first .is g γ l _ _ here o h in
-                  let over = entered .is g γ m _ _ there-at _ (left .is l _ _ here o h) in
+                  let over = entered .is g γ m _ _ there-at _ (left .is l _ _ here o (line-again (first .kept) o h)) in
                   let moved = way-moved (led-assoc o u n ∙ led-second o v (led u n) (sym (tried .line-is .found-is) ∙ missed)) over in
-                  way-moved (led-second o (orElse v (led u n)) q (sym (moved .line-is .found-is) ∙ missed-too)) (second .is g γ m _ _ there-at o h))
+                  way-moved (led-second o (orElse v (led u n)) q (sym (moved .line-is .found-is) ∙ missed-too)) (second .is g γ m _ _ there-at o (line-again between o h)))
                   e at;
             }
 
-      pub across-alt : (k ≡ 3 → ⊥) → (r : Way) → Across s (two .second) p x w r → Across s t p x w r
+      pub across-alt : (k ≡ 3 → ⊥) → (r : Way) → Across s (two .second) p x (again w (a .line .bytes)) r → Across s t p x w r
       across-alt c r second =
           record {
             few = omega (arith, parts .both, second .few);
+            kept = kept-then (kept-again (first .kept)) (second .kept);
             is = λ g γ e i j at o h. by-alt s t k kind (λ (u : Exp). WayIs (led o (across (tagsOf g) u i j p (nextOf x))) r) low high c
                 (λ l m y z.
                 let v = across (tagsOf g) l (suc i) j p (nextOf x) in
                 let q = across (tagsOf g) m (suc i + nodes l) (j + atoms l) p (nextOf x) in
                 let tried = first .is g γ l _ _ (parts .first-at l y i j (at .bracket-is) (at .atom-is)) o h in
                 way-moved (led-second o v q (sym (tried .line-is .found-is) ∙ missed))
-                (second .is g γ m _ _ (parts .second-at l m y z i j (at .bracket-is) (at .atom-is)) o h))
+                (second .is g γ m _ _ (parts .second-at l m y z i j (at .bracket-is) (at .atom-is)) o (line-again (first .kept) o h)))
                 e at;
           }

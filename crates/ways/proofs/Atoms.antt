@@ -17,14 +17,14 @@ use Rattle.trees.specs.GrammarAt.{GrammarIs}
 use Rattle.trees.specs.Symbol.{nextOf}
 use Rattle.trees.specs.Answers.{CanBeIs, CharacterIs}
 use Rattle.trees.proofs.Answers.{can-be-of-grammar}
-use Rattle.ways.specs.declared.Line.{Line}
-use Rattle.ways.specs.declared.Way.{Way}
+use Rattle.ways.specs.Held.{LineIn as Line}
+use Rattle.ways.specs.Held.{WayIn as Way}
 use Rattle.ways.specs.declared.Spot.{Spot}
-use Rattle.ways.specs.Held.{kindNumber, argumentNumber, LineIs, WayIs}
+use Rattle.ways.specs.Held.{kindNumber, argumentNumber, LineIs, Kept, WayIs, MissingWay}
 use Rattle.ways.specs.Spot.{At}
 use Rattle.ways.specs.Walks.{CanIs, AtomWay}
 use Rattle.ways.proofs.Strings.{led-none}
-use Rattle.ways.proofs.Holds.{line-moved, way-moved}
+use Rattle.ways.proofs.Holds.{line-moved, way-moved, kept-itself, missing-kept, missing-way, absent-way}
 
 module _ (s : List ℕ) (k n : ℕ) (x : Symbol) (r : Bool) where
   nonterminal-of : k ≡ 1 → CanBeIs s n x r → (g : List Production) → GrammarIs s g → (a : Atom) → k ≡ kindNumber a → n ≡ argumentNumber a → r ≡ canBe (tagsOf g) a (nextOf x)
@@ -42,12 +42,13 @@ module _ (s : List ℕ) (k n : ℕ) (x : Symbol) (r : Bool) where
   can-character e c = record { is = character-of e c }
 
 module _ (s : List ℕ) (t : Spot) (x : Symbol) (w : Line) where
-  absent-of : w .found ≡ false → (r : Way) → WayIs none r → (o : Option (List Bracket)) → LineIs o w → (v : Option Found) → WayIs (led o v) r
-  absent-of f r z none h v = z
-  absent-of f r z (some α) h v = absurd (true≢false (sym (h .found-is) ∙ f))
-
-  pub atom-absent : w .found ≡ false → (r : Way) → WayIs none r → AtomWay s t x w r
-  atom-absent f r z = record { few = omega (arith, z .line-is .length-is); is = λ g γ a i j at o h. absent-of f r z o h (whenTrue (canBe (tagsOf g) a (nextOf x)) (record { string = []; place = j; kind = a })) }
+  pub atom-absent : w .found ≡ false → (r : Way) → MissingWay w r → AtomWay s t x w r
+  atom-absent f r z =
+      record {
+        few = omega (arith, z .line-is .length-is);
+        kept = missing-kept (z .line-is);
+        is = λ g γ a i j at o h. absent-way w f r z o h (whenTrue (canBe (tagsOf g) a (nextOf x)) (record { string = []; place = j; kind = a }));
+      }
 
   module _ (k n : ℕ) (kind : k ≡ kindOf s (t .node)) (argument : n ≡ argumentOf s (t .node)) (hit : Bool) (can : CanIs s k n x hit) where
     kind-of : {i j : ℕ} (a : Atom) → At s t (atom a) i j → k ≡ kindNumber a
@@ -61,12 +62,14 @@ module _ (s : List ℕ) (t : Spot) (x : Symbol) (w : Line) where
     told : (g : List Production) → GrammarIs s g → {i j : ℕ} (a : Atom) → At s t (atom a) i j → hit ≡ canBe (tagsOf g) a (nextOf x)
     told g γ a h = can .is g γ a (kind-of a h) (argument-of a h)
 
-    pub atom-cannot : hit ≡ false → (r : Way) → WayIs none r → AtomWay s t x w r
+    pub atom-cannot : hit ≡ false → (r : Way) → MissingWay w r → AtomWay s t x w r
     atom-cannot f r z =
         record {
           few = omega (arith, z .line-is .length-is);
+          kept = missing-kept (z .line-is);
           is = λ g γ a i j at o h.
-              subst (λ (b : Bool). WayIs (led o (whenTrue b (record { string = []; place = j; kind = a }))) r) (sym f ∙ told g γ a at) (way-moved (sym (led-none o)) z);
+              subst (λ (b : Bool). WayIs (led o (whenTrue b (record { string = []; place = j; kind = a }))) r) (sym f ∙ told g γ a at)
+              (way-moved (sym (led-none o)) (missing-way z));
         }
 
     module _ (found : w .found ≡ true) (r : Way) (line : r .line ≡ w) (place : r .place ≡ t .atom) (kind-is : r .kind ≡ k) (argument-is : r .argument ≡ n) where
@@ -84,6 +87,7 @@ module _ (s : List ℕ) (t : Spot) (x : Symbol) (w : Line) where
       atom-reached f =
           record {
             few = rw line (omega arith);
+            kept = subst (Kept w) (sym line) (kept-itself w);
             is = λ g γ a i j at o h.
                 subst (λ (b : Bool). WayIs (led o (whenTrue b (record { string = []; place = j; kind = a }))) r) (sym f ∙ told g γ a at) (reached a at o h);
           }

@@ -1,21 +1,17 @@
--- What is held tells the string and the way: two that are held alike are equal. The bytes before the zeros are the brackets', and no
--- two brackets have one byte.
+-- What is held tells the string and the way: two that are held alike are equal, as no two brackets have one byte.
 -- Assumes nothing.
 use mathlib.Core.Path.{_≡_, refl, sym, _∙_, ap}
 use mathlib.Core.Bool.{Bool, true, false, true≢false}
 use mathlib.Core.List.{List, [], _∷_, _++_}
 use mathlib.Core.Option.{Option, none, some}
-use Prim.Native.Nat.{ℕ, suc, _-_}
+use Prim.Native.Nat.{ℕ, suc}
 use native.Mathlib.Omega.{arith}
-use lib.ListN.{length, take, replicate}
-use lib.Seq.{take-at}
 use Rattle.expressions.specs.Expr.{Atom, nonterminal, anychar}
 use Rattle.expressions.specs.Words.{Bracket, opening, closing}
 use Rattle.runs.specs.Way.{Way as Found}
-use Rattle.ways.specs.declared.Line.{Line}
-use Rattle.ways.specs.declared.Way.{Way}
+use Rattle.ways.specs.Held.{LineIn as Line}
+use Rattle.ways.specs.Held.{WayIn as Way}
 use Rattle.ways.specs.Held.{codeOf, codes, there, stringIn, LineIs, kindNumber, argumentNumber, WayIs}
-use Rattle.ways.proofs.Holds.{length-codes}
 
 one-bracket : (c d : Bracket) → codeOf c ≡ codeOf d → c ≡ d
 one-bracket (opening i) (opening k) e = ap opening (omega arith)
@@ -34,17 +30,11 @@ one-string (c ∷ α) (d ∷ β) e =
     let y = one-string α β tail in
     cc
 
--- the bytes that count
-pub line-bytes : (o : Option (List Bracket)) (r : Line) → LineIs o r → take (r .length) (r .brackets) ≡ codes (stringIn o)
-line-bytes o r h =
-    let α = stringIn o in
-    ap (λ (l : List ℕ). take (r .length) l) (h .brackets-is) ∙ take-at (codes α) (replicate (128 - length α) 0) (r .length) (length-codes α ∙ sym (h .length-is))
-
 pub same-string : (o p : Option (List Bracket)) (r : Line) → LineIs o r → LineIs p r → o ≡ p
 same-string none none r h k = refl
 same-string none (some β) r h k = absurd (true≢false (sym (k .found-is) ∙ h .found-is))
 same-string (some α) none r h k = absurd (true≢false (sym (h .found-is) ∙ k .found-is))
-same-string (some α) (some β) r h k = ap some (one-string α β (sym (line-bytes (some α) r h) ∙ line-bytes (some β) r k))
+same-string (some α) (some β) r h k = ap some (one-string α β (sym (h .string-is .1) ∙ k .string-is .1))
 
 one-atom : (a b : Atom) → kindNumber a ≡ kindNumber b → argumentNumber a ≡ argumentNumber b → a ≡ b
 one-atom (nonterminal m) (nonterminal n) e f = ap nonterminal f

@@ -1,18 +1,16 @@
--- One more bracket: the byte goes where the zeros begin. And that a string, or a way, is held in one manner only.
+-- One more bracket: the byte goes behind the string's. And what stays in the lent bytes while walks write behind it.
 -- Assumes nothing.
 use mathlib.Core.Path.{_≡_, refl, sym, _∙_, ap, subst}
 use mathlib.Core.Bool.{Bool, true, false, not, true≢false}
-use mathlib.Core.List.{List, [], _∷_, _++_, append-assoc}
+use mathlib.Core.List.{List, [], _∷_, _++_}
 use mathlib.Core.Option.{Option, none, some}
-use Prim.Native.Nat.{ℕ, suc, _+_, _-_, _≤_, _<_}
+use Prim.Native.Nat.{ℕ, suc, _+_, _≤_, _<_}
 use native.Mathlib.Omega.{arith}
-use lib.ListN.{length, replicate, set, length-append}
-use lib.Seq.{set-at}
+use lib.ListN.{length, take, set, length-append, length-set}
+use lib.Seq.{take-take, take-set-le, take-suc-set}
 use Rattle.expressions.specs.Words.{Bracket}
-use Rattle.runs.specs.Way.{Way as Found, joined}
-use Rattle.ways.specs.declared.Line.{Line}
-use Rattle.ways.specs.declared.Way.{Way}
-use Rattle.ways.specs.Held.{codeOf, codes, there, LineIs, WayIs, Pushed, Bracketed}
+use Rattle.runs.specs.Way.{Way as Found, joined, led}
+use Rattle.ways.specs.Held.{LineIn as Line, WayIn as Way, again, codeOf, codes, LineIs, Kept, Missing, WayIs, MissingWay, Pushed, Bracketed}
 
 pub line-moved : {o p : Option (List Bracket)} {r : Line} → o ≡ p → LineIs o r → LineIs p r
 line-moved {o} {p} {r} e h = subst (λ (z : Option (List Bracket)). LineIs z r) e h
@@ -37,63 +35,86 @@ codes-snoc : (α : List Bracket) (c : Bracket) → codes (α ++ c ∷ []) ≡ co
 codes-snoc [] c = refl
 codes-snoc (d ∷ α) c = ap (λ (l : List ℕ). codeOf d ∷ l) (codes-snoc α c)
 
-pushed-bytes : (α : List Bracket) (c : Bracket) (b : ℕ) → b ≡ codeOf c → length α < 128 →
-    set (codes α ++ replicate (128 - length α) 0) (length α) b ≡ codes (α ++ c ∷ []) ++ replicate (128 - length (α ++ c ∷ [])) 0
-pushed-bytes α c b e h =
-    let zeros : List ℕ = replicate (127 - length α) 0 in
-    let m : 128 - length α ≡ suc (127 - length α) = omega arith in
-    let n : 127 - length α ≡ 128 - length (α ++ c ∷ []) = omega (arith, length-append α (c ∷ [])) in
-    ap (λ (k : ℕ). set (codes α ++ replicate k 0) (length α) b) m
-    ∙ set-at (codes α) 0 zeros b (length α) (length-codes α)
-    ∙ ap (λ (k : ℕ). codes α ++ k ∷ zeros) e
-    ∙ sym (append-assoc (codes α) (codeOf c ∷ []) zeros)
-    ∙ ap (λ (l : List ℕ). l ++ zeros) (sym (codes-snoc α c))
-    ∙ ap (λ (k : ℕ). codes (α ++ c ∷ []) ++ replicate k 0) n
+-- what stays: itself, one after another, and a line that is used again
+pub kept-itself : (w : Line) → Kept w w
+kept-itself w = record { low = omega arith; long = refl; same = refl }
+
+pub kept-then : {w r q : Line} → Kept w r → Kept r q → Kept w q
+kept-then {w} {r} {q} h k =
+    record {
+      low = omega (arith, h .low, k .low);
+      long = k .long ∙ h .long;
+      same =
+          sym (take-take (w .length) (r .length) (q .bytes) (h .low)) ∙ ap (take (w .length)) (k .same) ∙ take-take (w .length) (r .length) (r .bytes) (h .low)
+          ∙ h .same;
+    }
+
+pub kept-again : {w r : Line} → Kept w r → Kept w (again w (r .bytes))
+kept-again {w} {r} h = record { low = omega arith; long = h .long; same = h .same }
+
+pub line-with : {w : Line} (b : List ℕ) → take (w .length) b ≡ take (w .length) (w .bytes) → (o : Option (List Bracket)) → LineIs o w → LineIs o (again w b)
+line-with b same none l = record { found-is = l .found-is; string-is = tt }
+line-with b same (some α) l = record { found-is = l .found-is; string-is = (l .string-is .0, same ∙ l .string-is .1) }
+
+pub line-again : {w r : Line} → Kept w r → (o : Option (List Bracket)) → LineIs o w → LineIs o (again w (r .bytes))
+line-again {w} {r} h o l = line-with (r .bytes) (h .same) o l
+
+-- none
+pub missing-line : {w r : Line} → Missing w r → LineIs none r
+missing-line z = record { found-is = z .found-is; string-is = tt }
+
+pub missing-kept : {w r : Line} → Missing w r → Kept w r
+missing-kept {w} {r} z = record { low = omega (arith, z .length-is); long = ap length (z .bytes-are); same = ap (take (w .length)) (z .bytes-are) }
+
+pub missing-way : {w : Line} {r : Way} → MissingWay w r → WayIs none r
+missing-way z = record { line-is = missing-line (z .line-is); place-is = z .place-is; kind-is = z .kind-is; argument-is = z .argument-is }
+
+-- from no string there is none
+module _ (w : Line) (f : w .found ≡ false) where
+  pub absent-line : (o : Option (List Bracket)) → LineIs o w → (p : Option (List Bracket)) → LineIs (joined o p) w
+  absent-line none h p = h
+  absent-line (some α) h p = absurd (true≢false (sym (h .found-is) ∙ f))
+
+  pub absent-way : (r : Way) → MissingWay w r → (o : Option (List Bracket)) → LineIs o w → (v : Option Found) → WayIs (led o v) r
+  absent-way r z none h v = missing-way z
+  absent-way r z (some α) h v = absurd (true≢false (sym (h .found-is) ∙ f))
+
+-- the empty string
+pub empty-line : (b : List ℕ) → LineIs (some []) (record { found = true; length = 0; bytes = b })
+empty-line b = record { found-is = refl; string-is = (refl, refl) }
 
 module _ (b : ℕ) (w : Line) where
-  none-of : w .found ≡ false → (c : Bracket) (o : Option (List Bracket)) → LineIs o w → LineIs (joined o (some (c ∷ []))) w
-  none-of f c none h = h
-  none-of f c (some α) h = absurd (true≢false (sym (h .found-is) ∙ f))
-
   pub pushed-none : w .found ≡ false → Pushed b w w
-  pushed-none f = record { few = omega arith; is = λ c e o h. none-of f c o h }
+  pushed-none f = record { few = omega arith; kept = kept-itself w; is = λ c e o h. absent-line w f o h (some (c ∷ [])) }
 
-  module _ (f : w .found ≡ true) (small : w .length < 128) (r : Line) (found : r .found ≡ w .found) (one-more : r .length ≡ w .length + 1)
-      (stored : r .brackets ≡ set (w .brackets) (w .length) b) where
+  module _ (f : w .found ≡ true) (room : w .length < length (w .bytes)) (r : Line) (found : r .found ≡ true) (one-more : r .length ≡ w .length + 1)
+      (stored : r .bytes ≡ set (w .bytes) (w .length) b) where
     some-of : (c : Bracket) → b ≡ codeOf c → (o : Option (List Bracket)) → LineIs o w → LineIs (joined o (some (c ∷ []))) r
     some-of c e none h = absurd (true≢false (sym f ∙ h .found-is))
     some-of c e (some α) h =
-        let k = h .length-is in
-        let bytes : r .brackets ≡ set (codes α ++ replicate (128 - length α) 0) (length α) b =
-        stored ∙ ap (λ (l : List ℕ). set l (w .length) b) (h .brackets-is) ∙ ap (λ (n : ℕ). set (codes α ++ replicate (128 - length α) 0) n b) k in
+        let n : r .length ≡ suc (w .length) = omega (arith, one-more) in
         record {
-          found-is = found ∙ f;
-          length-is = omega (arith, k, one-more, length-append α (c ∷ []));
-          brackets-is = bytes ∙ pushed-bytes α c b e (omega arith);
+          found-is = found;
+          string-is = (
+            omega (arith, h .string-is .0, one-more, length-append α (c ∷ [])),
+            ap (λ (k : ℕ). take k (r .bytes)) n ∙ ap (take (suc (w .length))) stored ∙ take-suc-set (w .bytes) (w .length) b room
+                ∙ ap (λ (l : List ℕ). l ++ b ∷ []) (h .string-is .1) ∙ ap (λ (k : ℕ). codes α ++ k ∷ []) e ∙ sym (codes-snoc α c),
+          );
         }
 
     pub pushed-one : Pushed b w r
-    pushed-one = record { few = omega arith; is = some-of }
+    pushed-one =
+        record {
+          few = omega (arith, one-more);
+          kept =
+              record {
+                low = omega (arith, one-more);
+                long = ap length stored ∙ length-set (w .bytes) (w .length) b;
+                same = ap (take (w .length)) stored ∙ take-set-le (w .length) (w .bytes) (w .length) b (omega arith);
+              };
+          is = some-of;
+        }
 
 pub bracketed : (bracket : ℕ → Bracket) (i b : ℕ) (w r : Line) → b ≡ codeOf (bracket i) → Pushed b w r → Bracketed bracket i w r
 bracketed bracket i b w r e p =
-    record { few = p .few; is = λ k q o h. p .is (bracket k) (e ∙ ap (λ (n : ℕ). codeOf (bracket n)) q) o h }
-
--- one answer
-line-by : {q r : Line} → q .found ≡ r .found → q .length ≡ r .length → q .brackets ≡ r .brackets → q ≡ r
-line-by {q} {r} x y z =
-    let w : record { found = q .found; length = q .length; brackets = q .brackets } ≡ r = rw (x, y, z) refl in
-    w
-
-pub one-line : (o : Option (List Bracket)) (q r : Line) → LineIs o q → LineIs o r → q ≡ r
-one-line o q r h k = line-by (h .found-is ∙ sym (k .found-is)) (h .length-is ∙ sym (k .length-is)) (h .brackets-is ∙ sym (k .brackets-is))
-
-way-by : {q r : Way} → q .line ≡ r .line → q .place ≡ r .place → q .kind ≡ r .kind → q .argument ≡ r .argument → q ≡ r
-way-by {q} {r} x y z u =
-    let w : record { line = q .line; place = q .place; kind = q .kind; argument = q .argument } ≡ r = rw (x, y, z, u) refl in
-    w
-
-pub one-way : (o : Option Found) (q r : Way) → WayIs o q → WayIs o r → q ≡ r
-one-way o q r h k =
-    way-by (one-line _ (q .line) (r .line) (h .line-is) (k .line-is)) (h .place-is ∙ sym (k .place-is)) (h .kind-is ∙ sym (k .kind-is))
-    (h .argument-is ∙ sym (k .argument-is))
+    record { few = p .few; kept = p .kept; is = λ k q o h. p .is (bracket k) (e ∙ ap (λ (n : ℕ). codeOf (bracket n)) q) o h }

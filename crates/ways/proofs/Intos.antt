@@ -14,25 +14,35 @@ use Rattle.runs.specs.Options.{orElse, whenTrue}
 use Rattle.runs.specs.Way.{joined, led, through, into}
 use Rattle.trees.specs.declared.Symbol.{Symbol}
 use Rattle.trees.specs.Symbol.{nextOf}
-use Rattle.ways.specs.declared.Line.{Line}
-use Rattle.ways.specs.declared.Way.{Way}
+use Rattle.ways.specs.Held.{LineIn as Line}
+use Rattle.ways.specs.Held.{WayIn as Way}
 use Rattle.ways.specs.declared.Spot.{Spot}
 use Rattle.ways.specs.declared.Parts.{Parts}
-use Rattle.ways.specs.Held.{WayIs, Bracketed}
+use Rattle.ways.specs.Held.{again, WayIs, MissingWay, Bracketed}
 use Rattle.ways.specs.Spot.{SpotIn, PartOf, PartsOf}
 use Rattle.ways.specs.Walks.{AtomWay, Through, Into}
 use Rattle.ways.proofs.Strings.{led-assoc, led-first, led-second}
-use Rattle.ways.proofs.Holds.{way-moved}
+use Rattle.ways.proofs.Holds.{way-moved, kept-then, kept-again, line-again, missing-kept, absent-way}
 use Rattle.ways.proofs.Spots.{by-leaf, by-star, by-two, by-cat, by-alt, part-at}
 
 abbrev first-bracket : ℕ → Option (List Bracket)
 first-bracket i = some (opening i ∷ [])
+
+-- from no string
+pub into-absent : (s : List ℕ) (t : Spot) (x : Symbol) (w : Line) → w .found ≡ false → (r : Way) → MissingWay w r → Into s t x w r
+into-absent s t x w f r z =
+    record {
+      few = omega (arith, z .line-is .length-is);
+      kept = missing-kept (z .line-is);
+      is = λ g γ e i j at o h. absent-way w f r z o h (into (tagsOf g) e i j (nextOf x));
+    }
 
 module _ (s : List ℕ) (t : Spot) (k : ℕ) (kind : k ≡ kindOf s (t .node)) (spot : SpotIn s t) (x : Symbol) (w inside : Line) (op : Bracketed opening (t .bracket) w inside) where
   pub into-leaf : k < 3 → (r : Way) → AtomWay s t x inside r → Into s t x w r
   into-leaf b r aw =
       record {
         few = omega (arith, spot .any, op .few, aw .few);
+        kept = kept-then (op .kept) (aw .kept);
         is = λ g γ e i j at o h. by-leaf s t k kind (λ (u : Exp). WayIs (led o (into (tagsOf g) u i j (nextOf x))) r) b
             (λ a at′. way-moved (led-assoc o (first-bracket i) (whenTrue (canBe (tagsOf g) a (nextOf x)) (record { string = []; place = j; kind = a })))
             (aw .is g γ a i j at′ _ (op .is i (at .bracket-is) o h))) e at;
@@ -42,6 +52,7 @@ module _ (s : List ℕ) (t : Spot) (k : ℕ) (kind : k ≡ kindOf s (t .node)) (
   into-star b only part r inner =
       record {
         few = omega (arith, spot .any, op .few, inner .few, part .nodes-are);
+        kept = kept-then (op .kept) (inner .kept);
         is = λ g γ e i j at o h. by-star s t k kind (λ (u : Exp). WayIs (led o (into (tagsOf g) u i j (nextOf x))) r) b
             (λ f y. way-moved (led-assoc o (first-bracket i) (into (tagsOf g) f (suc i) j (nextOf x)))
             (inner .is g γ f _ _ (part-at s t only part f y i j (at .bracket-is) (at .atom-is)) _ (op .is i (at .bracket-is) o h))) e at;
@@ -52,6 +63,7 @@ module _ (s : List ℕ) (t : Spot) (k : ℕ) (kind : k ≡ kindOf s (t .node)) (
     into-first found =
         record {
           few = omega (arith, parts .both, op .few, first .few);
+          kept = kept-then (op .kept) (first .kept);
           is = λ g γ e i j at o h.
               let next = nextOf x in
               by-two s t k kind (λ (u : Exp). WayIs (led o (into (tagsOf g) u i j next)) a) low high
@@ -69,10 +81,11 @@ module _ (s : List ℕ) (t : Spot) (k : ℕ) (kind : k ≡ kindOf s (t .node)) (
         }
 
     module _ (missed : a .line .found ≡ false) where
-      pub into-cat : k ≡ 3 → (over : Line) → Through s (two .first) inside over → (r : Way) → Into s (two .second) x over r → Into s t x w r
+      pub into-cat : k ≡ 3 → (over : Line) → Through s (two .first) (again inside (a .line .bytes)) over → (r : Way) → Into s (two .second) x over r → Into s t x w r
       into-cat c over passed r second =
           record {
             few = omega (arith, parts .both, op .few, passed .few, second .few);
+            kept = kept-then (op .kept) (kept-then (kept-again (first .kept)) (kept-then (passed .kept) (second .kept)));
             is = λ g γ e i j at o h. by-cat s t k kind (λ (u : Exp). WayIs (led o (into (tagsOf g) u i j (nextOf x))) r) c
                 (λ l m y z.
                 let p = into (tagsOf g) l (suc i) j (nextOf x) in
@@ -84,14 +97,15 @@ module _ (s : List ℕ) (t : Spot) (k : ℕ) (kind : k ≡ kindOf s (t .node)) (
                 way-moved
                 (led-assoc (joined o (first-bracket i)) v q ∙ led-second (joined o (first-bracket i)) p (led v q) (sym (tried .line-is .found-is) ∙ missed)
                 ∙ led-assoc o (first-bracket i) (orElse p (led v q)))
-                (second .is g γ m _ _ (parts .second-at l m y z i j (at .bracket-is) (at .atom-is)) _ (passed .is l _ _ here _ given)))
+                (second .is g γ m _ _ (parts .second-at l m y z i j (at .bracket-is) (at .atom-is)) _ (passed .is l _ _ here _ (line-again (first .kept) _ given))))
                 e at;
           }
 
-      pub into-alt : (k ≡ 3 → ⊥) → (r : Way) → Into s (two .second) x inside r → Into s t x w r
+      pub into-alt : (k ≡ 3 → ⊥) → (r : Way) → Into s (two .second) x (again inside (a .line .bytes)) r → Into s t x w r
       into-alt c r second =
           record {
             few = omega (arith, parts .both, op .few, second .few);
+            kept = kept-then (op .kept) (kept-then (kept-again (first .kept)) (second .kept));
             is = λ g γ e i j at o h. by-alt s t k kind (λ (u : Exp). WayIs (led o (into (tagsOf g) u i j (nextOf x))) r) low high c
                 (λ l m y z.
                 let p = into (tagsOf g) l (suc i) j (nextOf x) in
@@ -100,6 +114,6 @@ module _ (s : List ℕ) (t : Spot) (k : ℕ) (kind : k ≡ kindOf s (t .node)) (
                 let tried = first .is g γ l _ _ (parts .first-at l y i j (at .bracket-is) (at .atom-is)) _ given in
                 way-moved
                 (led-second (joined o (first-bracket i)) p q (sym (tried .line-is .found-is) ∙ missed) ∙ led-assoc o (first-bracket i) (orElse p q))
-                (second .is g γ m _ _ (parts .second-at l m y z i j (at .bracket-is) (at .atom-is)) _ given))
+                (second .is g γ m _ _ (parts .second-at l m y z i j (at .bracket-is) (at .atom-is)) _ (line-again (first .kept) _ given)))
                 e at;
           }

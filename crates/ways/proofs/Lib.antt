@@ -7,5 +7,7 @@ pub mod Intos
 pub mod Outs
 pub mod Acrosses
 pub mod Ends
+pub mod Tellings
 pub mod Lengths
 pub mod Faithful
+pub mod Answered

@@ -11,14 +11,14 @@ use Rattle.expressions.specs.Words.{Bracket, opening, closing}
 use Rattle.layout.specs.Records.{kindOf}
 use Rattle.runs.specs.Options.{orElse}
 use Rattle.runs.specs.Way.{joined, through}
-use Rattle.ways.specs.declared.Line.{Line}
+use Rattle.ways.specs.Held.{LineIn as Line}
 use Rattle.ways.specs.declared.Spot.{Spot}
 use Rattle.ways.specs.declared.Parts.{Parts}
-use Rattle.ways.specs.Held.{LineIs, Bracketed}
+use Rattle.ways.specs.Held.{again, LineIs, Missing, Bracketed}
 use Rattle.ways.specs.Spot.{SpotIn, PartsOf}
 use Rattle.ways.specs.Walks.{Through}
 use Rattle.ways.proofs.Strings.{joined-assoc, joined-none, joined-first, joined-second, enclosed-is}
-use Rattle.ways.proofs.Holds.{line-moved}
+use Rattle.ways.proofs.Holds.{line-moved, kept-itself, kept-then, kept-again, line-again, missing-line, missing-kept, absent-line}
 use Rattle.ways.proofs.Spots.{by-leaf, by-star, by-cat, by-alt}
 
 abbrev first-bracket : ℕ → Option (List Bracket)
@@ -27,12 +27,17 @@ first-bracket i = some (opening i ∷ [])
 abbrev last-bracket : ℕ → Option (List Bracket)
 last-bracket i = some (closing i ∷ [])
 
+-- from no string
+pub through-absent : (s : List ℕ) (t : Spot) (w : Line) → w .found ≡ false → Through s t w w
+through-absent s t w f = record { few = omega arith; kept = kept-itself w; is = λ e i j a o h. absent-line w f o h (through e i) }
+
 module _ (s : List ℕ) (t : Spot) (k : ℕ) (kind : k ≡ kindOf s (t .node)) (w : Line) where
-  pub through-leaf : k < 3 → (r : Line) → LineIs none r → Through s t w r
+  pub through-leaf : k < 3 → (r : Line) → Missing w r → Through s t w r
   through-leaf b r z =
       record {
         few = omega (arith, z .length-is);
-        is = λ e i j a o h. by-leaf s t k kind (λ (u : Exp). LineIs (joined o (through u i)) r) b (λ n _. line-moved (sym (joined-none o)) z) e a;
+        kept = missing-kept z;
+        is = λ e i j a o h. by-leaf s t k kind (λ (u : Exp). LineIs (joined o (through u i)) r) b (λ n _. line-moved (sym (joined-none o)) (missing-line z)) e a;
       }
 
   module _ (inside : Line) (op : Bracketed opening (t .bracket) w inside) where
@@ -40,6 +45,7 @@ module _ (s : List ℕ) (t : Spot) (k : ℕ) (kind : k ≡ kindOf s (t .node)) (
     through-star b u r cl =
         record {
           few = omega (arith, u .any, op .few, cl .few);
+          kept = kept-then (op .kept) (cl .kept);
           is = λ e i j a o h. by-star s t k kind (λ (u : Exp). LineIs (joined o (through u i)) r) b
               (λ f _. line-moved (joined-assoc o (first-bracket i) (last-bracket i)) (cl .is i (a .bracket-is) _ (op .is i (a .bracket-is) o h))) e a;
         }
@@ -49,6 +55,7 @@ module _ (s : List ℕ) (t : Spot) (k : ℕ) (kind : k ≡ kindOf s (t .node)) (
       through-cat c b r second cl =
           record {
             few = omega (arith, parts .both, op .few, first .few, second .few, cl .few);
+            kept = kept-then (op .kept) (kept-then (first .kept) (kept-then (second .kept) (cl .kept)));
             is = λ e i j at o h. by-cat s t k kind (λ (u : Exp). LineIs (joined o (through u i)) r) c
                 (λ l m x y.
                 let p = through l (suc i) in
@@ -67,6 +74,7 @@ module _ (s : List ℕ) (t : Spot) (k : ℕ) (kind : k ≡ kindOf s (t .node)) (
         through-first found r cl =
             record {
               few = omega (arith, parts .both, op .few, first .few, cl .few);
+              kept = kept-then (op .kept) (kept-then (first .kept) (cl .kept));
               is = λ e i j at o h. by-alt s t k kind (λ (u : Exp). LineIs (joined o (through u i)) r) low high not-cat
                   (λ l m x y.
                   let p = through l (suc i) in
@@ -79,10 +87,11 @@ module _ (s : List ℕ) (t : Spot) (k : ℕ) (kind : k ≡ kindOf s (t .node)) (
                   e at;
             }
 
-        pub through-second : a .found ≡ false → (b r : Line) → Through s (two .second) inside b → Bracketed closing (t .bracket) b r → Through s t w r
+        pub through-second : a .found ≡ false → (b r : Line) → Through s (two .second) (again inside (a .bytes)) b → Bracketed closing (t .bracket) b r → Through s t w r
         through-second missed b r second cl =
             record {
               few = omega (arith, parts .both, op .few, second .few, cl .few);
+              kept = kept-then (op .kept) (kept-then (kept-again (first .kept)) (kept-then (second .kept) (cl .kept)));
               is = λ e i j at o h. by-alt s t k kind (λ (u : Exp). LineIs (joined o (through u i)) r) low high not-cat
                   (λ l m x y.
                   let p = through l (suc i) in
@@ -92,6 +101,6 @@ module _ (s : List ℕ) (t : Spot) (k : ℕ) (kind : k ≡ kindOf s (t .node)) (
                   line-moved
                   (ap (λ (z : Option (List Bracket)). joined z (last-bracket i)) (joined-second (joined o (first-bracket i)) p q (sym (tried .found-is) ∙ missed))
                   ∙ enclosed-is i o (orElse p q))
-                  (cl .is i (at .bracket-is) _ (second .is m _ _ (parts .second-at l m x y i j (at .bracket-is) (at .atom-is)) _ given)))
+                  (cl .is i (at .bracket-is) _ (second .is m _ _ (parts .second-at l m x y i j (at .bracket-is) (at .atom-is)) _ (line-again (first .kept) _ given))))
                   e at;
             }

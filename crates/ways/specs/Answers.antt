@@ -1,22 +1,43 @@
 -- The way that is answered for a production of a sheet's grammar.
 -- Assumes nothing.
+use mathlib.Core.Path.{_≡_}
+use mathlib.Core.Bool.{false}
 use mathlib.Core.List.{List}
 use Prim.Native.Nat.{ℕ, _≤_}
+use lib.ListN.{length, drop}
 use Rattle.expressions.specs.Grammar.{Production, Nth, tagsOf}
 use Rattle.runs.specs.Way.{endWay, atomWay}
 use Rattle.trees.specs.declared.Symbol.{Symbol}
+use Rattle.trees.specs.declared.Symbol.the-variants.{Tag, Character, End}
 use Rattle.trees.specs.GrammarAt.{GrammarIs}
 use Rattle.trees.specs.Symbol.{nextOf}
-use Rattle.ways.specs.declared.Line.{Line}
 use Rattle.ways.specs.declared.Way.{Way}
-use Rattle.ways.specs.Held.{LineIs, WayIs}
+use Rattle.ways.specs.Held.{LineIn, WayIn, wayIn, LineIs, WayIs}
+
+-- the most brackets of a way: four for each of a production's 32 nodes
+abbrev pub mostBrackets : ℕ
+mostBrackets = 128
 
 -- from the place p of production q to the end
-pub record EndWayIs (s : List ℕ) (q p : ℕ) (r : Line) : Type 0 where
-  pub few : r .length ≤ 128
+pub record EndWayIs (s : List ℕ) (q p : ℕ) (r : LineIn) : Type 0 where
+  pub few : r .length ≤ mostBrackets
   pub is : (g : List Production) → GrammarIs s g → (d : Production) → Nth g q d → LineIs (endWay (d .content) p) r
 
 -- from there to the next atom that can be x
-pub record AtomWayIs (s : List ℕ) (q p : ℕ) (x : Symbol) (r : Way) : Type 0 where
-  pub few : r .line .length ≤ 128
+pub record AtomWayIs (s : List ℕ) (q p : ℕ) (x : Symbol) (r : WayIn) : Type 0 where
+  pub few : r .line .length ≤ mostBrackets
   pub is : (g : List Production) → GrammarIs s g → (d : Production) → Nth g q d → WayIs (atomWay (tagsOf g) (d .content) p (nextOf x)) r
+
+-- from there to the symbol x; the way to the end leads to no atom
+abbrev pub Told : Symbol → List ℕ → ℕ → ℕ → WayIn → Type 0
+Told (Tag t) s q p r = AtomWayIs s q p (Tag t) r
+Told Character s q p r = AtomWayIs s q p Character r
+Told End s q p r = EndWayIs s q p (r .line) × (r .place ≡ 0) × (r .kind ≡ 0) × (r .argument ≡ 0)
+
+-- the same in the first of the lent bytes; those behind it stay as they were, and all of them where there is no way
+pub record WayAs (s : List ℕ) (q p : ℕ) (x : Symbol) (lent : List ℕ) (r : Way) (d : List ℕ) : Type 0 where
+  pub few : r .line .length ≤ mostBrackets
+  pub long : length d ≡ length lent
+  pub told : Told x s q p (wayIn r d)
+  pub behind : drop (r .line .length) d ≡ drop (r .line .length) lent
+  pub nothing : r .line .found ≡ false → r .line .length ≡ 0

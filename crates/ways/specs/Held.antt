@@ -1,17 +1,39 @@
--- Bracket strings and ways as the code holds them: the bytes of the brackets, zeros after them, and zeros where there is none.
+-- Bracket strings and ways as the code holds them: the brackets' bytes are the first of the lent ones, and zeros stand for an atom where there is none.
 -- Assumes nothing.
 use mathlib.Core.Path.{_≡_}
 use mathlib.Core.Bool.{Bool, true, false}
-use mathlib.Core.List.{List, [], _∷_, _++_}
+use mathlib.Core.List.{List, [], _∷_}
 use mathlib.Core.Option.{Option, none, some}
-use Prim.Native.Nat.{ℕ, suc, _+_, _*_, _-_, _≤_}
-use lib.ListN.{length, replicate}
+use Prim.Native.Nat.{ℕ, suc, _+_, _*_, _≤_}
+use lib.ListN.{length, take}
 use Rattle.expressions.specs.Expr.{Atom, nonterminal, anychar}
 use Rattle.expressions.specs.Words.{Bracket, opening, closing}
 use Rattle.runs.specs.Options.{bind}
 use Rattle.runs.specs.Way.{Way as Found, joined}
 use Rattle.ways.specs.declared.Line.{Line}
 use Rattle.ways.specs.declared.Way.{Way}
+
+-- a line with the lent bytes that it lies in, and a way with them
+pub record LineIn : Type 0 where
+  pub found : Bool
+  pub length : ℕ
+  pub bytes : List ℕ
+
+abbrev pub lineIn : Line → List ℕ → LineIn
+lineIn w b = record { found = w .found; length = w .length; bytes = b }
+
+pub record WayIn : Type 0 where
+  pub line : LineIn
+  pub place : ℕ
+  pub kind : ℕ
+  pub argument : ℕ
+
+abbrev pub wayIn : Way → List ℕ → WayIn
+wayIn r b = record { line = lineIn (r .line) b; place = r .place; kind = r .kind; argument = r .argument }
+
+-- the same line where the lent bytes have become b
+abbrev pub again : LineIn → List ℕ → LineIn
+again w b = record { found = w .found; length = w .length; bytes = b }
 
 -- a bracket's byte
 abbrev pub codeOf : Bracket → ℕ
@@ -31,11 +53,27 @@ abbrev pub stringIn : Option (List Bracket) → List Bracket
 stringIn none = []
 stringIn (some α) = α
 
+-- of n lent bytes b: where there is a string, it is that long and those are its bytes
+abbrev pub Holds : Option (List Bracket) → ℕ → List ℕ → Type 0
+Holds none n b = Unit {0}
+Holds (some α) n b = (n ≡ length α) × (take n b ≡ codes α)
+
 -- r holds the string, or that there is none
-pub record LineIs (o : Option (List Bracket)) (r : Line) : Type 0 where
+pub record LineIs (o : Option (List Bracket)) (r : LineIn) : Type 0 where
   pub found-is : r .found ≡ there o
-  pub length-is : r .length ≡ length (stringIn o)
-  pub brackets-is : r .brackets ≡ codes (stringIn o) ++ replicate (128 - length (stringIn o)) 0
+  pub string-is : Holds o (r .length) (r .bytes)
+
+-- what w has in the lent bytes stays there
+pub record Kept (w r : LineIn) : Type 0 where
+  pub low : w .length ≤ r .length
+  pub long : length (r .bytes) ≡ length (w .bytes)
+  pub same : take (w .length) (r .bytes) ≡ take (w .length) (w .bytes)
+
+-- r says that there is none, and nothing was written
+pub record Missing (w r : LineIn) : Type 0 where
+  pub found-is : r .found ≡ false
+  pub length-is : r .length ≡ w .length
+  pub bytes-are : r .bytes ≡ w .bytes
 
 -- the string of a way, its place, and the kind and argument of its atom's node
 abbrev pub stringOf : Option Found → Option (List Bracket)
@@ -62,18 +100,27 @@ argumentIn none = 0
 argumentIn (some w) = argumentNumber (w .kind)
 
 -- r holds the way, or that there is none
-pub record WayIs (o : Option Found) (r : Way) : Type 0 where
+pub record WayIs (o : Option Found) (r : WayIn) : Type 0 where
   pub line-is : LineIs (stringOf o) (r .line)
   pub place-is : r .place ≡ placeIn o
   pub kind-is : r .kind ≡ kindIn o
   pub argument-is : r .argument ≡ argumentIn o
 
+-- r says that there is none, and nothing was written
+pub record MissingWay (w : LineIn) (r : WayIn) : Type 0 where
+  pub line-is : Missing w (r .line)
+  pub place-is : r .place ≡ 0
+  pub kind-is : r .kind ≡ 0
+  pub argument-is : r .argument ≡ 0
+
 -- r is what w holds and then the bracket whose byte is b, where w holds one
-pub record Pushed (b : ℕ) (w r : Line) : Type 0 where
+pub record Pushed (b : ℕ) (w r : LineIn) : Type 0 where
   pub few : r .length ≤ w .length + 1
+  pub kept : Kept w r
   pub is : (c : Bracket) → b ≡ codeOf c → (o : Option (List Bracket)) → LineIs o w → LineIs (joined o (some (c ∷ []))) r
 
 -- the same of bracket i that opens or closes
-pub record Bracketed (bracket : ℕ → Bracket) (i : ℕ) (w r : Line) : Type 0 where
+pub record Bracketed (bracket : ℕ → Bracket) (i : ℕ) (w r : LineIn) : Type 0 where
   pub few : r .length ≤ w .length + 1
+  pub kept : Kept w r
   pub is : (k : ℕ) → i ≡ k → (o : Option (List Bracket)) → LineIs o w → LineIs (joined o (some (bracket k ∷ []))) r

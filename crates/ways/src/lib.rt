@@ -1,16 +1,17 @@
 // The bracket string from a place to the next atom that can be a symbol, or to the end, found over a sheet's nodes.
-ghost use mathlib.Core.List.{[]};
-ghost use mathlib.Core.Option.{none, some};
-ghost use Prim.Native.Nat.{_+_, _*_, _≤_, _<_};
+ghost use mathlib.Core.Path.{_≡_};
+ghost use mathlib.Core.List.{List};
+ghost use Prim.Native.Nat.{ℕ, _+_, _*_, _≤_, _<_};
+ghost use lib.ListN.{length};
 ghost use Rattle.expressions.specs.Words.{opening, closing};
 ghost use Rattle.layout.specs.LaidOut.{LaidOut};
 ghost use Rattle.layout.specs.Records.{kindOf, nodeCountOf};
 ghost use Rattle.trees.specs.Trees.{Trees};
 ghost use Rattle.trees.specs.Parsed.{RunsInside};
-ghost use Rattle.ways.specs.Held.{LineIs, WayIs, Pushed, Bracketed};
+ghost use Rattle.ways.specs.Held.{lineIn, wayIn, Missing, MissingWay, Pushed, Bracketed};
 ghost use Rattle.ways.specs.Spot.{SpotIn, PartOf, PartsOf};
 ghost use Rattle.ways.specs.Walks.{CanIs, AtomWay, Through, Into, IfJoined, OutOf, Across};
-ghost use Rattle.ways.specs.Answers.{EndWayIs, AtomWayIs};
+ghost use Rattle.ways.specs.Answers.{mostBrackets, EndWayIs, AtomWayIs, Told, WayAs};
 use layout::Layout;
 use layout::argument_of;
 use layout::first_node_of;
@@ -21,11 +22,13 @@ use trees::can_be;
 use trees::is_character;
 use trees::walk_tree;
 
-// A bracket string where there is one: opening i is the byte 2 * i, closing i is 2 * i + 1, and zeros follow.
+// The most brackets of a way: four for each of a production's nodes.
+pub const MOST: usize = 128;
+
+// Whether there is a bracket string, and how many of the lent bytes it takes: opening i is the byte 2 * i, closing i is 2 * i + 1.
 pub struct Line {
     pub found: bool,
     pub length: usize,
-    pub brackets: [u8; 128],
 }
 
 // A bracket string and the atom that it leads to, with the kind and the argument of the atom's node; zeros where there is none.
@@ -50,32 +53,20 @@ pub struct Parts {
     pub second: Spot,
 }
 
-fn no_line() -> Line
-    ensures { λ r. ⌜ LineIs none r ⌝ }
+// No string: what stands in the lent bytes stays.
+fn no_line(w: Line) -> Line
+    ensures { λ r. ⌜ ((b : List ℕ) → Missing (lineIn w b) (lineIn r b)) ⌝ }
 {
-    let brackets = [0; 128];
     Line {
         found: false,
-        length: 0,
-        brackets: brackets,
+        length: w.length,
     }
 }
 
-fn empty_line() -> Line
-    ensures { λ r. ⌜ LineIs (some []) r ⌝ }
+fn no_way(w: Line) -> Way
+    ensures { λ r. ⌜ ((b : List ℕ) → MissingWay (lineIn w b) (wayIn r b)) ⌝ }
 {
-    let brackets = [0; 128];
-    Line {
-        found: true,
-        length: 0,
-        brackets: brackets,
-    }
-}
-
-fn no_way() -> Way
-    ensures { λ r. ⌜ WayIs none r ⌝ }
-{
-    let line = no_line();
+    let line = no_line(w);
     Way {
         line: line,
         place: 0,
@@ -85,35 +76,36 @@ fn no_way() -> Way
 }
 
 // One more bracket after a string, where there is one.
-fn push(w: Line, b: usize) -> Line
+fn push(w: Line, b: usize, line: &mut [u8]) -> Line
     requires { ⌜ b < 256 ⌝ }
-    requires { ⌜ w .length < 128 ⌝ }
-    ensures { λ r. ⌜ Pushed b w r ⌝ }
+    requires { ⌜ w .length < length (now line) ⌝ }
+    ensures { λ r. ⌜ Pushed b (lineIn w (now (line .entry))) (lineIn r (now (line .exit))) ⌝ }
 {
     if !w.found {
         return w;
     }
     let n = w.length;
-    let mut next = w;
-    next.brackets[n] = b as u8;
-    next.length = n + 1;
-    next
+    line[n] = b as u8;
+    Line {
+        found: true,
+        length: n + 1,
+    }
 }
 
-fn opened(w: Line, i: usize) -> Line
+fn opened(w: Line, i: usize, line: &mut [u8]) -> Line
     requires { ⌜ i < 128 ⌝ }
-    requires { ⌜ w .length < 128 ⌝ }
-    ensures { λ r. ⌜ Bracketed opening i w r ⌝ }
+    requires { ⌜ w .length < length (now line) ⌝ }
+    ensures { λ r. ⌜ Bracketed opening i (lineIn w (now (line .entry))) (lineIn r (now (line .exit))) ⌝ }
 {
-    push(w, 2 * i)
+    push(w, 2 * i, line)
 }
 
-fn closed(w: Line, i: usize) -> Line
+fn closed(w: Line, i: usize, line: &mut [u8]) -> Line
     requires { ⌜ i < 127 ⌝ }
-    requires { ⌜ w .length < 128 ⌝ }
-    ensures { λ r. ⌜ Bracketed closing i w r ⌝ }
+    requires { ⌜ w .length < length (now line) ⌝ }
+    ensures { λ r. ⌜ Bracketed closing i (lineIn w (now (line .entry))) (lineIn r (now (line .exit))) ⌝ }
 {
-    push(w, 2 * i + 1)
+    push(w, 2 * i + 1, line)
 }
 
 // The tree behind a star.
@@ -176,15 +168,15 @@ fn atom_can(s: &[u8], l: Layout, kind: usize, n: usize, x: Symbol) -> bool
 fn atom_way(s: &[u8], l: Layout, t: Spot, x: Symbol, w: Line) -> Way
     requires { ⌜ LaidOut (now s) l ⌝ }
     requires { ⌜ SpotIn (now s) t ⌝ }
-    ensures { λ r. ⌜ AtomWay (now (s .entry)) t x w r ⌝ }
+    ensures { λ r. ⌜ ((b : List ℕ) → AtomWay (now (s .entry)) t x (lineIn w b) (wayIn r b)) ⌝ }
 {
     let kind = kind_of(s, l, t.node);
     let n = argument_of(s, l, t.node);
     if !w.found {
-        return no_way();
+        return no_way(w);
     }
     if !atom_can(s, l, kind, n, x) {
-        return no_way();
+        return no_way(w);
     }
     Way {
         line: w,
@@ -195,163 +187,174 @@ fn atom_way(s: &[u8], l: Layout, t: Spot, x: Symbol, w: Line) -> Way
 }
 
 // The string w, and then from the start of the tree at t to its end.
-fn through(s: &[u8], l: Layout, t: Spot, w: Line) -> Line
+fn through(s: &[u8], l: Layout, t: Spot, w: Line, line: &mut [u8]) -> Line
     requires { ⌜ LaidOut (now s) l ⌝ }
     requires { ⌜ SpotIn (now s) t ⌝ }
-    requires { ⌜ w .length + 2 * t .nodes ≤ 128 ⌝ }
-    ensures { λ r. ⌜ Through (now (s .entry)) t w r ⌝ }
+    requires { ⌜ w .length + 2 * t .nodes ≤ length (now line) ⌝ }
+    ensures { λ r. ⌜ Through (now (s .entry)) t (lineIn w (now (line .entry))) (lineIn r (now (line .exit))) ⌝ }
 {
+    if !w.found {
+        return w;
+    }
     let kind = kind_of(s, l, t.node);
     if kind < 3 {
-        return no_line();
+        return no_line(w);
     }
-    let inside = opened(w, t.bracket);
+    let inside = opened(w, t.bracket, line);
     if kind > 4 {
-        return closed(inside, t.bracket);
+        return closed(inside, t.bracket, line);
     }
     let two = parts_of(s, l, t);
     let first = two.first;
     let second = two.second;
-    let a = through(s, l, first, inside);
+    let a = through(s, l, first, inside, line);
     if kind == 3 {
-        let b = through(s, l, second, a);
-        return closed(b, t.bracket);
+        let b = through(s, l, second, a, line);
+        return closed(b, t.bracket, line);
     }
     if a.found {
-        return closed(a, t.bracket);
+        return closed(a, t.bracket, line);
     }
-    let b = through(s, l, second, inside);
-    closed(b, t.bracket)
+    let b = through(s, l, second, inside, line);
+    closed(b, t.bracket, line)
 }
 
 // The string w, and then from the start of the tree at t to an atom that can be x.
-fn into(s: &[u8], l: Layout, t: Spot, x: Symbol, w: Line) -> Way
+fn into(s: &[u8], l: Layout, t: Spot, x: Symbol, w: Line, line: &mut [u8]) -> Way
     requires { ⌜ LaidOut (now s) l ⌝ }
     requires { ⌜ SpotIn (now s) t ⌝ }
-    requires { ⌜ w .length + 2 * t .nodes ≤ 128 ⌝ }
-    ensures { λ r. ⌜ Into (now (s .entry)) t x w r ⌝ }
+    requires { ⌜ w .length + 2 * t .nodes ≤ length (now line) ⌝ }
+    ensures { λ r. ⌜ Into (now (s .entry)) t x (lineIn w (now (line .entry))) (wayIn r (now (line .exit))) ⌝ }
 {
+    if !w.found {
+        return no_way(w);
+    }
     let kind = kind_of(s, l, t.node);
-    let inside = opened(w, t.bracket);
+    let inside = opened(w, t.bracket, line);
     if kind < 3 {
         return atom_way(s, l, t, x, inside);
     }
     if kind > 4 {
         let only = part(t);
-        return into(s, l, only, x, inside);
+        return into(s, l, only, x, inside, line);
     }
     let two = parts_of(s, l, t);
     let first = two.first;
     let second = two.second;
-    let a = into(s, l, first, x, inside);
+    let a = into(s, l, first, x, inside, line);
     if a.line.found {
         return a;
     }
     if kind == 3 {
-        let over = through(s, l, first, inside);
-        return into(s, l, second, x, over);
+        let over = through(s, l, first, inside, line);
+        return into(s, l, second, x, over, line);
     }
-    into(s, l, second, x, inside)
+    into(s, l, second, x, inside, line)
 }
 
 // What follows an end of the first part, on w: in a concatenation the way through the second, in a union nothing.
-fn if_joined(s: &[u8], l: Layout, kind: usize, second: Spot, w: Line) -> Line
+fn if_joined(s: &[u8], l: Layout, kind: usize, second: Spot, w: Line, line: &mut [u8]) -> Line
     requires { ⌜ LaidOut (now s) l ⌝ }
     requires { ⌜ SpotIn (now s) second ⌝ }
-    requires { ⌜ w .length + 2 * second .nodes ≤ 128 ⌝ }
-    ensures { λ r. ⌜ IfJoined (now (s .entry)) kind second w r ⌝ }
+    requires { ⌜ w .length + 2 * second .nodes ≤ length (now line) ⌝ }
+    ensures { λ r. ⌜ IfJoined (now (s .entry)) kind second (lineIn w (now (line .entry))) (lineIn r (now (line .exit))) ⌝ }
 {
     if kind == 3 {
-        return through(s, l, second, w);
+        return through(s, l, second, w, line);
     }
     w
 }
 
 // The string w, and then from just after atom p of the tree at t to its end.
-fn out_of(s: &[u8], l: Layout, t: Spot, p: usize, w: Line) -> Line
+fn out_of(s: &[u8], l: Layout, t: Spot, p: usize, w: Line, line: &mut [u8]) -> Line
     requires { ⌜ LaidOut (now s) l ⌝ }
     requires { ⌜ SpotIn (now s) t ⌝ }
-    requires { ⌜ w .length + 2 * t .nodes ≤ 128 ⌝ }
-    ensures { λ r. ⌜ OutOf (now (s .entry)) t p w r ⌝ }
+    requires { ⌜ w .length + 2 * t .nodes ≤ length (now line) ⌝ }
+    ensures { λ r. ⌜ OutOf (now (s .entry)) t p (lineIn w (now (line .entry))) (lineIn r (now (line .exit))) ⌝ }
 {
     let kind = kind_of(s, l, t.node);
     if kind < 3 {
         if p == t.atom {
-            return closed(w, t.bracket);
+            return closed(w, t.bracket, line);
         }
-        return no_line();
+        return no_line(w);
     }
     if kind > 4 {
         let only = part(t);
-        let a = out_of(s, l, only, p, w);
-        return closed(a, t.bracket);
+        let a = out_of(s, l, only, p, w, line);
+        return closed(a, t.bracket, line);
     }
     let two = parts_of(s, l, t);
     let first = two.first;
     let second = two.second;
-    let a = out_of(s, l, first, p, w);
-    let b = if_joined(s, l, kind, second, a);
+    let a = out_of(s, l, first, p, w, line);
+    let b = if_joined(s, l, kind, second, a, line);
     if b.found {
-        return closed(b, t.bracket);
+        return closed(b, t.bracket, line);
     }
-    let c = out_of(s, l, second, p, w);
-    closed(c, t.bracket)
+    let c = out_of(s, l, second, p, w, line);
+    closed(c, t.bracket, line)
 }
 
 // The string w, and then from just after atom p of the tree at t to an atom that can be x.
-fn across(s: &[u8], l: Layout, t: Spot, p: usize, x: Symbol, w: Line) -> Way
+fn across(s: &[u8], l: Layout, t: Spot, p: usize, x: Symbol, w: Line, line: &mut [u8]) -> Way
     requires { ⌜ LaidOut (now s) l ⌝ }
     requires { ⌜ SpotIn (now s) t ⌝ }
-    requires { ⌜ w .length + 4 * t .nodes ≤ 128 ⌝ }
-    ensures { λ r. ⌜ Across (now (s .entry)) t p x w r ⌝ }
+    requires { ⌜ w .length + 4 * t .nodes ≤ length (now line) ⌝ }
+    ensures { λ r. ⌜ Across (now (s .entry)) t p x (lineIn w (now (line .entry))) (wayIn r (now (line .exit))) ⌝ }
 {
     let kind = kind_of(s, l, t.node);
     if kind < 3 {
-        return no_way();
+        return no_way(w);
     }
     if kind > 4 {
         let only = part(t);
-        let a = across(s, l, only, p, x, w);
+        let a = across(s, l, only, p, x, w, line);
         if a.line.found {
             return a;
         }
-        let out = out_of(s, l, only, p, w);
-        return into(s, l, only, x, out);
+        let out = out_of(s, l, only, p, w, line);
+        return into(s, l, only, x, out, line);
     }
     let two = parts_of(s, l, t);
     let first = two.first;
     let second = two.second;
-    let a = across(s, l, first, p, x, w);
+    let a = across(s, l, first, p, x, w, line);
     if a.line.found {
         return a;
     }
     if kind == 3 {
-        let out = out_of(s, l, first, p, w);
-        let b = into(s, l, second, x, out);
+        let out = out_of(s, l, first, p, w, line);
+        let b = into(s, l, second, x, out, line);
         if b.line.found {
             return b;
         }
-        return across(s, l, second, p, x, w);
+        return across(s, l, second, p, x, w, line);
     }
-    across(s, l, second, p, x, w)
+    across(s, l, second, p, x, w, line)
 }
 
 // The string from the place p of production q to its end.
-pub fn way_to_end(s: &[u8], l: Layout, q: usize, p: usize) -> Line
+fn way_to_end(s: &[u8], l: Layout, q: usize, p: usize, line: &mut [u8]) -> Line
     requires { ⌜ LaidOut (now s) l ⌝ }
     requires { ⌜ RunsInside (now s) ⌝ }
     requires { ⌜ Trees (now s) ⌝ }
     requires { ⌜ q < l .productions ⌝ }
     requires { ⌜ nodeCountOf (now s) q ≤ 32 ⌝ }
-    ensures { λ r. ⌜ EndWayIs (now (s .entry)) q p r ⌝ }
+    requires { ⌜ mostBrackets ≤ length (now line) ⌝ }
+    ensures { λ r. ⌜ EndWayIs (now (s .entry)) q p (lineIn r (now (line .exit))) ⌝ }
+    ensures { λ _. ⌜ length (now (line .exit)) ≡ length (now (line .entry)) ⌝ }
 {
-    let none = empty_line();
+    let none = Line {
+        found: true,
+        length: 0,
+    };
     let nodes = node_count_of(s, l, q);
     if nodes == 0 {
         if p == 0 {
             return none;
         }
-        return no_line();
+        return no_line(none);
     }
     let first = first_node_of(s, l, q);
     let t = Spot {
@@ -361,25 +364,30 @@ pub fn way_to_end(s: &[u8], l: Layout, q: usize, p: usize) -> Line
         atom: 1,
     };
     if p == 0 {
-        return through(s, l, t, none);
+        return through(s, l, t, none, line);
     }
-    out_of(s, l, t, p, none)
+    out_of(s, l, t, p, none, line)
 }
 
 // The way from the place p of production q to its next atom that can be x.
-pub fn way_to_atom(s: &[u8], l: Layout, q: usize, p: usize, x: Symbol) -> Way
+fn way_to_atom(s: &[u8], l: Layout, q: usize, p: usize, x: Symbol, line: &mut [u8]) -> Way
     requires { ⌜ LaidOut (now s) l ⌝ }
     requires { ⌜ RunsInside (now s) ⌝ }
     requires { ⌜ Trees (now s) ⌝ }
     requires { ⌜ q < l .productions ⌝ }
     requires { ⌜ nodeCountOf (now s) q ≤ 32 ⌝ }
-    ensures { λ r. ⌜ AtomWayIs (now (s .entry)) q p x r ⌝ }
+    requires { ⌜ mostBrackets ≤ length (now line) ⌝ }
+    ensures { λ r. ⌜ AtomWayIs (now (s .entry)) q p x (wayIn r (now (line .exit))) ⌝ }
+    ensures { λ _. ⌜ length (now (line .exit)) ≡ length (now (line .entry)) ⌝ }
 {
+    let none = Line {
+        found: true,
+        length: 0,
+    };
     let nodes = node_count_of(s, l, q);
     if nodes == 0 {
-        return no_way();
+        return no_way(none);
     }
-    let none = empty_line();
     let first = first_node_of(s, l, q);
     let t = Spot {
         node: first,
@@ -388,7 +396,58 @@ pub fn way_to_atom(s: &[u8], l: Layout, q: usize, p: usize, x: Symbol) -> Way
         atom: 1,
     };
     if p == 0 {
-        return into(s, l, t, x, none);
+        return into(s, l, t, x, none, line);
     }
-    across(s, l, t, p, x, none)
+    across(s, l, t, p, x, none, line)
+}
+
+// The way from the place p of production q to the symbol x.
+fn search(s: &[u8], l: Layout, q: usize, p: usize, x: Symbol, line: &mut [u8]) -> Way
+    requires { ⌜ LaidOut (now s) l ⌝ }
+    requires { ⌜ RunsInside (now s) ⌝ }
+    requires { ⌜ Trees (now s) ⌝ }
+    requires { ⌜ q < l .productions ⌝ }
+    requires { ⌜ nodeCountOf (now s) q ≤ 32 ⌝ }
+    requires { ⌜ mostBrackets ≤ length (now line) ⌝ }
+    ensures { λ r. ⌜ Told x (now (s .entry)) q p (wayIn r (now (line .exit))) ⌝ }
+    ensures { λ _. ⌜ length (now (line .exit)) ≡ length (now (line .entry)) ⌝ }
+{
+    match x {
+        Symbol::Tag(_) => way_to_atom(s, l, q, p, x, line),
+        Symbol::Character => way_to_atom(s, l, q, p, x, line),
+        Symbol::End => {
+            let end = way_to_end(s, l, q, p, line);
+            Way {
+                line: end,
+                place: 0,
+                kind: 0,
+                argument: 0,
+            }
+        }
+    }
+}
+
+// The way from the place p of production q to its next atom that can be x, or to the end where x is the end: its brackets are put
+// into the first of the lent bytes.
+pub fn find_way(s: &[u8], l: Layout, q: usize, p: usize, x: Symbol, line: &mut [u8]) -> Way
+    requires { ⌜ LaidOut (now s) l ⌝ }
+    requires { ⌜ RunsInside (now s) ⌝ }
+    requires { ⌜ Trees (now s) ⌝ }
+    requires { ⌜ q < l .productions ⌝ }
+    requires { ⌜ nodeCountOf (now s) q ≤ 32 ⌝ }
+    requires { ⌜ mostBrackets ≤ length (now line) ⌝ }
+    ensures { λ r. ⌜ WayAs (now (s .entry)) q p x (now (line .entry)) r (now (line .exit)) ⌝ }
+{
+    let mut tried = [0u8; MOST];
+    let found = search(s, l, q, p, x, &mut tried);
+    if !found.line.found {
+        let none = Line {
+            found: false,
+            length: 0,
+        };
+        return no_way(none);
+    }
+    let n = found.line.length;
+    lent::put_bytes(line, 0, &tried[..n], true);
+    found
 }

@@ -1,40 +1,47 @@
 -- `way_to_atom`: a production with no nodes has no atom; else a walk over its tree, from the empty string.
 -- Assumes nothing.
+use borrow.Author.Needs.{needs}
 use mathlib.Core.Path.{refl}
 use Prim.Native.Nat.{_<_}
 use native.Mathlib.Omega.{arith}
-use borrow.Author.Needs.{needs}
 use Rattle.layout.specs.Layout.{productionCount}
+use Rattle.ways.proofs.Holds.{empty-line}
 use Rattle.ways.proofs.Ends.{atom-none, spot-there, atom-into, atom-across}
 use Rattle.ways.proofs.way_to_atom.Statement.{statement}
 use Rattle.ways.proofs.way_to_atom.Tie as tie
 
 returns : tie.Need-returns
-returns c = atom-none _ _ _ (c .before .before .node-count-of .ensures .is) (c .before .if1 .taken) _ _ _ (c .no-way .ensures)
+returns c = (atom-none _ _ _ (c .before .before .node-count-of .ensures .is) (c .before .if1 .taken) _ _ _ _ refl (c .no-way .ensures _), refl)
 
 into-requires : tie.Need-into-requires
 into-requires c κs =
-    let w = c .before .before .before .before .before .before in
+    let w = c .before .before .before .before .before .before .before in
     let h : w .args .q < productionCount (w .args .s .now) = omega (arith, w .pre .0 .layout-is .productions-is) in
     let n = c .before .before .before .before .node-count-of .ensures .is in
-    (w .pre .0, (spot-there _ _ _ n (c .before .before .before .if1 .left) _ (c .before .first-node-of .ensures .is) refl refl refl (w .pre .1 .1 .0) (w .pre .1 .0) h (w .pre .1 .1 .1 .1), omega (arith, n, w .pre .1 .1 .1 .1, c .before .before .empty-line .ensures .length-is)))
+    (w .pre .0, (spot-there _ _ _ n (c .before .before .before .if1 .left) _ (c .before .before .first-node-of .ensures .is) refl refl refl (w .pre .1 .1 .0) (w .pre .1 .0) h (w .pre .1 .1 .1 .1 .0), omega (arith, n, w .pre .1 .1 .1 .1 .0, w .pre .1 .1 .1 .1 .1)))
+
+same-length : tie.Need-same-length
+same-length c = omega (arith, c .before .before .into .ensures .kept .long)
 
 returns-2 : tie.Need-returns-2
 returns-2 c =
-    let n = c .before .before .before .before .before .node-count-of .ensures .is in
-    atom-into _ _ _ n (c .before .before .before .before .if1 .left) _ (c .before .before .first-node-of .ensures .is) refl refl refl (omega (arith, n, c .before .before .before .before .before .before .before .pre .1 .1 .1 .1)) _ (c .before .before .before .empty-line .ensures) _ _ (c .before .if2 .taken) _ (c .into .ensures)
+    let n = c .before .before .before .before .before .before .before .node-count-of .ensures .is in
+    (atom-into _ _ _ n (c .before .before .before .before .before .before .if1 .left) _ (c .before .before .before .before .before .first-node-of .ensures .is) refl refl refl (omega (arith, n, c .before .before .before .before .before .before .before .before .before .before .pre .1 .1 .1 .1 .0)) _ refl (empty-line _) _ _ (c .before .before .before .before .if2 .taken) _ (c .before .before .into .ensures), omega (arith, c .before .before .into .ensures .kept .long))
 
 across-requires : tie.Need-across-requires
 across-requires c κs =
-    let w = c .before .before .before .before .before .before in
+    let w = c .before .before .before .before .before .before .before in
     let h : w .args .q < productionCount (w .args .s .now) = omega (arith, w .pre .0 .layout-is .productions-is) in
     let n = c .before .before .before .before .node-count-of .ensures .is in
-    (w .pre .0, (spot-there _ _ _ n (c .before .before .before .if1 .left) _ (c .before .first-node-of .ensures .is) refl refl refl (w .pre .1 .1 .0) (w .pre .1 .0) h (w .pre .1 .1 .1 .1), omega (arith, n, w .pre .1 .1 .1 .1, c .before .before .empty-line .ensures .length-is)))
+    (w .pre .0, (spot-there _ _ _ n (c .before .before .before .if1 .left) _ (c .before .before .first-node-of .ensures .is) refl refl refl (w .pre .1 .1 .0) (w .pre .1 .0) h (w .pre .1 .1 .1 .1 .0), omega (arith, n, w .pre .1 .1 .1 .1 .0, w .pre .1 .1 .1 .1 .1)))
+
+same-length-2 : tie.Need-same-length-2
+same-length-2 c = omega (arith, c .before .before .across .ensures .kept .long)
 
 returns-3 : tie.Need-returns-3
 returns-3 c =
-    let n = c .before .before .before .before .before .node-count-of .ensures .is in
-    atom-across _ _ _ n (c .before .before .before .before .if1 .left) _ (c .before .before .first-node-of .ensures .is) refl refl refl (omega (arith, n, c .before .before .before .before .before .before .before .pre .1 .1 .1 .1)) _ (c .before .before .before .empty-line .ensures) _ _ (c .before .if2 .left) _ (c .across .ensures)
+    let n = c .before .before .before .before .before .before .before .node-count-of .ensures .is in
+    (atom-across _ _ _ n (c .before .before .before .before .before .before .if1 .left) _ (c .before .before .before .before .before .first-node-of .ensures .is) refl refl refl (omega (arith, n, c .before .before .before .before .before .before .before .before .before .before .pre .1 .1 .1 .1 .0)) _ refl (empty-line _) _ _ (c .before .before .before .before .if2 .left) _ (c .before .before .across .ensures), omega (arith, c .before .before .across .ensures .kept .long))
 
 pub way-to-atom-spec : {M : Type 1} → statement M
 way-to-atom-spec =
@@ -44,8 +51,9 @@ way-to-atom-spec =
     (λ c κs. search needs)
     returns
     (λ c κs. search needs)
-    (λ c κs. search needs)
     into-requires
+    same-length
     returns-2
     across-requires
+    same-length-2
     returns-3)

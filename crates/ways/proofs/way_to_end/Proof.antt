@@ -1,55 +1,63 @@
 -- `way_to_end`: a production with no nodes has the empty string alone; else a walk over its tree, from the empty string.
 -- Assumes nothing.
+use borrow.Author.Needs.{needs}
 use mathlib.Core.Path.{refl}
 use Prim.Native.Nat.{_<_}
 use native.Mathlib.Omega.{arith}
-use borrow.Author.Needs.{needs}
 use Rattle.layout.specs.Layout.{productionCount}
+use Rattle.ways.proofs.Holds.{empty-line}
 use Rattle.ways.proofs.Ends.{end-empty, end-missing, spot-there, end-through, end-out}
 use Rattle.ways.proofs.way_to_end.Statement.{statement}
 use Rattle.ways.proofs.way_to_end.Tie as tie
 
 returns : tie.Need-returns
-returns c = end-empty _ _ _ (c .before .before .node-count-of .ensures .is) (c .before .if1 .taken) _ (c .if2 .taken) _ (c .before .before .before .empty-line .ensures)
+returns c = (end-empty _ _ _ (c .before .before .node-count-of .ensures .is) (c .before .if1 .taken) _ (c .if2 .taken) _ refl (empty-line _), refl)
 
 returns-2 : tie.Need-returns-2
-returns-2 c = end-missing _ _ _ (c .before .before .before .node-count-of .ensures .is) (c .before .before .if1 .taken) _ (c .before .if2 .left) _ (c .no-line .ensures)
+returns-2 c = (end-missing _ _ _ (c .before .before .before .node-count-of .ensures .is) (c .before .before .if1 .taken) _ (c .before .if2 .left) _ _ refl (c .no-line .ensures _), refl)
 
 through-requires : tie.Need-through-requires
 through-requires c κs =
-    let w = c .before .before .before .before .before .before in
+    let w = c .before .before .before .before .before .before .before in
     let h : w .args .q < productionCount (w .args .s .now) = omega (arith, w .pre .0 .layout-is .productions-is) in
-    let n = c .before .before .before .node-count-of .ensures .is in
-    (w .pre .0, (spot-there _ _ _ n (c .before .before .if1 .left) _ (c .before .first-node-of .ensures .is) refl refl refl (w .pre .1 .1 .0) (w .pre .1 .0) h (w .pre .1 .1 .1 .1), omega (arith, n, w .pre .1 .1 .1 .1, c .before .before .before .before .empty-line .ensures .length-is)))
+    let n = c .before .before .before .before .node-count-of .ensures .is in
+    (w .pre .0, (spot-there _ _ _ n (c .before .before .before .if1 .left) _ (c .before .before .first-node-of .ensures .is) refl refl refl (w .pre .1 .1 .0) (w .pre .1 .0) h (w .pre .1 .1 .1 .1 .0), omega (arith, n, w .pre .1 .1 .1 .1 .0, w .pre .1 .1 .1 .1 .1)))
+
+same-length : tie.Need-same-length
+same-length c = omega (arith, c .before .before .through .ensures .kept .long)
 
 returns-3 : tie.Need-returns-3
 returns-3 c =
-    let n = c .before .before .before .before .node-count-of .ensures .is in
-    end-through _ _ _ n (c .before .before .before .if1 .left) _ (c .before .before .first-node-of .ensures .is) refl refl refl (omega (arith, n, c .before .before .before .before .before .before .before .pre .1 .1 .1 .1)) _ (c .before .before .before .before .before .empty-line .ensures) _ (c .before .if3 .taken) _ (c .through .ensures)
+    let n = c .before .before .before .before .before .before .before .node-count-of .ensures .is in
+    (end-through _ _ _ n (c .before .before .before .before .before .before .if1 .left) _ (c .before .before .before .before .before .first-node-of .ensures .is) refl refl refl (omega (arith, n, c .before .before .before .before .before .before .before .before .before .before .pre .1 .1 .1 .1 .0)) _ refl (empty-line _) _ (c .before .before .before .before .if3 .taken) _ (c .before .before .through .ensures), omega (arith, c .before .before .through .ensures .kept .long))
 
 out-of-requires : tie.Need-out-of-requires
 out-of-requires c κs =
-    let w = c .before .before .before .before .before .before in
+    let w = c .before .before .before .before .before .before .before in
     let h : w .args .q < productionCount (w .args .s .now) = omega (arith, w .pre .0 .layout-is .productions-is) in
-    let n = c .before .before .before .node-count-of .ensures .is in
-    (w .pre .0, (spot-there _ _ _ n (c .before .before .if1 .left) _ (c .before .first-node-of .ensures .is) refl refl refl (w .pre .1 .1 .0) (w .pre .1 .0) h (w .pre .1 .1 .1 .1), omega (arith, n, w .pre .1 .1 .1 .1, c .before .before .before .before .empty-line .ensures .length-is)))
+    let n = c .before .before .before .before .node-count-of .ensures .is in
+    (w .pre .0, (spot-there _ _ _ n (c .before .before .before .if1 .left) _ (c .before .before .first-node-of .ensures .is) refl refl refl (w .pre .1 .1 .0) (w .pre .1 .0) h (w .pre .1 .1 .1 .1 .0), omega (arith, n, w .pre .1 .1 .1 .1 .0, w .pre .1 .1 .1 .1 .1)))
+
+same-length-2 : tie.Need-same-length-2
+same-length-2 c = omega (arith, c .before .before .out-of .ensures .kept .long)
 
 returns-4 : tie.Need-returns-4
 returns-4 c =
-    let n = c .before .before .before .before .node-count-of .ensures .is in
-    end-out _ _ _ n (c .before .before .before .if1 .left) _ (c .before .before .first-node-of .ensures .is) refl refl refl (omega (arith, n, c .before .before .before .before .before .before .before .pre .1 .1 .1 .1)) _ (c .before .before .before .before .before .empty-line .ensures) _ (c .before .if3 .left) _ (c .out-of .ensures)
+    let n = c .before .before .before .before .before .before .before .node-count-of .ensures .is in
+    (end-out _ _ _ n (c .before .before .before .before .before .before .if1 .left) _ (c .before .before .before .before .before .first-node-of .ensures .is) refl refl refl (omega (arith, n, c .before .before .before .before .before .before .before .before .before .before .pre .1 .1 .1 .1 .0)) _ refl (empty-line _) _ (c .before .before .before .before .if3 .left) _ (c .before .before .out-of .ensures), omega (arith, c .before .before .out-of .ensures .kept .long))
 
 pub way-to-end-spec : {M : Type 1} → statement M
 way-to-end-spec =
     tie.close
     (tie.spec
     (λ c κs. search needs)
-    (λ c κs. search needs)
     returns
     (λ c κs. search needs)
     returns-2
     (λ c κs. search needs)
     through-requires
+    same-length
     returns-3
     out-of-requires
+    same-length-2
     returns-4)
