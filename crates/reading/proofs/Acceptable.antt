@@ -15,30 +15,51 @@ use Rattle.text.specs.Characters.{AllChar, utf8s}
 use Rattle.text.specs.Names.{nameFirst, nameByte, All, Name}
 use Rattle.text.proofs.Shapes.{char-most, cons≢[], Range, range, shape1, shape2, shape3, shape4}
 use Rattle.text.proofs.NameLaws.{name-all}
+use Rattle.expressions.specs.Expr.{Atom}
+use Rattle.expressions.specs.Grammar.{nonterminals}
 use Rattle.programs.specs.Program.{Operand, Condition}
 use Rattle.programs.specs.Limits.{Visit, first, second, Value, Attribute}
 use Rattle.notation.specs.Program.{Program}
+use Rattle.notation.specs.Rules.{Tree}
 use Rattle.notation.specs.Tokens.{Mark, plain, left, right, Token, nonterminal, value, attribute, name, start-tag, end-tag, empty-tag, string, word, Word, CHAR, ECHO, ECHO-OFF, REJECT, PRINT, IF, THEN, ELSE, BEGIN, END, AND, OR, NOT, sign, Sign, DEFINED, ASSIGNED, OPEN, CLOSE, BRACE, UNBRACE, DOT, BAR, STAR, SEMICOLON, EQUALS, decimal, bytesOf, markBytes, TagName, StringOf}
 use Rattle.notation.specs.Statements.{parentheses}
 use Rattle.reading.specs.Tests.{tagName?, string?}
 use Rattle.reading.specs.Conditions.{Part, other, partIf, value?, attribute?, attributePart, attributeOf, partOf, Reading, stepPart, stepCondition, valueOf}
 use Rattle.reading.specs.Statements.{Start, no-start, targetIf, current?, startOf, Next, nothing, itemIf, nextOf, Level, Listing, wants, target, assigning, printing, testing, after, thenned, tested, started, targeted, assignedBy, printed, followed, stepStatements, valueOfList}
-use Rattle.reading.specs.Expressions.{Piece, atomIf, nonterminal?, pieceOf, Parsing, stepPiece, unbraces, listing, stepExpression}
-use Rattle.reading.specs.Rules.{Key, keyIf, keyOf, Progress, beginning, first-word, named, defined, own-front, wants-tag, tagged, within, closed, own-back, complete, stepKey, closes, parsing, stepRules}
+use Rattle.reading.specs.Expressions.{Piece, atomIf, nonterminal?, pieceOf, Parsing, stepPiece, unbraces, listing, stepExpression, valueOfContent}
+use Rattle.reading.specs.Rules.{Key, keyIf, keyOf, Head, ruleOf, Progress, beginning, first-word, named, defined, own-front, wants-tag, tagged, within, closed, own-back, complete, stepKey, closes, parsing, stepRules}
 use Rattle.reading.proofs.Telling.{none≢some}
 use Rattle.reading.proofs.Braces.{then-stops}
+use Rattle.reading.proofs.RuleHeld.{KeyIs, key-is}
 use Rattle.reading.proofs.Search.{Bounded, Good}
+
+-- numbers under 100, names and strings as tokens may have them
+abbrev pub Proper : Token → Type 0
+Proper (nonterminal n) = n < 100
+Proper (value n) = n < 100
+Proper (attribute m a) = a < 100
+Proper (name n) = TagName n
+Proper (start-tag n) = TagName n
+Proper (end-tag n) = TagName n
+Proper (empty-tag n) = TagName n
+Proper (string cs) = StringOf cs
+Proper (word w) = Unit {0}
+Proper (sign s) = Unit {0}
 
 pub record Fine (t : Token) : Type 0 where
   pub good : Good t
+  pub proper : Proper t
   pub some-bytes : bytesOf t ≡ [] → ⊥
 
--- a token that stands nowhere
-record Stray (t : Token) : Type 0 where
+-- a token that stands in no expression and no program; and one that stands nowhere
+record Silent (t : Token) : Type 0 where
   in-condition : (v : Visit) → partOf v t ≡ other
   at-start : (v : Visit) → startOf v t ≡ no-start
   behind : nextOf t ≡ nothing
   in-expression : pieceOf t ≡ Piece.other
+
+record Stray (t : Token) : Type 0 where
+  silent : Silent t
   outside : keyOf t ≡ Key.other
 
 -- numbers
@@ -66,7 +87,7 @@ no-item : {P : Type 0} (d : Dec P) (p : Program) → (P → ⊥) → itemIf d p 
 no-item (yes p) q h = absurd (h p)
 no-item (no p) q h = refl
 
-no-atom : {P : Type 0} (d : Dec P) (k : Rattle.expressions.specs.Expr.Atom) → (P → ⊥) → atomIf d k ≡ Piece.other
+no-atom : {P : Type 0} (d : Dec P) (k : Atom) → (P → ⊥) → atomIf d k ≡ Piece.other
 no-atom (yes p) k h = absurd (h p)
 no-atom (no p) k h = refl
 
@@ -159,46 +180,46 @@ sign-some EQUALS e = cons≢[] e
 fine-or-stray : (t : Token) → Fine t ⊎ Stray t
 fine-or-stray (nonterminal n) = on (nonterminal? n)
   where
-    on : Dec (n < Rattle.expressions.specs.Grammar.nonterminals) → Fine (nonterminal n) ⊎ Stray (nonterminal n)
-    on (yes h) = inl (record { good = omega arith; some-bytes = cons≢[] })
-    on (no h) = inr (record { in-condition = λ v. refl; at-start = λ v. refl; behind = refl; in-expression = no-atom (nonterminal? n) _ h; outside = no-key (nonterminal? n) _ h })
+    on : Dec (n < nonterminals) → Fine (nonterminal n) ⊎ Stray (nonterminal n)
+    on (yes h) = inl (record { good = omega arith; proper = omega arith; some-bytes = cons≢[] })
+    on (no h) = inr (record { silent = record { in-condition = λ v. refl; at-start = λ v. refl; behind = refl; in-expression = no-atom (nonterminal? n) _ h }; outside = no-key (nonterminal? n) _ h })
 fine-or-stray (value n) = on (value? n)
   where
     on : Dec (Value n) → Fine (value n) ⊎ Stray (value n)
-    on (yes h) = inl (record { good = omega arith; some-bytes = decimal-some n })
-    on (no h) = inr (record { in-condition = λ v. no-part (value? n) _ h; at-start = λ v. refl; behind = refl; in-expression = refl; outside = refl })
+    on (yes h) = inl (record { good = omega arith; proper = omega arith; some-bytes = decimal-some n })
+    on (no h) = inr (record { silent = record { in-condition = λ v. no-part (value? n) _ h; at-start = λ v. refl; behind = refl; in-expression = refl }; outside = refl })
 fine-or-stray (attribute m a) = on (attribute? a)
   where
     on : Dec (Attribute a) → Fine (attribute m a) ⊎ Stray (attribute m a)
-    on (yes h) = inl (record { good = omega arith; some-bytes = mark-some m _ })
-    on (no h) = inr (record { in-condition = λ v. no-attribute (attribute? a) (attributeOf v m a) h; at-start = λ v. no-target (attribute? a) (current? v m) a h; behind = refl; in-expression = refl; outside = refl })
+    on (yes h) = inl (record { good = omega arith; proper = omega arith; some-bytes = mark-some m _ })
+    on (no h) = inr (record { silent = record { in-condition = λ v. no-attribute (attribute? a) (attributeOf v m a) h; at-start = λ v. no-target (attribute? a) (current? v m) a h; behind = refl; in-expression = refl }; outside = refl })
 fine-or-stray (name n) = on (tagName? n)
   where
     on : Dec (TagName n) → Fine (name n) ⊎ Stray (name n)
-    on (yes h) = inl (record { good = tag-bounded n h; some-bytes = name-some n (h .a-name) })
-    on (no h) = inr (record { in-condition = λ v. refl; at-start = λ v. refl; behind = refl; in-expression = refl; outside = no-key (tagName? n) _ h })
+    on (yes h) = inl (record { good = tag-bounded n h; proper = h; some-bytes = name-some n (h .a-name) })
+    on (no h) = inr (record { silent = record { in-condition = λ v. refl; at-start = λ v. refl; behind = refl; in-expression = refl }; outside = no-key (tagName? n) _ h })
 fine-or-stray (start-tag n) = on (tagName? n)
   where
     on : Dec (TagName n) → Fine (start-tag n) ⊎ Stray (start-tag n)
-    on (yes h) = inl (record { good = tag-bounded n h; some-bytes = cons≢[] })
-    on (no h) = inr (record { in-condition = λ v. refl; at-start = λ v. refl; behind = no-item (tagName? n) _ h; in-expression = refl; outside = refl })
+    on (yes h) = inl (record { good = tag-bounded n h; proper = h; some-bytes = cons≢[] })
+    on (no h) = inr (record { silent = record { in-condition = λ v. refl; at-start = λ v. refl; behind = no-item (tagName? n) _ h; in-expression = refl }; outside = refl })
 fine-or-stray (end-tag n) = on (tagName? n)
   where
     on : Dec (TagName n) → Fine (end-tag n) ⊎ Stray (end-tag n)
-    on (yes h) = inl (record { good = tag-bounded n h; some-bytes = cons≢[] })
-    on (no h) = inr (record { in-condition = λ v. refl; at-start = λ v. refl; behind = no-item (tagName? n) _ h; in-expression = refl; outside = refl })
+    on (yes h) = inl (record { good = tag-bounded n h; proper = h; some-bytes = cons≢[] })
+    on (no h) = inr (record { silent = record { in-condition = λ v. refl; at-start = λ v. refl; behind = no-item (tagName? n) _ h; in-expression = refl }; outside = refl })
 fine-or-stray (empty-tag n) = on (tagName? n)
   where
     on : Dec (TagName n) → Fine (empty-tag n) ⊎ Stray (empty-tag n)
-    on (yes h) = inl (record { good = tag-bounded n h; some-bytes = cons≢[] })
-    on (no h) = inr (record { in-condition = λ v. refl; at-start = λ v. refl; behind = no-item (tagName? n) _ h; in-expression = refl; outside = refl })
+    on (yes h) = inl (record { good = tag-bounded n h; proper = h; some-bytes = cons≢[] })
+    on (no h) = inr (record { silent = record { in-condition = λ v. refl; at-start = λ v. refl; behind = no-item (tagName? n) _ h; in-expression = refl }; outside = refl })
 fine-or-stray (string cs) = on (string? cs)
   where
     on : Dec (StringOf cs) → Fine (string cs) ⊎ Stray (string cs)
-    on (yes h) = inl (record { good = chars-bounded 255 cs (h .characters) (h .short); some-bytes = cons≢[] })
-    on (no h) = inr (record { in-condition = λ v. refl; at-start = λ v. refl; behind = no-item (string? cs) _ h; in-expression = refl; outside = refl })
-fine-or-stray (word w) = inl (record { good = tt; some-bytes = word-some w })
-fine-or-stray (sign s) = inl (record { good = tt; some-bytes = sign-some s })
+    on (yes h) = inl (record { good = chars-bounded 255 cs (h .characters) (h .short); proper = h; some-bytes = cons≢[] })
+    on (no h) = inr (record { silent = record { in-condition = λ v. refl; at-start = λ v. refl; behind = no-item (string? cs) _ h; in-expression = refl }; outside = refl })
+fine-or-stray (word w) = inl (record { good = tt; proper = tt; some-bytes = word-some w })
+fine-or-stray (sign s) = inl (record { good = tt; proper = tt; some-bytes = sign-some s })
 
 -- no machine takes it
 part-stops : (p : ℕ) (s : Reading) → stepPart p s other ≡ none
@@ -207,7 +228,7 @@ part-stops p (Reading.compares x l ls) = refl
 part-stops p (Reading.wants-other x l ls) = refl
 part-stops p (Reading.after d o ls) = refl
 
-list-stops : (v : Visit) (s : Listing) (t : Token) → Stray t → stepStatements v s t ≡ none
+list-stops : (v : Visit) (s : Listing) (t : Token) → Silent t → stepStatements v s t ≡ none
 list-stops v (wants w l ls) t h = ap (started w l ls) (h .at-start v)
 list-stops v (target a l ls) t h = ap (targeted a l ls) (h .behind)
 list-stops v (assigning a l ls) t h = ap (assignedBy a l ls) (h .in-condition v)
@@ -218,7 +239,7 @@ list-stops v (testing r l ls) t h =
     ∙ ap (thenned (valueOf r) l ls) (h .behind) ∙ then-stops (valueOf r) l ls
 list-stops v (after b p l ls) t h = ap (followed b p l ls) (h .behind)
 
-listing-stops : {S : Type 0} (v : Visit) (q : Listing) (t : Token) (holds : Listing → S) (ended : Program → S) → Stray t → listing (stepStatements v q t) holds (unbraces (pieceOf t) (valueOfList q) ended) ≡ none
+listing-stops : {S : Type 0} (v : Visit) (q : Listing) (t : Token) (holds : Listing → S) (ended : Program → S) → Silent t → listing (stepStatements v q t) holds (unbraces (pieceOf t) (valueOfList q) ended) ≡ none
 listing-stops v q t holds ended h = ap (λ o. listing o holds (unbraces (pieceOf t) (valueOfList q) ended)) (list-stops v q t h) ∙ ap (λ k. unbraces k (valueOfList q) ended) (h .in-expression)
 
 piece-stops : (s : Parsing) → stepPiece s Piece.other ≡ none
@@ -228,7 +249,7 @@ piece-stops (Parsing.after e l ls) = refl
 piece-stops (Parsing.behind q f k ls) = refl
 piece-stops (Parsing.over e ls) = refl
 
-content-stops : (s : Parsing) (t : Token) → Stray t → stepExpression s t ≡ none
+content-stops : (s : Parsing) (t : Token) → Silent t → stepExpression s t ≡ none
 content-stops (Parsing.wants b l ls) t h = ap (stepPiece (Parsing.wants b l ls)) (h .in-expression)
 content-stops (Parsing.in-front q ls) t h = listing-stops first q t _ _ h
 content-stops (Parsing.after e l ls) t h = ap (stepPiece (Parsing.after e l ls)) (h .in-expression)
@@ -240,15 +261,141 @@ rules-stop beginning t h = ap (stepKey beginning) (h .outside)
 rules-stop (first-word n) t h = ap (stepKey (first-word n)) (h .outside)
 rules-stop (named d) t h = ap (stepKey (named d)) (h .outside)
 rules-stop (defined d) t h = ap (stepKey (defined d)) (h .outside)
-rules-stop (own-front q d) t h = listing-stops first q t _ _ h
+rules-stop (own-front q d) t h = listing-stops first q t _ _ (h .silent)
 rules-stop (wants-tag f d) t h = ap (stepKey (wants-tag f d)) (h .outside)
 rules-stop (tagged f u d) t h = ap (stepKey (tagged f u d)) (h .outside)
 rules-stop (within x f u d) t h =
-    ap (λ o. parsing o (closes (keyOf t) (Rattle.reading.specs.Expressions.valueOfContent x) f u d) f u d) (content-stops x t h)
-    ∙ ap (λ k. closes k (Rattle.reading.specs.Expressions.valueOfContent x) f u d) (h .outside)
+    ap (λ o. parsing o (closes (keyOf t) (valueOfContent x) f u d) f u d) (content-stops x t (h .silent))
+    ∙ ap (λ k. closes k (valueOfContent x) f u d) (h .outside)
 rules-stop (closed f u e d) t h = ap (stepKey (closed f u e d)) (h .outside)
-rules-stop (own-back q f u e d) t h = listing-stops second q t _ _ h
+rules-stop (own-back q f u e d) t h = listing-stops second q t _ _ (h .silent)
 rules-stop (complete r d) t h = ap (stepKey (complete r d)) (h .outside)
 
 pub taken-is-fine : (s s′ : Progress) (t : Token) → stepRules s t ≡ some s′ → Fine t
 taken-is-fine s s′ t e = ⊎-elim (λ (f : Fine t). f) (λ (h : Stray t). absurd (none≢some (rules-stop s t h) e)) (fine-or-stray t)
+
+-- a name stands only where a tag is wanted, and there nothing but a name or a { does
+abbrev pub WantsTag : Progress → Type 0
+WantsTag beginning = ⊥
+WantsTag (first-word n) = ⊥
+WantsTag (named h) = ⊥
+WantsTag (defined h) = Unit {0}
+WantsTag (own-front q h) = ⊥
+WantsTag (wants-tag f h) = Unit {0}
+WantsTag (tagged f t h) = ⊥
+WantsTag (within x f t h) = ⊥
+WantsTag (closed f t e h) = ⊥
+WantsTag (own-back q f t e h) = ⊥
+WantsTag (complete r h) = ⊥
+
+abbrev NameKey : Key → Type 0
+NameKey (Key.a-nonterminal n) = ⊥
+NameKey (Key.a-name n) = Unit {0}
+NameKey Key.a-definition = ⊥
+NameKey Key.an-open = ⊥
+NameKey Key.a-close = ⊥
+NameKey Key.a-brace = ⊥
+NameKey Key.other = Unit {0}
+
+name-key : {P : Type 0} (d : Dec P) (n : List ℕ) → NameKey (keyIf d (Key.a-name n))
+name-key (yes h) n = tt
+name-key (no h) n = tt
+
+abbrev Tags : Option Progress → Progress → Type 0
+Tags none s = Unit {0}
+Tags (some s′) s = WantsTag s
+
+key-tags : (s : Progress) (k : Key) → NameKey k → Tags (stepKey s k) s
+key-tags s (Key.a-nonterminal n) h = absurd h
+key-tags s Key.a-definition h = absurd h
+key-tags s Key.an-open h = absurd h
+key-tags s Key.a-close h = absurd h
+key-tags s Key.a-brace h = absurd h
+key-tags beginning (Key.a-name n) h = tt
+key-tags (first-word m) (Key.a-name n) h = tt
+key-tags (named d) (Key.a-name n) h = tt
+key-tags (defined d) (Key.a-name n) h = tt
+key-tags (own-front q d) (Key.a-name n) h = tt
+key-tags (wants-tag f d) (Key.a-name n) h = tt
+key-tags (tagged f t d) (Key.a-name n) h = tt
+key-tags (within x f t d) (Key.a-name n) h = tt
+key-tags (closed f t e d) (Key.a-name n) h = tt
+key-tags (own-back q f t e d) (Key.a-name n) h = tt
+key-tags (complete r d) (Key.a-name n) h = tt
+key-tags beginning Key.other h = tt
+key-tags (first-word m) Key.other h = tt
+key-tags (named d) Key.other h = tt
+key-tags (defined d) Key.other h = tt
+key-tags (own-front q d) Key.other h = tt
+key-tags (wants-tag f d) Key.other h = tt
+key-tags (tagged f t d) Key.other h = tt
+key-tags (within x f t d) Key.other h = tt
+key-tags (closed f t e d) Key.other h = tt
+key-tags (own-back q f t e d) Key.other h = tt
+key-tags (complete r d) Key.other h = tt
+
+name-silent : (n : List ℕ) → Silent (name n)
+name-silent n = record { in-condition = λ v. refl; at-start = λ v. refl; behind = refl; in-expression = refl }
+
+closes-name : (k : Key) (o : Option (Option Tree)) (f : Option Program) (t : List ℕ) (h : Head) → NameKey k → closes k o f t h ≡ none
+closes-name (Key.a-nonterminal n) o f t h i = absurd i
+closes-name (Key.a-name n) o f t h i = refl
+closes-name Key.a-definition o f t h i = absurd i
+closes-name Key.an-open o f t h i = absurd i
+closes-name Key.a-close o f t h i = absurd i
+closes-name Key.a-brace o f t h i = absurd i
+closes-name Key.other o f t h i = refl
+
+pub name-wants-tag : (s s′ : Progress) (n : List ℕ) → stepRules s (name n) ≡ some s′ → WantsTag s
+name-wants-tag s s′ n e = on s e
+  where
+    by-key : (s : Progress) → stepKey s (keyOf (name n)) ≡ some s′ → WantsTag s
+    by-key s i = subst (λ o. Tags o s) i (key-tags s (keyOf (name n)) (name-key (tagName? n) n))
+
+    on : (s : Progress) → stepRules s (name n) ≡ some s′ → WantsTag s
+    on beginning i = by-key beginning i
+    on (first-word m) i = by-key (first-word m) i
+    on (named h) i = by-key (named h) i
+    on (defined h) i = tt
+    on (own-front q h) i = none≢some (listing-stops first q (name n) (λ r. own-front r h) (λ p. wants-tag (some p) h) (name-silent n)) i
+    on (wants-tag f h) i = tt
+    on (tagged f t h) i = by-key (tagged f t h) i
+    on (within x f t h) i =
+        none≢some (ap (λ o. parsing o (closes (keyOf (name n)) (valueOfContent x) f t h) f t h) (content-stops x (name n) (name-silent n)) ∙ closes-name (keyOf (name n)) (valueOfContent x) f t h (name-key (tagName? n) n)) i
+    on (closed f t x h) i = by-key (closed f t x h) i
+    on (own-back q f t x h) i = none≢some (listing-stops second q (name n) (λ r. own-back r f t x h) (λ p. complete (ruleOf f (some p) t x h) h) (name-silent n)) i
+    on (complete r h) i = by-key (complete r h) i
+
+pub tag-place : (s s′ : Progress) (t : Token) → WantsTag s → stepRules s t ≡ some s′ → ((n : List ℕ) × (t ≡ name n)) ⊎ (t ≡ sign BRACE)
+tag-place s s′ t w e = on s w e
+  where
+    of-defined : (h : Head) (k : Key) → KeyIs t k → stepKey (defined h) k ≡ some s′ → ((n : List ℕ) × (t ≡ name n)) ⊎ (t ≡ sign BRACE)
+    of-defined h (Key.a-nonterminal n) i j = absurd (none≢some refl j)
+    of-defined h (Key.a-name n) i j = inl (n, i .0)
+    of-defined h Key.a-definition i j = absurd (none≢some refl j)
+    of-defined h Key.an-open i j = absurd (none≢some refl j)
+    of-defined h Key.a-close i j = absurd (none≢some refl j)
+    of-defined h Key.a-brace i j = inr i
+    of-defined h Key.other i j = absurd (none≢some refl j)
+
+    of-wanting : (f : Option Program) (h : Head) (k : Key) → KeyIs t k → stepKey (wants-tag f h) k ≡ some s′ → ((n : List ℕ) × (t ≡ name n)) ⊎ (t ≡ sign BRACE)
+    of-wanting f h (Key.a-nonterminal n) i j = absurd (none≢some refl j)
+    of-wanting f h (Key.a-name n) i j = inl (n, i .0)
+    of-wanting f h Key.a-definition i j = absurd (none≢some refl j)
+    of-wanting f h Key.an-open i j = absurd (none≢some refl j)
+    of-wanting f h Key.a-close i j = absurd (none≢some refl j)
+    of-wanting f h Key.a-brace i j = absurd (none≢some refl j)
+    of-wanting f h Key.other i j = absurd (none≢some refl j)
+
+    on : (s : Progress) → WantsTag s → stepRules s t ≡ some s′ → ((n : List ℕ) × (t ≡ name n)) ⊎ (t ≡ sign BRACE)
+    on beginning w i = absurd w
+    on (first-word m) w i = absurd w
+    on (named h) w i = absurd w
+    on (defined h) w i = of-defined h (keyOf t) (key-is t) i
+    on (own-front q h) w i = absurd w
+    on (wants-tag f h) w i = of-wanting f h (keyOf t) (key-is t) i
+    on (tagged f u h) w i = absurd w
+    on (within x f u h) w i = absurd w
+    on (closed f u x h) w i = absurd w
+    on (own-back q f u x h) w i = absurd w
+    on (complete r h) w i = absurd w

@@ -21,3 +21,5 @@ pub mod Search
 pub mod Acceptable
 pub mod Bytes
 pub mod Texts
+pub mod Lexical
+pub mod OneRules

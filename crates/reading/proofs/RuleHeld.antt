@@ -20,7 +20,7 @@ use Rattle.reading.proofs.Telling.{none≢some, IfSome}
 use Rattle.reading.proofs.StatementHeld.{Held as ListHeld, HeldIf as ListHeldIf, held-step as list-held-step, held-start as list-held-start, held-value as list-held-value, held-shortest as list-held-shortest}
 use Rattle.reading.proofs.ExpressionHeld.{PieceIs, piece-is, Held as ContentHeld, HeldIf as ContentHeldIf, held-step as content-held-step, held-start as content-held-start, held-value as content-held-value, held-shortest as content-held-shortest}
 
-abbrev KeyIs : Token → Key → Type 0
+abbrev pub KeyIs : Token → Key → Type 0
 KeyIs t (a-nonterminal n) = (t ≡ nonterminal n) × (n < nonterminals)
 KeyIs t (a-name n) = (t ≡ name n) × TagName n
 KeyIs t a-definition = t ≡ sign DEFINED
@@ -50,7 +50,7 @@ sign-key STAR = tt
 sign-key SEMICOLON = tt
 sign-key EQUALS = tt
 
-key-is : (t : Token) → KeyIs t (keyOf t)
+pub key-is : (t : Token) → KeyIs t (keyOf t)
 key-is (nonterminal n) = nonterminal-key n (nonterminal? n)
 key-is (value n) = tt
 key-is (attribute m a) = tt
