@@ -12,7 +12,7 @@ use Rattle.tokens.proofs.Streams.{token-moves}
 use Rattle.sheet.specs.Sheet.{Sheet}
 use Rattle.runs.specs.Machine.{State as Run}
 use Rattle.calls.specs.Held.{leavesOpen, closingOf, handed}
-use Rattle.calls.specs.Call.{Result, Runs, takes, stops, full, no-token, CalledBy}
+use Rattle.calls.specs.Call.{Result, Runs, takes, halts, CalledBy}
 use Rattle.state.specs.Changes.{notClosed, freshState, closedWith}
 use Rattle.state.specs.Canonical.{stateFor}
 use Rattle.state.specs.Meaning.{meaningOf}
@@ -32,18 +32,14 @@ taken-past : {a : Sheet} {part : List ℕ} {more : Bool} {at room : ℕ} {z : Ru
 taken-past {part = part} h (takes {at} e next z′ w m t d) =
     let k = token-moves part at e (record { at = next }) h m in
     omega (arith, k .0, taken-past (k .1) d)
-taken-past h (stops e next n m t) = omega arith
-taken-past h (full e next m t) = omega arith
-taken-past h (no-token x n m q) = omega arith
+taken-past h (halts x) = omega arith
 
 held-there : {a : Sheet} {part : List ℕ} {more : Bool} {at room : ℕ} {z : Run} {r : Result} → at ≤ length part → Runs a part more at room z r → r .taken ≡ at →
     r .held ≡ handed (r .number) z
 held-there {part = part} h (takes {at} e next z′ w m t d) q =
     let k = token-moves part at e (record { at = next }) h m in
     absurd (omega (arith, k .0, taken-past (k .1) d, q))
-held-there h (stops e next n m t) q = refl
-held-there h (full e next m t) q = refl
-held-there h (no-token x n m k) q = refl
+held-there h (halts x) q = refl
 
 module _ {s : List ℕ} {z : State} {part : List ℕ} {ended : Bool} {lent after : List ℕ} {r : Reply} where
   pub ran-canonical : Ran s z part ended lent after r → Canonical (r .state)
