@@ -11,3 +11,4 @@ pub mod Limits
 pub mod RuleText
 pub mod Refusal
 pub mod Promises
+pub mod Worked

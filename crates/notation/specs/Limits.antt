@@ -4,7 +4,7 @@ use mathlib.Core.List.{List, [], _∷_}
 use mathlib.Core.Option.{Option, none, some}
 use Prim.Native.Nat.{ℕ, _+_, _≤_}
 use lib.ListN.{length}
-use Rattle.expressions.specs.Expr.{nodes, depth, Content, nothing, tree, nodesOf}
+use Rattle.expressions.specs.Expr.{depth, Content, nothing, tree, nodesOf}
 use Rattle.programs.specs.Program.{programBytes}
 use Rattle.programs.specs.Limits.{nesting}
 use Rattle.notation.specs.Program.{Program, programIn}

@@ -2,24 +2,25 @@
 use mathlib.Core.Path.{_≡_, refl, sym, _∙_, ap}
 use mathlib.Core.Option.{Option, none, some}
 use mathlib.Core.List.{List, [], _∷_, _++_, append-nil}
+use Prim.Native.Nat.{ℕ}
 use Rattle.programs.specs.Program.{Condition}
 use Rattle.programs.specs.Limits.{Visit}
 use Rattle.notation.specs.Program.{Program}
 use Rattle.notation.specs.Statements.{parentheses, ListIs}
 use Rattle.notation.specs.Tokens.{Token, sign, UNBRACE}
 use Rattle.reading.specs.Machine.{andThen, walk}
-use Rattle.reading.specs.Conditions.{Reading, stepCondition, valueOf}
+use Rattle.reading.specs.Conditions.{other, Reading, stepPart, valueOf}
 use Rattle.reading.specs.Statements.{Level, nothing, Listing, wants, target, assigning, printing, testing, after, thenned, tested, listStart, stepStatements, valueOfList}
 use Rattle.reading.specs.Expressions.{Piece, pieceOf, an-unbrace, unbraces, listing}
 use Rattle.reading.proofs.Telling.{none≢some}
 use Rattle.reading.proofs.StatementWalk.{ListEnd}
 use Rattle.reading.proofs.Statements.{ends}
 
-condition-stops : (v : Visit) (r : Reading) → stepCondition v parentheses r (sign UNBRACE) ≡ none
-condition-stops v (Reading.wants l ls) = refl
-condition-stops v (Reading.compares x l ls) = refl
-condition-stops v (Reading.wants-other x l ls) = refl
-condition-stops v (Reading.after d o ls) = refl
+pub part-stops : (p : ℕ) (s : Reading) → stepPart p s other ≡ none
+part-stops p (Reading.wants l ls) = refl
+part-stops p (Reading.compares x l ls) = refl
+part-stops p (Reading.wants-other x l ls) = refl
+part-stops p (Reading.after d o ls) = refl
 
 pub then-stops : (o : Option Condition) (l : Level) (ls : List Level) → thenned o l ls nothing ≡ none
 then-stops none l ls = refl
@@ -30,7 +31,7 @@ list-stops v (wants w l ls) = refl
 list-stops v (target a l ls) = refl
 list-stops v (assigning a l ls) = refl
 list-stops v (printing l ls) = refl
-list-stops v (testing r l ls) = ap (λ q. tested q (valueOf r) l ls nothing) (condition-stops v r) ∙ then-stops (valueOf r) l ls
+list-stops v (testing r l ls) = ap (λ q. tested q (valueOf r) l ls nothing) (part-stops parentheses r) ∙ then-stops (valueOf r) l ls
 list-stops v (after b p l ls) = refl
 
 -- inside a machine that holds a list, and goes on with what the list is behind the }

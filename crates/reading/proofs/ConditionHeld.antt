@@ -336,7 +336,7 @@ module _ (v : Visit) (p : ℕ) where
       (subst (ConditionIs v (h .left-to-open) ts) is
       (rw (h .are, a .1) (with-or o (h .ors) (h .or-held) (h .last-is))))
 
-  zero-is : OperandIs v (value 0) (constant 0)
+  pub zero-is : OperandIs v (value 0) (constant 0)
   zero-is = a-value {n = 0} (omega arith)
 
   -- the tokens so far, and the shortest continuation

@@ -17,9 +17,3 @@ pub mod RuleWalk
 pub mod RuleHeld
 pub mod RuleSize
 pub mod Rules
-pub mod Search
-pub mod Acceptable
-pub mod Bytes
-pub mod Texts
-pub mod Lexical
-pub mod OneRules

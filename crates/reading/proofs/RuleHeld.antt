@@ -17,7 +17,7 @@ use Rattle.reading.specs.Statements.{Listing, listStart, stepStatements,
 use Rattle.reading.specs.Expressions.{Piece, an-atom, a-star, a-dot, a-bar, an-unbrace, Parsing, nonterminal?, pieceOf, unbraces, listing, stepExpression, valueOfContent, finishedContent}
 use Rattle.reading.specs.Rules.{Key, a-nonterminal, a-name, a-definition, an-open, a-close, a-brace, other, keyIf, signKey, keyOf, Head, head, Progress, beginning, first-word, named, defined, own-front, wants-tag, tagged, within, closed, own-back, complete, ruleOf, rulesOf, nextHead, stepKey, closes, parsing, stepRules, valueOfRules, plainRule, finishedRules}
 use Rattle.reading.proofs.Telling.{none≢some, IfSome}
-use Rattle.reading.proofs.StatementHeld.{Held as ListHeld, HeldIf as ListHeldIf, held-step as list-held-step, held-start as list-held-start, held-value as list-held-value, held-shortest as list-held-shortest}
+use Rattle.reading.proofs.StatementHeld.{Held as ListHeld, HeldIf as ListHeldIf, held-step as list-held-step, held-start as list-held-start, held-value as list-held-value, held-shortest as list-held-shortest, a-is-a-name}
 use Rattle.reading.proofs.ExpressionHeld.{PieceIs, piece-is, Held as ContentHeld, HeldIf as ContentHeldIf, held-step as content-held-step, held-start as content-held-start, held-value as content-held-value, held-shortest as content-held-shortest}
 
 abbrev pub KeyIs : Token → Key → Type 0
@@ -271,9 +271,6 @@ held-value (closed f u x h) ts v (fs, xs, b, c, s) e =
     subst (RulesAre ts) same (rules-held (ruleOf f none u x h) h ts (fs ++ name u ∷ sign OPEN ∷ (xs ++ sign CLOSE ∷ [])) (production-held f none u x h fs xs [] b c absent (s .numbered)) refl s)
 held-value (own-back q f u x h) ts v s e = absurd (none≢some refl e)
 held-value (complete r h) ts v (ws, p, i, s) e = let same : rulesOf r h ≡ v = cc in subst (RulesAre ts) same (rules-held r h ts ws p i s)
-
-a-is-a-name : TagName (97 ∷ [])
-a-is-a-name = record { a-name = (refl, tt); short = omega arith }
 
 -- the rest of a production, in its shortest form
 finishing : (r : Rule) (h : Head) (ts tail extra : List Token) → ProductionIs (nonterminal (h .nonterm) ∷ sign DEFINED ∷ (tail ++ extra)) r → r .nonterminal ≡ h .nonterm → Slot h ts tail → (rest : List Token) × RulesAre (ts ++ rest) (rulesOf r h)

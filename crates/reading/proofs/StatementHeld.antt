@@ -18,7 +18,7 @@ use Rattle.reading.specs.Conditions.{Part, operand, a-not, an-and, an-or
 use Rattle.reading.specs.Statements.{Start, simply, a-target, a-print, an-if, a-begin, no-start, startIf, startWord, current?, targetIf, startOf, Next, an-item, a-semicolon, an-else, a-then, an-assign, nothing, itemIf, nextWord, nextSign, nextOf, Pending, in-then, in-else, ended, endedAll, otherwise, Level, level, listed, around, Place, opening, separated, branching, Listing, wants, target, assigning, printing, testing, after, unblocked, blocked, emptied, started, elsed, one-more, followed, printed, targeted, assignedBy, thenned, tested, stepStatements, emptyValue, wholeValue, valueOfList, shortestAt, finishedList}
 use Rattle.reading.proofs.Telling.{none≢some, IfSome}
 use Rattle.reading.proofs.Programs.{then-assoc}
-use Rattle.reading.proofs.ConditionHeld.{PartIs, part-is, Held as ConditionHeld, HeldIf as ConditionHeldIf, held-step as condition-held-step, held-start as condition-held-start, held-value as condition-held-value, held-shortest as condition-held-shortest}
+use Rattle.reading.proofs.ConditionHeld.{PartIs, part-is, Held as ConditionHeld, HeldIf as ConditionHeldIf, held-step as condition-held-step, held-start as condition-held-start, held-value as condition-held-value, held-shortest as condition-held-shortest, zero-is}
 
 -- what a token is where a statement may begin
 abbrev StartIs : Visit → Token → Start → Type 0
@@ -134,6 +134,9 @@ next-is (sign s) = next-sign s
 one-item-more : {ts : List Token} {t : Token} {p q : Program} → ItemsAre ts p → ItemIs t q → ItemsAre (ts ++ t ∷ []) (p then q)
 one-item-more (ItemsAre.one i) j = ItemsAre.more i (ItemsAre.one j)
 one-item-more {q = q} (ItemsAre.more {p = p} {q = r} i is) j = subst (ItemsAre _) (sym (then-assoc p r q)) (ItemsAre.more i (one-item-more is j))
+
+pub a-is-a-name : TagName (97 ∷ [])
+a-is-a-name = record { a-name = (refl, tt); short = omega arith }
 
 module _ (v : Visit) where
   -- the statements before, each with its ;
@@ -445,18 +448,12 @@ module _ (v : Visit) where
   place-shortest branching l ls ts h k =
       slot-finished false l ls ts [] (word BEGIN ∷ word END ∷ []) done h (slot-branch (l .ifs) false (word BEGIN ∷ word END ∷ []) done k (block empty refl))
 
-  zero-is : OperandIs v (value 0) (constant 0)
-  zero-is = a-value {n = 0} (omega arith)
-
-  a-is-a-name : TagName (97 ∷ [])
-  a-is-a-name = record { a-name = (refl, tt); short = omega arith }
-
   pub held-shortest : (s : Listing) (ts : List Token) → Held s ts → (rest : List Token) × ListIs v (ts ++ rest) (finishedList s)
   held-shortest (wants w l ls) ts (h, k) = place-shortest w l ls ts h k
   held-shortest (target a l ls) ts (s, c, h) =
-      slot-finished false l ls ts (s ∷ []) (sign ASSIGNED ∷ value 0 ∷ []) (only (become a 0)) h (slot-of (l .ifs) false (s ∷ sign ASSIGNED ∷ value 0 ∷ []) (only (become a 0)) (assigns c zero-is refl))
+      slot-finished false l ls ts (s ∷ []) (sign ASSIGNED ∷ value 0 ∷ []) (only (become a 0)) h (slot-of (l .ifs) false (s ∷ sign ASSIGNED ∷ value 0 ∷ []) (only (become a 0)) (assigns c (zero-is v parentheses) refl))
   held-shortest (assigning a l ls) ts (s, c, h) =
-      slot-finished false l ls ts (s ∷ sign ASSIGNED ∷ []) (value 0 ∷ []) (only (become a 0)) h (slot-of (l .ifs) false (s ∷ sign ASSIGNED ∷ value 0 ∷ []) (only (become a 0)) (assigns c zero-is refl))
+      slot-finished false l ls ts (s ∷ sign ASSIGNED ∷ []) (value 0 ∷ []) (only (become a 0)) h (slot-of (l .ifs) false (s ∷ sign ASSIGNED ∷ value 0 ∷ []) (only (become a 0)) (assigns c (zero-is v parentheses) refl))
   held-shortest (printing l ls) ts h =
       slot-finished false l ls ts (word PRINT ∷ []) (start-tag (97 ∷ []) ∷ []) _ h (slot-of (l .ifs) false (word PRINT ∷ start-tag (97 ∷ []) ∷ []) _ (prints (ItemsAre.one (a-start a-is-a-name))))
   held-shortest (testing r l ls) ts (us, c, h) =

@@ -6,8 +6,6 @@ use Prim.Native.Nat.{ℕ, _≤_}
 use lib.ListN.{length}
 use Rattle.programs.specs.Program.{Condition, conditionBytes}
 use Rattle.programs.specs.Limits.{conditionNesting, Visit}
-use Rattle.notation.specs.Rules.{Rules}
-use Rattle.notation.specs.RuleText.{RuleText}
 use Rattle.notation.specs.Refusal.{GoesOn, Told}
 use Rattle.notation.specs.Conditions.{ConditionIs}
 use Rattle.notation.specs.Statements.{ListIs}
@@ -59,11 +57,3 @@ pub record Takes {A R : Type 0} (m : Machine A R) (Phrase : List A → R → Typ
 abbrev pub TakesWhatGoesOn : Type 1
 TakesWhatGoesOn = (A R : Type 0) (m : Machine A R) (Phrase : List A → R → Type 0) (Fits : R → Type 0) (fits : (r : R) → Dec (Fits r)) → Reads m Phrase Fits
     → (row : List A) → Takes m Phrase fits row
-
--- of every text it is told which rules it writes, or the byte of 40
-abbrev pub TellsTexts : Type 0
-TellsTexts = (text : List ℕ) → Told RuleText text
-
--- a text writes one thing at most
-abbrev pub OneRules : Type 0
-OneRules = (text : List ℕ) (r q : Rules) → RuleText text r → RuleText text q → r ≡ q

@@ -17,7 +17,7 @@ use Rattle.text.proofs.Unique.{char-one}
 use Rattle.text.proofs.NameLaws.{name-all, blank-stops}
 use Rattle.notation.specs.Tokens.{Mark, plain, left, right, Token, nonterminal, value, attribute, name, start-tag, end-tag, empty-tag, string, word, Word, CHAR, ECHO, ECHO-OFF, REJECT, PRINT, IF, THEN, ELSE, BEGIN, END, AND, OR, NOT, sign, Sign, DEFINED, ASSIGNED, OPEN, CLOSE, BRACE, UNBRACE, DOT, BAR, STAR, SEMICOLON, EQUALS, decimal, escaped, escapedAll, bytesOf, TagName, StringOf}
 use Rattle.notation.specs.Spelled.{wordByte, joins, MayFollow}
-use Rattle.reading.proofs.Acceptable.{Proper}
+use Rattle.telling.proofs.Acceptable.{Proper}
 
 -- the bytes in front that pass a test, and those behind them
 pub span : (ℕ → Bool) → List ℕ → List ℕ

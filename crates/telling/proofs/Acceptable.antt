@@ -23,15 +23,15 @@ use Rattle.notation.specs.Program.{Program}
 use Rattle.notation.specs.Rules.{Tree}
 use Rattle.notation.specs.Tokens.{Mark, plain, left, right, Token, nonterminal, value, attribute, name, start-tag, end-tag, empty-tag, string, word, Word, CHAR, ECHO, ECHO-OFF, REJECT, PRINT, IF, THEN, ELSE, BEGIN, END, AND, OR, NOT, sign, Sign, DEFINED, ASSIGNED, OPEN, CLOSE, BRACE, UNBRACE, DOT, BAR, STAR, SEMICOLON, EQUALS, decimal, bytesOf, markBytes, TagName, StringOf}
 use Rattle.notation.specs.Statements.{parentheses}
 use Rattle.reading.specs.Tests.{tagName?, string?}
 use Rattle.reading.specs.Conditions.{Part, other, partIf, value?, attribute?, attributePart, attributeOf, partOf, Reading, stepPart, stepCondition, valueOf}
 use Rattle.reading.specs.Statements.{Start, no-start, targetIf, current?, startOf, Next, nothing, itemIf, nextOf, Level, Listing, wants, target, assigning, printing, testing, after, thenned, tested, started, targeted, assignedBy, printed, followed, stepStatements, valueOfList}
 use Rattle.reading.specs.Expressions.{Piece, atomIf, nonterminal?, pieceOf, Parsing, stepPiece, unbraces, listing, stepExpression, valueOfContent}
 use Rattle.reading.specs.Rules.{Key, keyIf, keyOf, Head, ruleOf, Progress, beginning, first-word, named, defined, own-front, wants-tag, tagged, within, closed, own-back, complete, stepKey, closes, parsing, stepRules}
 use Rattle.reading.proofs.Telling.{none≢some}
-use Rattle.reading.proofs.Braces.{then-stops}
+use Rattle.reading.proofs.Braces.{part-stops, then-stops}
 use Rattle.reading.proofs.RuleHeld.{KeyIs, key-is}
-use Rattle.reading.proofs.Search.{Bounded, Good}
+use Rattle.telling.proofs.Search.{Bounded, Good}
 
 -- numbers under 100, names and strings as tokens may have them
 abbrev pub Proper : Token → Type 0
@@ -222,12 +222,6 @@ fine-or-stray (word w) = inl (record { good = tt; proper = tt; some-bytes = word
 fine-or-stray (sign s) = inl (record { good = tt; proper = tt; some-bytes = sign-some s })
 
 -- no machine takes it
-part-stops : (p : ℕ) (s : Reading) → stepPart p s other ≡ none
-part-stops p (Reading.wants l ls) = refl
-part-stops p (Reading.compares x l ls) = refl
-part-stops p (Reading.wants-other x l ls) = refl
-part-stops p (Reading.after d o ls) = refl
-
 list-stops : (v : Visit) (s : Listing) (t : Token) → Silent t → stepStatements v s t ≡ none
 list-stops v (wants w l ls) t h = ap (started w l ls) (h .at-start v)
 list-stops v (target a l ls) t h = ap (targeted a l ls) (h .behind)

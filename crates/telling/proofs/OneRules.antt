@@ -15,14 +15,14 @@ use Rattle.notation.specs.Gaps.{inComment, Gap, white, comment, Ending}
 use Rattle.notation.specs.Spelled.{joins, MayFollow, Spelled, end, token}
 use Rattle.notation.specs.Productions.{RulesAre}
 use Rattle.notation.specs.RuleText.{RuleText}
 use Rattle.reading.specs.Machine.{andThen, walk}
 use Rattle.reading.specs.Rules.{Progress, beginning, stepRules, rules}
-use Rattle.reading.specs.Promises.{OneRules}
+use Rattle.telling.specs.Promises.{OneRules}
 use Rattle.reading.proofs.Telling.{none≢some, cases, writes-one}
 use Rattle.reading.proofs.Rules.{reads-rules}
-use Rattle.reading.proofs.Acceptable.{Proper, Fine, taken-is-fine, WantsTag, name-wants-tag, tag-place}
-use Rattle.reading.proofs.Bytes.{OpenTail, InGap, ending-was}
-use Rattle.reading.proofs.Lexical.{Stops, stops-of, same-name, same-string, lexed, View, a-name, a-string, lexical, view, Solid, solid}
+use Rattle.telling.proofs.Acceptable.{Proper, Fine, taken-is-fine, WantsTag, name-wants-tag, tag-place}
+use Rattle.telling.proofs.Bytes.{OpenTail, InGap, ending-was}
+use Rattle.telling.proofs.Lexical.{Stops, stops-of, same-name, same-string, lexed, View, a-name, a-string, lexical, view, Solid, solid}
 
 clash : {A : Type 0} → _≡_ {A = Bool} true false → A
 clash e = absurd (let z : _≡_ {A = ℕ} 0 1 = cc in omega arith)

@@ -18,34 +18,34 @@ use Rattle.notation.specs.Spelled.{joins, MayFollow, Spelled, end, token}
 use Rattle.notation.specs.Productions.{RulesAre}
 use Rattle.notation.specs.RuleText.{RuleText}
 use Rattle.notation.specs.Refusal.{GoesOn, RefusedAt, Told, written, refused}
 use Rattle.reading.specs.Machine.{andThen, walk, next}
 use Rattle.reading.specs.Reads.{Limited}
 use Rattle.reading.specs.Tests.{both?, either?, true?}
 use Rattle.reading.specs.Rules.{Progress, beginning, stepRules, valueOfRules, finishedRules, rules}
-use Rattle.reading.specs.Promises.{TellsTexts}
+use Rattle.telling.specs.Promises.{TellsTexts}
 use Rattle.reading.proofs.Telling.{none≢some, cases, walk-on, run-was, next-was, ended, takes-what-goes-on}
 use Rattle.reading.proofs.Rules.{reads-rules}
-use Rattle.reading.proofs.Search.{Good, token?}
-use Rattle.reading.proofs.Acceptable.{Fine, taken-is-fine}
-use Rattle.reading.proofs.Bytes.{splits, split?, same?, begins?, gap?, OpenTail, InGap, in-gap?, gap-append, gap-front, ending-was, ending-is, within?}
+use Rattle.telling.proofs.Search.{Good, token?}
+use Rattle.telling.proofs.Acceptable.{Fine, taken-is-fine}
+use Rattle.telling.proofs.Bytes.{splits, split?, same?, begins?, gap?, OpenTail, InGap, in-gap?, gap-append, gap-front, ending-was, ending-is, within?}
 
 -- a step of the machine with its limits
-abbrev take-token : Progress → Token → Option Progress
+abbrev pub take-token : Progress → Token → Option Progress
 take-token s t = next rules within? s t
 
-abbrev run : Progress → List Token → Option Progress
+abbrev pub run : Progress → List Token → Option Progress
 run s ts = walk take-token s ts
 
 -- bytes that spell tokens which lead from a state to an end
-record Spelling (s : Progress) (x : List ℕ) : Type 0 where
-  tokens : List Token
-  last : Progress
-  written-rules : Rules
-  spelled : Spelled tokens x
-  walked : run s tokens ≡ some last
-  told : valueOfRules last ≡ some written-rules
+pub record Spelling (s : Progress) (x : List ℕ) : Type 0 where
+  pub tokens : List Token
+  pub last : Progress
+  pub written-rules : Rules
+  pub spelled : Spelled tokens x
+  pub walked : run s tokens ≡ some last
+  pub told : valueOfRules last ≡ some written-rules
 
-abbrev Reached : Progress → Type 0
+abbrev pub Reached : Progress → Type 0
 Reached s = (us : List Token) × (run beginning us ≡ some s)
 
 live : (s : Progress) → Reached s → (ts : List Token) × (z : Progress) × (v : Rules) × (run s ts ≡ some z) × (valueOfRules z ≡ some v)
@@ -94,31 +94,31 @@ gap-spelled g h (end (open-comment {g = y} c k a)) = end (subst Ending (append-a
 gap-spelled g h (token {g = y} {rest = r} {ts = ts} t k m s) = subst (Spelled (t ∷ ts)) (append-assoc g y (bytesOf t ++ r)) (token t (gap-append g y h k) m s)
 
 -- for a whole text (true), or for the beginning of one (false)
-abbrev Target : Bool → List ℕ → Type 0
+abbrev pub Target : Bool → List ℕ → Type 0
 Target true q = q ≡ []
 Target false q = Unit {0}
 
-abbrev Rest : Bool → Progress → List ℕ → Type 0
+abbrev pub Rest : Bool → Progress → List ℕ → Type 0
 Rest b s p = (q : List ℕ) × Target b q × Spelling s (p ++ q)
 
-abbrev Base : Bool → Progress → Type 0
+abbrev pub Base : Bool → Progress → Type 0
 Base true s = (v : Rules) × (valueOfRules s ≡ some v)
 Base false s = Unit {0}
 
-abbrev Begun : Bool → Token → List ℕ → Type 0
+abbrev pub Begun : Bool → Token → List ℕ → Type 0
 Begun true t w = ⊥
 Begun false t w = (u : List ℕ) × (bytesOf t ≡ w ++ u)
 
-abbrev Through : Bool → Progress → Token → List ℕ → List ℕ → Type 0
+abbrev pub Through : Bool → Progress → Token → List ℕ → List ℕ → Type 0
 Through b s t a r = (a ≡ bytesOf t) × (MayFollow t r × Rest b s r)
 
-abbrev TokenAt : Bool → Progress → List ℕ → Token → Type 0
+abbrev pub TokenAt : Bool → Progress → List ℕ → Token → Type 0
 TokenAt b s w t = (s′ : Progress) × (take-token s t ≡ some s′) × (Begun b t w ⊎ ((a r : List ℕ) × (w ≡ a ++ r) × Through b s′ t a r))
 
-abbrev AtToken : Bool → Progress → List ℕ → Type 0
+abbrev pub AtToken : Bool → Progress → List ℕ → Type 0
 AtToken b s p = (g w : List ℕ) × (p ≡ g ++ w) × (Gap g × ((t : Token) × Good t × TokenAt b s w t))
 
-abbrev Cases : Bool → Progress → List ℕ → Type 0
+abbrev pub Cases : Bool → Progress → List ℕ → Type 0
 Cases b s p = (InGap p × Base b s) ⊎ AtToken b s p
 
 may-front : (t : Token) (r q : List ℕ) → MayFollow t (r ++ q) → MayFollow t r
@@ -178,7 +178,7 @@ module _ (s z : Progress) (v : Rules) (p q : List ℕ) where
       on (inl j) = absurd (none≢some (ap (λ o. andThen o (λ y. run y ts)) j) n)
       on (inr (s′, j)) = with-next s′ j
 
-rest-cases : (b : Bool) (s : Progress) (p : List ℕ) → Rest b s p → Cases b s p
+pub rest-cases : (b : Bool) (s : Progress) (p : List ℕ) → Rest b s p → Cases b s p
 rest-cases b s p (q, k, sp) = spelled-cases s (sp .last) (sp .written-rules) p q b k (sp .spelled) refl (sp .walked) (sp .told)
 
 -- and from there it goes on
@@ -251,7 +251,7 @@ token-on false s s′ t p g w h n e k (inl (u, i)) = begun-on s s′ t p g w u h
 token-on true s s′ t p g w h n e k (inr (a, r, i, j)) = whole-on true s s′ t p g w a r h n e k i j
 token-on false s s′ t p g w h n e k (inr (a, r, i, j)) = whole-on false s s′ t p g w a r h n e k i j
 
-cases-rest : (b : Bool) (s : Progress) (p : List ℕ) → Reached s → Cases b s p → Rest b s p
+pub cases-rest : (b : Bool) (s : Progress) (p : List ℕ) → Reached s → Cases b s p → Rest b s p
 cases-rest b s p h (inl (g, k)) = base-on b s p h g k
 cases-rest b s p h (inr (g, w, e, (k, (t, i, (s′, n, j))))) = token-on b s s′ t p g w h n e k j
 
@@ -322,16 +322,16 @@ rest-below? : (b : Bool) (k : ℕ) (s : Progress) → Reached s → (p : List �
 rest-below? b zero s h p l = absurd (omega arith)
 rest-below? b (suc k) s h p l = rest-by b k (λ s′ h′ r i. rest-below? b k s′ h′ r i) s h p (omega arith)
 
-rest? : (b : Bool) (p : List ℕ) → Dec (Rest b beginning p)
+pub rest? : (b : Bool) (p : List ℕ) → Dec (Rest b beginning p)
 rest? b p = rest-below? b (suc (length p)) beginning ([], refl) p (omega arith)
 
 -- rule texts are what the machine's tokens spell
-text-spelling : (text : List ℕ) (r : Rules) → RuleText text r → Spelling beginning text
+pub text-spelling : (text : List ℕ) (r : Rules) → RuleText text r → Spelling beginning text
 text-spelling text r h =
     let c = ended rules RulesAre Within within? reads-rules (h .tokens) r (record { phrase = h .grammatical; fits = h .within }) in
     record { tokens = h .tokens; last = c .0; written-rules = r; spelled = h .spelled; walked = c .1; told = c .2 }
 
-spelling-text : (text : List ℕ) (s : Spelling beginning text) → RuleText text (s .written-rules)
+pub spelling-text : (text : List ℕ) (s : Spelling beginning text) → RuleText text (s .written-rules)
 spelling-text text s =
     let w = run-was rules RulesAre Within within? reads-rules beginning (s .last) (s .tokens) (reads-rules .starts) (s .walked) in
     record {

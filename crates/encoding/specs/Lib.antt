@@ -1,0 +1,5 @@
+pub mod Mentions
+pub mod Distinct
+pub mod Encoded
+pub mod Keeps
+pub mod Promises
