@@ -343,6 +343,91 @@ def a_full_small_disk_changes_nothing():
         subprocess.run(["umount", "disk"], check=True)
 
 
+# ---- messages
+
+
+def told(schedule, number):
+    """What is said of a schedule that is refused with this number."""
+    write("schedule", schedule)
+    status, out, _ = run("try", SHEET, "schedule")
+    expect(f"{schedule!r} gives {number}, not {status}", status == number)
+    return out
+
+
+def programme(rest):
+    return b"<schedule><programme><start>now</start>" + rest + b"</programme></schedule>"
+
+
+@test
+def what_is_no_token_is_named():
+    for text, says in [
+        (b'<b class="x">', b"a tag with an attribute"),
+        (b"<b =>", b"a tag with something in it"),
+        (b"</b x>", b"a tag with an attribute"),
+        (b"<!-- x -->", b"a comment"),
+        (b"<![CDATA[x]]>", b"a CDATA section"),
+        (b"<!DOCTYPE x>", b"a declaration"),
+        (b"<?xml version='1.0'?>", b"an XML declaration"),
+        (b"< b", b"a < that starts no tag"),
+        (b"Tom & Jerry", b"a bare &"),
+        (b"&nbsp;", b"no reference that schedules have"),
+        (b"&#233;", b"a numbered reference"),
+        (b"a > b", b"a bare >"),
+        (b"a\x01b", b"a control character"),
+        (b"caf\xe9 au lait", b"no character in UTF-8"),
+    ]:
+        out = told(programme(b"<title>" + text + b"</title>"), 20)
+        expect(f"{says!r} is said of {text!r}", says in out)
+
+
+@test
+def what_to_write_instead_mends_the_case():
+    for text in [b"Tom &amp; Jerry", b"a &gt; b", b"&lt; b", "\u00e9".encode()]:
+        write("schedule", programme(b"<title>" + text + b"</title>"))
+        expect(f"{text!r} is taken", run("try", SHEET, "schedule")[0] == 0)
+
+
+@test
+def a_byte_order_mark_is_named():
+    out = told(b"\xef\xbb\xbf" + programme(b""), 23)
+    expect("it is named", b"byte order mark" in out and b"\\xef\\xbb\\xbf" in out)
+
+
+@test
+def nothing_shown_can_be_taken_for_another_byte():
+    out = told(programme("<titel>\u00e9 \\x41 \u202e \x7f".encode()), 23)
+    expect("characters, and others by number", "There stands: <titel>\u00e9 \\\\x41 \\xe2\\x80\\xae \\x7f</programme> ..\n".encode() in out)
+
+
+def damaged(at, byte):
+    sheet = bytearray(read(example("schedule.sheet")))
+    sheet[at] = byte
+    write("sheet", sheet)
+    status, out, _ = run("check", "sheet")
+    return status, out
+
+
+@test
+def the_first_wrong_record_is_named():
+    size = len(read(example("schedule.sheet")))
+    for at, byte, number, says in [
+        (size - 1, 0, 2, b"the mark, from byte 236 of the file on"),
+        (size - 22, 6, 2, b"the offset of the productions, from byte 218 of the file on (counted from 0): it is 80, and has to be 96."),
+        (32, 0, 3, b"tag 2, from byte 32 of the file on"),
+        (33, ord("1"), 3, b"tag 2, from byte 32 of the file on"),
+        (80 + 12 + 5, 1, 4, b"production 1, from byte 92 of the file on"),
+        (size - 4, 64, 4, b"the start, in the trailer, is 64"),
+        (140 + 12, 6, 5, b"the expression of production 1, from byte 92 of the file on"),
+        (212, 99, 6, b"The first wrong program is the one at 0 of the programs, which start at byte 212"),
+        (80 + 6, 1, 6, b"a program field of production 0, from byte 80 of the file on"),
+        (140 + 7, 9, 7, b"Nonterminal 9 has no production. The first wrong one is node 1, from byte 146 of the file on"),
+        (size - 4, 9, 7, b"Nonterminal 9 has no production. It is the start"),
+    ]:
+        status, out = damaged(at, byte)
+        expect(f"byte {at} as {byte} gives {number}, not {status}", status == number)
+        expect(f"{says!r} is said, not {out!r}", says in out)
+
+
 # ---- where it is called from
 
 

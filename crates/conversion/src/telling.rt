@@ -4,33 +4,14 @@ ghost use lib.ListN.{length};
 use crate::place::Place;
 use crate::run::Standing;
 use libc::STDOUT_FILENO;
-use report::say;
 use state::State;
+use words::say;
 
 // The most bytes that are shown of what was refused: as many as a token may have.
 const SHOWN: usize = 32;
 
 fn say_number(n: u64) {
     io::print_decimal(STDOUT_FILENO, n);
-}
-
-// A byte as it is where it can be seen, else by its number.
-fn say_byte(b: u8) {
-    if (b < 0x20) | (b > 0x7E) {
-        say(b"\\x");
-        io::print_hex(STDOUT_FILENO, b as u64, 2);
-        return;
-    }
-    let one = [b];
-    say(&one);
-}
-
-fn say_bytes(bytes: &[u8]) {
-    let mut i = 0;
-    while i < bytes.len() {
-        say_byte(bytes[i]);
-        i += 1;
-    }
 }
 
 // The first bytes of what is left of the schedule.
@@ -41,7 +22,7 @@ fn say_front(bytes: &[u8]) {
     }
     say(b"There stands: ");
     let n = files::within(SHOWN, bytes);
-    say_bytes(&bytes[..n]);
+    explain::say_shown(&bytes[..n]);
     if n < bytes.len() {
         say(b" ..");
     }
@@ -80,6 +61,29 @@ fn say_open_elements(sheet: &[u8], z: State) {
     report::say_open(sheet, &productions[..depth], top.place as usize);
 }
 
+// Whether some bytes start with a byte order mark.
+fn is_marked(bytes: &[u8]) -> bool {
+    (wrong::byte(bytes, 0) == 0xEF)
+        & (wrong::byte(bytes, 1) == 0xBB)
+        & (wrong::byte(bytes, 2) == 0xBF)
+}
+
+// A byte order mark is a character like any other, and comes before the root.
+fn say_of_mark(place: Place, left: &[u8]) {
+    if (place.offset == 0) & is_marked(left) {
+        say(
+            b"The file starts with a byte order mark, the three bytes EF BB BF, which schedules do not have: save it as UTF-8 without one.\n",
+        );
+    }
+}
+
+// What stands there instead of a token.
+fn say_of_front(number: usize, left: &[u8]) {
+    if number == 20 {
+        explain::say_what_stands(left);
+    }
+}
+
 // A token's output that the whole room does not hold: what the table's words for hosts leave open.
 fn say_of_room(number: usize) {
     if number == 17 {
@@ -98,11 +102,13 @@ pub(crate) fn tell_refusal(sheet: &[u8], schedule: &[u8], s: Standing, left: &[u
     say(b": number ");
     say_number(number as u64);
     say(b".\n");
-    report::say_meaning(number);
+    words::say_meaning(number);
     say(b"\n");
     say_of_room(number);
     say_place(place);
     say_front(left);
+    say_of_mark(place, left);
+    say_of_front(number, left);
     say_open_elements(sheet, state);
 }
 

@@ -3,18 +3,18 @@ ghost use Prim.Native.Nat.{_+_, _<_};
 ghost use lib.ListN.{length};
 ghost use Rattle.layout.specs.LaidOut.{LaidOut};
 ghost use Rattle.trees.specs.Parsed.{RunsInside};
-use crate::expression::say_expression;
-use crate::symbols::say_atom;
-use crate::symbols::say_next;
-use crate::symbols::say_tag;
-use crate::words::say;
-use crate::words::say_number;
-use crate::words::say_ordinal;
 use layout::Layout;
 use layout::byte_at;
 use layout::nonterminal_of;
 use layout::tag_number_of;
 use trees::alike;
+use words::say;
+use words::say_atom;
+use words::say_expression;
+use words::say_next;
+use words::say_number;
+use words::say_ordinal;
+use words::say_tag;
 
 // The numbers of the productions of nonterminal m with tag t.
 fn say_alike(s: &[u8], l: Layout, m: usize, t: usize)
@@ -73,8 +73,8 @@ pub(crate) fn say_place(s: &[u8], l: Layout, q: usize, p: usize)
     say(b"after the ");
     say_ordinal(p);
     say(b" atom");
-    let found = crate::node_of_atom(s, l, q, p);
-    if let crate::Found::At(i) = found {
+    let found = words::node_of_atom(s, l, q, p);
+    if let words::Found::At(i) = found {
         say(b" (");
         say_atom(s, l, i);
         say(b")");

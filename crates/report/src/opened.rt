@@ -1,15 +1,15 @@
 // Where in a schedule something was refused: the elements open there, and what the innermost of them may hold.
 ghost use Rattle.layout.specs.LaidOut.{LaidOut};
 ghost use Rattle.trees.specs.Parsed.{RunsInside};
-use crate::expression::say_expression;
 use crate::faults_told::say_place;
 use crate::faults_told::say_production;
-use crate::symbols::say_tag;
-use crate::symbols::say_tags_of;
-use crate::words::say;
 use layout::Layout;
 use layout::byte_at;
 use layout::tag_number_of;
+use words::say;
+use words::say_expression;
+use words::say_tag;
+use words::say_tags_of;
 
 // The tag of production q.
 fn say_element(s: &[u8], l: Layout, q: usize)

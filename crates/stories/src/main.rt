@@ -1,5 +1,5 @@
 // Converts the example schedules in data/, each over yesterday's listing, as `wickpollen convert` does, and shows the listing afterwards.
-use report::say;
+use words::say;
 
 // A listing that was there before.
 fn put_yesterday() {

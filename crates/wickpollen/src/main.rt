@@ -8,7 +8,7 @@ ghost use Rattle.io.specs.Counts.{Counts};
 use conversion::Caller;
 use conversion::FILE;
 use libc::STDERR_FILENO;
-use report::say;
+use words::say;
 
 // The command was not understood: a number that the paper's table has not.
 const USAGE: u64 = 101;
@@ -63,7 +63,7 @@ fn help_commands() {
 fn help() -> u64 {
     help_commands();
     say(b"The exit status is the number of the answer:\n");
-    report::table();
+    words::table();
     say(b"\n101: The command was not understood. See how it is used above.\n");
     say(
         b"\n102: A file could not be read or written, or LISTING is nothing to write to; the message says which and why. Mend that, and give the command again.\n",

@@ -7,8 +7,8 @@ use Rattle.report.proofs.faults_told.say_alike.Reads as reads
 use Rattle.report.proofs.faults_told.say_alike.Lts as lts
 use Rattle.layout.proofs.nonterminal_of.Reads as nonterminal-of-reads
 use Rattle.layout.proofs.tag_number_of.Reads as tag-number-of-reads
-use Rattle.report.proofs.words.say.Reads as say-reads
-use Rattle.report.proofs.words.say_number.Reads as say-number-reads
+use Rattle.words.proofs.say.Reads as say-reads
+use Rattle.words.proofs.say_number.Reads as say-number-reads
 
 abbrev Inv-loop : tie.InvT-loop
 Inv-loop s l m t some₀ q₀ t9 some q = q ≤ l .productions

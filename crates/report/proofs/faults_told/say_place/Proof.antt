@@ -1,14 +1,14 @@
 -- The atom that was found is a node of the sheet.
-use Rattle.report.proofs.Laws.{found-inside}
+use Rattle.words.proofs.Laws.{found-inside}
 use borrow.Author.Needs.{needs}
 use Rattle.report.proofs.faults_told.say_place.Statement.{statement}
 use Rattle.report.proofs.faults_told.say_place.Tie as tie
 use Rattle.report.proofs.faults_told.say_place.Reads as reads
 use Rattle.report.proofs.faults_told.say_place.Lts as lts
-use Rattle.report.proofs.node_of_atom.Reads as node-of-atom-reads
-use Rattle.report.proofs.symbols.say_atom.Reads as say-atom-reads
-use Rattle.report.proofs.words.say.Reads as say-reads
-use Rattle.report.proofs.words.say_ordinal.Reads as say-ordinal-reads
+use Rattle.words.proofs.node_of_atom.Reads as node-of-atom-reads
+use Rattle.words.proofs.say_atom.Reads as say-atom-reads
+use Rattle.words.proofs.say.Reads as say-reads
+use Rattle.words.proofs.say_ordinal.Reads as say-ordinal-reads
 
 -- src/faults_told.rt:70:13
 slice-aggregate-say : tie.Need-slice-aggregate-say

@@ -8,7 +8,7 @@ use Rattle.report.proofs.opened.say_elements.Reads as reads
 use Rattle.report.proofs.opened.say_elements.Lts as lts
 use Rattle.layout.proofs.byte_at.Reads as byte-at-reads
 use Rattle.report.proofs.opened.say_element.Reads as say-element-reads
-use Rattle.report.proofs.words.say.Reads as say-reads
+use Rattle.words.proofs.say.Reads as say-reads
 
 abbrev Inv-loop : tie.InvT-loop
 Inv-loop s l productions i₀ t6 t7 i = i ≤ length productions

@@ -1,0 +1,36 @@
+-- Byte by byte.
+use Prim.Native.Nat.{_-_}
+use lib.ListN.{length}
+use borrow.Author.Needs.{needs}
+use Rattle.explain.proofs.front.past_blanks.Statement.{statement}
+use Rattle.explain.proofs.front.past_blanks.Tie as tie
+use Rattle.explain.proofs.front.past_blanks.Reads as reads
+use Rattle.explain.proofs.front.past_blanks.Lts as lts
+use Rattle.text.proofs.blank.Reads as blank-reads
+
+abbrev Inv-loop : tie.InvT-loop
+Inv-loop f from i₀ i = Unit {0}
+
+abbrev μ-loop : tie.MeasureT-loop
+μ-loop f from i₀ i = length f - i
+
+loop-holds : tie.Need-loop-holds Inv-loop μ-loop
+loop-holds c = tt
+
+loop-again : tie.Need-loop-again Inv-loop μ-loop
+loop-again c = tt
+
+pub past-blanks-spec : {M : Type 1} → statement M
+past-blanks-spec =
+    tie.close
+    (tie.spec
+    Inv-loop
+    μ-loop
+    loop-holds
+    (λ c. search needs)
+    (λ c κs. search needs)
+    (λ c. search needs)
+    (λ c. search needs)
+    (λ c. search needs)
+    loop-again
+    (λ c. search needs))

@@ -1,0 +1,97 @@
+// Bytes of a schedule as they can be read: characters as they are, and others, which could be taken for nothing or for another, by number.
+ghost use Prim.Native.Nat.{_≤_};
+use libc::STDOUT_FILENO;
+use std::num::wrapping_add_usize;
+use text::Decoded;
+use words::say;
+
+// How many bytes were shown, and in how many columns.
+struct Step {
+    bytes: usize,
+    columns: usize,
+}
+
+// A byte by its number.
+fn say_by_number(b: u8) -> Step
+    ensures { λ r. ⌜ 1 ≤ r .bytes ⌝ }
+    ensures { λ r. ⌜ r .bytes ≤ 4 ⌝ }
+{
+    say(b"\\x");
+    io::print_hex(STDOUT_FILENO, b as u64, 2);
+    Step {
+        bytes: 1,
+        columns: 4,
+    }
+}
+
+// A number of bytes from 1 to 4.
+fn one_to_four(n: usize) -> usize
+    ensures { λ r. ⌜ 1 ≤ r ⌝ }
+    ensures { λ r. ⌜ r ≤ 4 ⌝ }
+{
+    if n < 1 {
+        return 1;
+    }
+    if n > 4 {
+        return 4;
+    }
+    n
+}
+
+// Whether a character is seen, and as itself: no control, no mark of width 0 or of direction, no line's or paragraph's end.
+fn is_seen(c: u32) -> bool {
+    match c {
+        0..=31 | 127..=160 | 173 | 8203..=8207 | 8232..=8239 | 8288..=8303 | 65279 => false,
+        _ => true,
+    }
+}
+
+// The first character or byte of some bytes, of which there is one at least. A backslash is doubled.
+fn show_one(f: &[u8]) -> Step
+    ensures { λ r. ⌜ 1 ≤ r .bytes ⌝ }
+    ensures { λ r. ⌜ r .bytes ≤ 4 ⌝ }
+{
+    let first = wrong::byte(f, 0);
+    if first == b'\\' {
+        say(b"\\\\");
+        return Step {
+            bytes: 1,
+            columns: 2,
+        };
+    }
+    let d = text::decode(f);
+    let Decoded::Whole(c, n) = d else {
+        return say_by_number(first);
+    };
+    if !is_seen(c) {
+        return say_by_number(first);
+    }
+    let m = files::within(n, f);
+    say(&f[..m]);
+    Step {
+        bytes: one_to_four(n),
+        columns: 1,
+    }
+}
+
+// As many of the bytes that are left as were shown.
+fn step_within(shown: usize, left: usize) -> usize
+    requires { ⌜ 1 ≤ shown ⌝ }
+    requires { ⌜ 1 ≤ left ⌝ }
+    ensures { λ r. ⌜ 1 ≤ r ⌝ }
+    ensures { λ r. ⌜ r ≤ left ⌝ }
+{
+    if shown < left { shown } else { left }
+}
+
+// Shows some bytes, and answers in how many columns.
+pub fn say_shown(f: &[u8]) -> usize {
+    let mut columns = 0;
+    let mut i = 0;
+    while i < f.len() {
+        let step = show_one(&f[i..]);
+        columns = wrapping_add_usize(columns, step.columns);
+        i += step_within(step.bytes, f.len() - i);
+    }
+    columns
+}

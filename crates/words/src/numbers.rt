@@ -1,0 +1,129 @@
+// The numbers of the table, in plain words.
+use crate::speech::say;
+use crate::speech::say_number;
+
+// What a number says of a sheet, and what to do next.
+fn say_of_sheet(number: usize) {
+    match number {
+        0 => say(b"The sheet passes: each schedule can be read in one way only."),
+        1 => say(
+            b"This is no whole sheet: a sheet has 24 to 27928 bytes. The file is cut off, or is something else; fetch or write it again.",
+        ),
+        2 => say(
+            b"The last 24 bytes, which say where the parts of the sheet lie, do not fit the file. It is cut off, or its parts do not lie back to back; write it again.",
+        ),
+        3 => say(
+            b"A tag is wrong, in the tag records at the start of the file: its length, its name, the zeros after it, or two tags are alike. Mend that tag's 16 bytes.",
+        ),
+        4 => say(
+            b"A production is wrong, in the production records after the tags: its nonterminal, its tag number, its run of nodes or its zeros; or the start is over 63. Mend that production's 12 bytes, or the start.",
+        ),
+        5 => say(
+            b"An expression is wrong, in the node records after the productions: a node's kind or argument, or a run that is not one whole tree, at most 12 deep. Mend the nodes of that production.",
+        ),
+        6 => say(
+            b"A program is wrong, in the programs after the nodes, or a field of a production or a node names no program of its visit, or a print reaches outside the strings. Mend that program or field.",
+        ),
+        7 => say(
+            b"The start, or a nonterminal that an expression names, has no production. Add a production of it, or name another nonterminal.",
+        ),
+        8 => say(
+            b"Some productions of one nonterminal share a tag. Mend every place listed; the list has all faults of the sheet, of this sort and of number 9.",
+        ),
+        9 => say(
+            b"At some places the same input could be read in two ways. Mend every place listed; the list has all of them.",
+        ),
+        _ => say(
+            b"The sheet has faults, but the list lent for them is too short. Lend four bytes for each fault; 65536 always suffice.",
+        ),
+    }
+}
+
+// What a number says of a token of a schedule, and what to do next.
+fn say_of_token(number: usize) {
+    match number {
+        20 => say(
+            b"What stands there is no tag and no text: a bare & or < or >, bytes that are no UTF-8, a control character, or markup that schedules do not have (tag attributes, comments, declarations, CDATA, numbered references). Take it out, or write it as text: & is &amp; and < is &lt; and > is &gt;",
+        ),
+        21 => say(
+            b"A tag is longer than 32 bytes, the white space in it counted. Look for a > that is missing, or shorten the tag.",
+        ),
+        22 => say(
+            b"An end tag is not that of the innermost open element. Close that element first, or take this end tag out.",
+        ),
+        23 => say(
+            b"The sheet does not allow this here. Take it out, put it where it may stand, or put in what has to come before it.",
+        ),
+        24 => say(
+            b"This would be the 33rd open element, and at most 32 can be open. Look for end tags that are missing further up.",
+        ),
+        25 => say(
+            b"A program of the sheet rejects this. It is spelled as the sheet asks, but the sheet's author ruled it out here; ask what the rule is, and mend the schedule or the sheet.",
+        ),
+        _ => say(
+            b"The schedule goes on after its end: something other than white space follows the root's end tag. Take it out, or the end tag that came too early.",
+        ),
+    }
+}
+
+// What a number says of a whole call, and what to do next.
+fn say_of_call(number: usize) {
+    match number {
+        16 => say(
+            b"The part is used up, or only a begun token is left of it, and more is to come. Hand over the bytes that were not taken, and the next part behind them.",
+        ),
+        17 => say(
+            b"The next token's output is longer than the room left. Write out what there is and lend the room again; if nothing was written, lend more.",
+        ),
+        27 => say(
+            b"The schedule ends too early: inside a tag or a character, or before its root is closed. The file is cut off; fetch it whole and convert it again.",
+        ),
+        28 => say(
+            b"The schedule had already come to its end. Begin the next one with a fresh state.",
+        ),
+        29 => say(
+            b"The state does not fit the sheet: it is damaged, another sheet's, or not 2199 bytes long. Begin again with a fresh state.",
+        ),
+        _ => say(b"The count of visits would pass 2 to the 62nd. Begin again with a fresh state."),
+    }
+}
+
+// What a number of the table means, and what to do next.
+pub fn say_meaning(number: usize) {
+    match number {
+        0..=10 => say_of_sheet(number),
+        20..=26 => say_of_token(number),
+        _ => say_of_call(number),
+    }
+}
+
+// Whether the table has the number.
+fn is_number(n: usize) -> bool {
+    match n {
+        0..=10 | 16 | 17 | 20..=30 => true,
+        _ => false,
+    }
+}
+
+// A number with its words. 0 is also what a schedule that was converted is answered with.
+fn say_row(n: usize) {
+    say(b"\n");
+    say_number(n);
+    say(b": ");
+    say_meaning(n);
+    if n == 0 {
+        say(b" Or: the whole schedule was converted, and the listing is in place.");
+    }
+    say(b"\n");
+}
+
+// Every number with its words.
+pub fn table() {
+    let mut n = 0;
+    while n < 31 {
+        if is_number(n) {
+            say_row(n);
+        }
+        n += 1;
+    }
+}

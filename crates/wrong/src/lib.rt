@@ -1,0 +1,59 @@
+// Which record of a sheet is the first wrong one, where the sheet's number is 2 to 7. The number is the proved test's; this only looks for the
+// place to mend, in bytes of any sort, and says nothing where it finds none.
+mod nodes;
+mod productions;
+mod programs_told;
+mod tags;
+mod trailer;
+
+ghost use Prim.Native.Nat.{_<_};
+pub use trailer::field_of;
+use words::say;
+use words::say_number;
+
+// What a sheet can have at most: no offset in it is larger.
+const LONGEST: usize = 27928;
+
+// A byte of the sheet; 0 where there is none.
+pub fn byte(s: &[u8], i: usize) -> u8 {
+    if i < s.len() { s[i] } else { 0 }
+}
+
+// A byte as a number.
+pub fn small(s: &[u8], i: usize) -> usize
+    ensures { λ r. ⌜ r < 256 ⌝ }
+{
+    byte(s, i) as usize
+}
+
+// Two bytes as a number, the lower first.
+pub fn word(s: &[u8], i: usize) -> usize
+    requires { ⌜ i < 2000000 ⌝ }
+    ensures { λ r. ⌜ r < 65536 ⌝ }
+{
+    small(s, i) + 256 * small(s, i + 1)
+}
+
+// A record by its name, its number and its first byte.
+fn say_record(name: &[u8], number: usize, at: usize) {
+    say(b"The first wrong one is ");
+    say(name);
+    say(b" ");
+    say_number(number);
+    say(b", from byte ");
+    say_number(at);
+    say(b" of the file on (both counted from 0).\n");
+}
+
+// Where to mend a sheet that has this number.
+pub fn say_place(s: &[u8], number: u8) {
+    match number {
+        2 => trailer::say_trailer(s),
+        3 => tags::say_tag(s),
+        4 => productions::say_production(s),
+        5 => nodes::say_expression(s),
+        6 => programs_told::say_program(s),
+        7 => nodes::say_missing(s),
+        _ => (),
+    }
+}
