@@ -1,4 +1,5 @@
 pub mod Program
+pub mod Bounds
 pub mod Limits
 pub mod Section
 pub mod Parsed

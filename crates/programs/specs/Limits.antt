@@ -6,47 +6,61 @@ use mathlib.Core.List.{List, [], _∷_, _++_}
 use Prim.Native.Nat.{ℕ, suc, _+_, _≤_, _<_, max}
 use lib.ListN.{length, take, drop}
 use Rattle.text.specs.Characters.{WholeCharacters}
+use Rattle.programs.specs.Bounds.{Bounds, bounds, AttributeIn, ValueIn}
 use Rattle.programs.specs.Program.{Operand, constant, current, recalled, Condition, equal, negated, both, either, Statement, become, copy, recall, reject, print-start, print-end, print-text, echo, branch, Program, done, step, programBytes}
 
--- attributes are 0 to 3, values 0 to 15
+-- with the bounds of today
 abbrev pub Attribute : ℕ → Type 0
-Attribute a = a ≤ 3
+Attribute = AttributeIn bounds
 
 abbrev pub Value : ℕ → Type 0
-Value v = v ≤ 15
+Value = ValueIn bounds
 
 -- n bytes from offset o on lie in the strings, and are whole characters
 pub record Printable (strings : List ℕ) (o n : ℕ) : Type 0 where
   pub inside : o + n ≤ length strings
   pub whole : WholeCharacters (take n (drop o strings))
 
-abbrev pub OperandFits : Operand → Type 0
-OperandFits (constant v) = Value v
-OperandFits (current a) = Attribute a
-OperandFits (recalled a) = Attribute a
+-- with the bounds b
+abbrev pub OperandFitsIn : Bounds → Operand → Type 0
+OperandFitsIn b (constant v) = ValueIn b v
+OperandFitsIn b (current a) = AttributeIn b a
+OperandFitsIn b (recalled a) = AttributeIn b a
 
-abbrev pub ConditionFits : Condition → Type 0
-ConditionFits (equal x y) = OperandFits x × OperandFits y
-ConditionFits (negated c) = ConditionFits c
-ConditionFits (both c d) = ConditionFits c × ConditionFits d
-ConditionFits (either c d) = ConditionFits c × ConditionFits d
+abbrev pub ConditionFitsIn : Bounds → Condition → Type 0
+ConditionFitsIn b (equal x y) = OperandFitsIn b x × OperandFitsIn b y
+ConditionFitsIn b (negated c) = ConditionFitsIn b c
+ConditionFitsIn b (both c d) = ConditionFitsIn b c × ConditionFitsIn b d
+ConditionFitsIn b (either c d) = ConditionFitsIn b c × ConditionFitsIn b d
 
 -- in a sheet with so many tags and these strings
 abbrev mutual
-  pub StatementFits : ℕ → List ℕ → Statement → Type 0
-  StatementFits tags strings (become a v) = Attribute a × Value v
-  StatementFits tags strings (copy a b) = Attribute a × Attribute b
-  StatementFits tags strings (recall a b) = Attribute a × Attribute b
-  StatementFits tags strings reject = Unit {0}
-  StatementFits tags strings (print-start t) = t < tags
-  StatementFits tags strings (print-end t) = t < tags
-  StatementFits tags strings (print-text o n) = Printable strings o n
-  StatementFits tags strings (echo on) = Unit {0}
-  StatementFits tags strings (branch c l m) = ConditionFits c × StatementsFit tags strings l × StatementsFit tags strings m
+  pub StatementFitsIn : Bounds → ℕ → List ℕ → Statement → Type 0
+  StatementFitsIn b tags strings (become a v) = AttributeIn b a × ValueIn b v
+  StatementFitsIn b tags strings (copy a c) = AttributeIn b a × AttributeIn b c
+  StatementFitsIn b tags strings (recall a c) = AttributeIn b a × AttributeIn b c
+  StatementFitsIn b tags strings reject = Unit {0}
+  StatementFitsIn b tags strings (print-start t) = t < tags
+  StatementFitsIn b tags strings (print-end t) = t < tags
+  StatementFitsIn b tags strings (print-text o n) = Printable strings o n
+  StatementFitsIn b tags strings (echo on) = Unit {0}
+  StatementFitsIn b tags strings (branch c l m) = ConditionFitsIn b c × StatementsFitIn b tags strings l × StatementsFitIn b tags strings m
 
-  pub StatementsFit : ℕ → List ℕ → Program → Type 0
-  StatementsFit tags strings done = Unit {0}
-  StatementsFit tags strings (step t p) = StatementFits tags strings t × StatementsFit tags strings p
+  pub StatementsFitIn : Bounds → ℕ → List ℕ → Program → Type 0
+  StatementsFitIn b tags strings done = Unit {0}
+  StatementsFitIn b tags strings (step t p) = StatementFitsIn b tags strings t × StatementsFitIn b tags strings p
+
+abbrev pub OperandFits : Operand → Type 0
+OperandFits = OperandFitsIn bounds
+
+abbrev pub ConditionFits : Condition → Type 0
+ConditionFits = ConditionFitsIn bounds
+
+abbrev pub StatementFits : ℕ → List ℕ → Statement → Type 0
+StatementFits = StatementFitsIn bounds
+
+abbrev pub StatementsFit : ℕ → List ℕ → Program → Type 0
+StatementsFit = StatementsFitIn bounds
 
 -- how deep if, not, and, or nest together: an outermost if is 1, its condition and branches lie inside it
 abbrev pub conditionNesting : Condition → ℕ
@@ -72,10 +86,13 @@ abbrev mutual
   nesting (step t p) = max (statementNesting t) (nesting p)
 
 -- a program of a sheet: at most 256 bytes with its closing 0, nested at most 8 deep
-pub record IsProgram (tags : ℕ) (strings : List ℕ) (p : Program) : Type 0 where
+pub record IsProgramIn (b : Bounds) (tags : ℕ) (strings : List ℕ) (p : Program) : Type 0 where
   pub short : length (programBytes p) ≤ 256
   pub shallow : nesting p ≤ 8
-  pub fits : StatementsFit tags strings p
+  pub fits : StatementsFitIn b tags strings p
+
+abbrev pub IsProgram : ℕ → List ℕ → Program → Type 0
+IsProgram = IsProgramIn bounds
 
 -- the two visits of a node, and what each may hold: statement 3 and operand 2 the second only, echo the first only
 pub data Visit : Type 0 where

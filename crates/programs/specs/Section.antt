@@ -6,21 +6,28 @@ use mathlib.Core.Option.{Option, none, some}
 use Prim.Native.Nat.{ℕ}
 use lib.ListN.{length}
 use Rattle.programs.specs.Program.{Program, programBytes}
-use Rattle.programs.specs.Limits.{IsProgram, Visit, allowed}
+use Rattle.programs.specs.Bounds.{Bounds, bounds}
+use Rattle.programs.specs.Limits.{IsProgramIn, Visit, allowed}
 
 -- programs back to back
 abbrev pub backToBack : List Program → List ℕ
 backToBack [] = []
 backToBack (p ∷ ps) = programBytes p ++ backToBack ps
 
-abbrev pub AllPrograms : ℕ → List ℕ → List Program → Type 0
-AllPrograms tags strings [] = Unit {0}
-AllPrograms tags strings (p ∷ ps) = IsProgram tags strings p × AllPrograms tags strings ps
+abbrev pub AllProgramsIn : Bounds → ℕ → List ℕ → List Program → Type 0
+AllProgramsIn b tags strings [] = Unit {0}
+AllProgramsIn b tags strings (p ∷ ps) = IsProgramIn b tags strings p × AllProgramsIn b tags strings ps
 
 -- the section is these programs, which fill it
-pub record Fill (tags : ℕ) (strings section : List ℕ) (ps : List Program) : Type 0 where
-  pub programs : AllPrograms tags strings ps
+pub record FillIn (b : Bounds) (tags : ℕ) (strings section : List ℕ) (ps : List Program) : Type 0 where
+  pub programs : AllProgramsIn b tags strings ps
   pub filled : section ≡ backToBack ps
+
+abbrev pub AllPrograms : ℕ → List ℕ → List Program → Type 0
+AllPrograms = AllProgramsIn bounds
+
+abbrev pub Fill : ℕ → List ℕ → List ℕ → List Program → Type 0
+Fill = FillIn bounds
 
 -- offset o is the start of program p
 pub record StartOf (ps : List Program) (o : ℕ) (p : Program) : Type 0 where

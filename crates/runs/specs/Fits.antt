@@ -9,7 +9,8 @@ use lib.ListN.{length}
 use Rattle.text.specs.Chars.{Char}
 use Rattle.text.specs.Names.{Name}
 use Rattle.programs.specs.Program.{Program}
-use Rattle.programs.specs.Limits.{Value, IsProgram, Visit, first, second, allowed}
+use Rattle.programs.specs.Bounds.{Bounds, bounds}
+use Rattle.programs.specs.Limits.{Value, IsProgramIn, Visit, first, second, allowed}
 use Rattle.sheet.specs.Sheet.{Sheet}
 use Rattle.output.specs.Escape.{AllFit}
 use Rattle.runs.specs.Lookup.{tagOf}
@@ -21,9 +22,13 @@ abbrev pub NamesFit : List (List ℕ) → Type 0
 NamesFit [] = Unit {0}
 NamesFit (n ∷ ns) = (Name n × (length n ≤ 15)) × NamesFit ns
 
+-- with the bounds b
+abbrev pub ProgramFitsIn : Bounds → Sheet → Visit → Option Program → Type 0
+ProgramFitsIn b s v none = Unit {0}
+ProgramFitsIn b s v (some p) = IsProgramIn b (length (s .names)) (s .strings) p × (allowed v p ≡ true)
+
 abbrev pub ProgramFits : Sheet → Visit → Option Program → Type 0
-ProgramFits s v none = Unit {0}
-ProgramFits s v (some p) = IsProgram (length (s .names)) (s .strings) p × (allowed v p ≡ true)
+ProgramFits = ProgramFitsIn bounds
 
 pub record SheetFits (s : Sheet) : Type 0 where
   pub names-fit : NamesFit (s .names)

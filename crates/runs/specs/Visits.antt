@@ -7,6 +7,7 @@ use Prim.Native.Nat.{ℕ, zero, suc, _^_}
 use lib.ListN.{replicate}
 use Rattle.expressions.specs.Grammar.{Production}
 use Rattle.programs.specs.Program.{Program}
+use Rattle.programs.specs.Bounds.{bounds, attributesIn}
 use Rattle.sheet.specs.Fields.{Visits}
 use Rattle.sheet.specs.Sheet.{Rule, Sheet, grammarOf}
 use Rattle.output.specs.Escape.{Piece, start, end, character}
@@ -48,14 +49,18 @@ pub record Env : Type 0 where
 
 -- how many attributes there are
 abbrev pub attributes : ℕ
-attributes = 4
+attributes = attributesIn bounds
 
 -- the count of visits goes no further
 abbrev pub mostVisits : ℕ
 mostVisits = 2 ^ 62
 
+-- at the start each of so many attributes is 0
+abbrev pub fresh-with : ℕ → Env
+fresh-with n = record { values = replicate n 0; echo = false; out = []; count = 0 }
+
 abbrev pub fresh : Env
-fresh = record { values = replicate attributes 0; echo = false; out = []; count = 0 }
+fresh = fresh-with attributes
 
 -- what is kept of a node from its first visit to its second: the attributes just after the first, echo just before it
 pub record Saved : Type 0 where

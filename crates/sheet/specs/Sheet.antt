@@ -4,12 +4,13 @@ use mathlib.Core.List.{List, [], _∷_}
 use Prim.Native.Nat.{ℕ, suc, _+_}
 use Rattle.expressions.specs.Grammar.{Production}
 use Rattle.programs.specs.Program.{Program}
+use Rattle.programs.specs.Bounds.{Bounds, bounds}
 use Rattle.layout.specs.Layout.{tagCount, productionCount, stringsIn, start}
 use Rattle.layout.specs.Records.{firstNodeOf, nodeCountOf, firstProgramOf, secondProgramOf, firstProgramOfNode, secondProgramOfNode}
 use Rattle.trees.specs.GrammarAt.{ProductionIs}
 use Rattle.sheet.specs.Tags.{TagAt}
 use Rattle.sheet.specs.Fields.{Visits, FieldsAre}
-use Rattle.sheet.specs.Defect.{WellFormed}
+use Rattle.sheet.specs.Defect.{WellFormedIn}
 
 -- a production with its programs: its own, and those of its nodes in preorder, so by bracket
 pub record Rule : Type 0 where
@@ -42,10 +43,13 @@ pub record RuleAt (s : List ℕ) (ps : List Program) (q : ℕ) (r : Rule) : Type
   pub own-are : FieldsAre ps (firstProgramOf s q) (secondProgramOf s q) (r .own)
   pub nodes-are : From (NodeIs s ps) (firstNodeOf s q) (firstNodeOf s q + nodeCountOf s q) (r .of-nodes)
 
--- the bytes s are the sheet a
-pub record IsSheet (s : List ℕ) (a : Sheet) : Type 0 where
-  pub well-formed : WellFormed s
+-- the bytes s are the sheet a, with the bounds b
+pub record IsSheetIn (b : Bounds) (s : List ℕ) (a : Sheet) : Type 0 where
+  pub well-formed : WellFormedIn b s
   pub names-are : From (TagAt s) 0 (tagCount s) (a .names)
   pub rules-are : From (RuleAt s (well-formed .programs .programs)) 0 (productionCount s) (a .rules)
   pub strings-are : a .strings ≡ stringsIn s
   pub start-is : a .start-nonterminal ≡ start s
+
+abbrev pub IsSheet : List ℕ → Sheet → Type 0
+IsSheet = IsSheetIn bounds
