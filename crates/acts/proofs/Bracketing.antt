@@ -37,7 +37,7 @@ use Rattle.visits.specs.Written.{Pen}
 use Rattle.visits.specs.Ran.{Comes as Came}
 use Rattle.visits.proofs.Running.{pen-at}
 use Rattle.ways.specs.Held.{codeOf, codes}
-use Rattle.ways.specs.Answers.{mostBrackets}
+use Rattle.few.specs.Strings.{mostBrackets}
 use Rattle.ways.proofs.Holds.{length-codes}
 use Rattle.acts.specs.Seen.{Outcome as Acted}
 use Rattle.acts.specs.Acted.{Done, Comes, visitReach, BracketsAs}

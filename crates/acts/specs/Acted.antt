@@ -13,7 +13,7 @@ use Rattle.sheet.specs.Sheet.{Sheet, IsSheet}
 use Rattle.visits.specs.Written.{Pen}
 use Rattle.visits.specs.Ran.{mostPrinted}
 use Rattle.ways.specs.Held.{codes}
-use Rattle.ways.specs.Answers.{mostBrackets}
+use Rattle.few.specs.Strings.{mostBrackets}
 use Rattle.runs.specs.Acts.{start-tag, end-tag, letter-read, bracket-acts, Store, act, acts}
 use Rattle.runs.specs.Machine.{Open, Control, inside, outer, at-start}
 use Rattle.runs.specs.Nodes.{through-nodes}

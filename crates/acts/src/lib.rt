@@ -8,7 +8,7 @@ ghost use Rattle.expressions.specs.Words.{opening, closing};
 ghost use Rattle.layout.specs.LaidOut.{LaidOut};
 ghost use Rattle.sheet.specs.Defect.{WellFormed};
 ghost use Rattle.live.specs.Live.{full, SameBelow};
-ghost use Rattle.ways.specs.Answers.{mostBrackets};
+ghost use Rattle.few.specs.Strings.{mostBrackets};
 ghost use Rattle.acts.specs.Seen.{seen};
 ghost use Rattle.acts.specs.Acted.{EntersAs, LeavesAs, ReadsAs, BracketsAs};
 ghost use Rattle.acts.specs.Visited.{FieldFound, VisitedAs, EchoedAs, NodeAs, BracketAs};

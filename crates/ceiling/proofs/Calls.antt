@@ -7,14 +7,13 @@ use mathlib.Core.Option.{Option, none, some}
 use Prim.Native.Nat.{ℕ, zero, suc, _+_, _*_, _≤_, _<_}
 use native.Mathlib.Omega.{arith}
 use lib.ListN.{length}
-use Rattle.expressions.specs.Expr.{Content, nothing, tree, nodesOf}
 use Rattle.expressions.specs.Grammar.{Production}
 use Rattle.tokens.specs.declared.Event.{Event as Read}
 use Rattle.tokens.specs.Stream.{Reads}
 use Rattle.layout.specs.Layout.{productionCount}
 use Rattle.layout.specs.Records.{nodeCountOf}
-use Rattle.trees.specs.Trees.{ContentAt}
 use Rattle.trees.specs.GrammarAt.{GrammarFrom}
+use Rattle.trees.proofs.Grammars.{nodes-of-content}
 use Rattle.sheet.specs.Sheet.{Sheet}
 use Rattle.sheet.proofs.SheetLaws.{sheet-grammar}
 use Rattle.output.specs.Escape.{Piece}
@@ -26,17 +25,13 @@ use Rattle.runs.proofs.Moves.{run-through}
 use Rattle.calls.specs.Call.{Result, CalledBy}
 use Rattle.calls.specs.Limits.{silent}
 use Rattle.calls.proofs.Steps.{tokensOf, Steps, run-does}
-use Rattle.ceiling.specs.Visits.{nodesAtMost, FewNodes, SheetsHaveFew, ceiling, forToken, countIn, StepVisits, TokenVisits, CallVisits, CeilingKept}
+use Rattle.few.specs.Strings.{nodesAtMost}
+use Rattle.ceiling.specs.Visits.{FewNodes, SheetsHaveFew, ceiling, forToken, countIn, StepVisits, TokenVisits, CallVisits, CeilingKept}
 use Rattle.ceiling.proofs.Moves.{event-visits, run-visits}
-
--- the nodes of a production's run are those of its expression
-content-nodes : (s : List ℕ) (q : ℕ) (c : Content) → ContentAt s q c → nodesOf c ≡ nodeCountOf s q
-content-nodes s q nothing h = sym h
-content-nodes s q (tree e) h = h .1
 
 few-from : (s : List ℕ) → ((q : ℕ) → q < productionCount s → nodeCountOf s q ≤ nodesAtMost) → (i : ℕ) (g : List Production) → GrammarFrom s i g → FewNodes g
 few-from s few i [] h q = omega arith
-few-from s few i (d ∷ g) h zero = omega (arith, content-nodes s i (d .content) (h .0 .content-is), few i (there s i g (h .1)))
+few-from s few i (d ∷ g) h zero = omega (arith, nodes-of-content s i (d .content) (h .0 .content-is), few i (there s i g (h .1)))
   where
     there : (s : List ℕ) (i : ℕ) (g : List Production) → GrammarFrom s (suc i) g → i < productionCount s
     there s i [] h = omega (arith, h)

@@ -19,10 +19,10 @@ use Rattle.runs.specs.Machine.{Control, before, inside, after, go, root-by, mos
 use Rattle.runs.proofs.Counts.{visits-append, acts-count}
 use Rattle.runs.proofs.Moves.{Moves, stay, then, refuse-go, go-inj, moves-run}
 use Rattle.runs.proofs.Sound.{started, was-read, ended}
-use Rattle.ceiling.specs.Once.{Once}
-use Rattle.ceiling.specs.Strings.{FewBrackets}
+use Rattle.few.specs.Once.{Once}
+use Rattle.few.specs.Strings.{FewBrackets}
 use Rattle.ceiling.specs.Visits.{FewNodes, forProduction, ceiling, countIn, FewActs, EventVisits}
-use Rattle.ceiling.proofs.Found.{string-of, few-brackets}
+use Rattle.few.proofs.Found.{string-of, few-brackets}
 
 bracket-visits : (q : ℕ) (α : List Bracket) → visitsIn (bracket-acts q α) ≡ length α
 bracket-visits q [] = refl
@@ -81,15 +81,15 @@ module _ (s : Sheet) (keeps : KeepsS (grammar s)) (nodes : FewNodes (grammar s))
   event-visits (inside o os) (starts (some t)) bs c′ e =
       let d = started (grammar s) most o os (s .start-nonterminal) t bs c′ e in
       few-acts (o .production) (d .by .string) (start-tag (d .production)) (starts (some t)) bs (no-start (o .production) (d .production)) (omega arith) (d .are-acts)
-      (few-brackets (grammar s) keeps nodes (o .production) (o .place) (tag t) (d .by .string) (string-of (d .by) (d .is-way)))
+      (few-brackets (grammar s) keeps (o .production) (o .place) (tag t) (d .by .string) (string-of (d .by) (d .is-way)))
   event-visits (inside o os) (ends t) bs c′ e =
       let d = ended (grammar s) most o os (s .start-nonterminal) t bs c′ e in
       few-acts (o .production) (d .by) (end-tag (o .production)) (ends t) bs (no-end (o .production) (o .production)) (omega arith) (d .are-acts)
-      (few-brackets (grammar s) keeps nodes (o .production) (o .place) end (d .by) (d .is-way))
+      (few-brackets (grammar s) keeps (o .production) (o .place) end (d .by) (d .is-way))
   event-visits (inside o os) (letter y) bs c′ e =
       let d = was-read (grammar s) most o os (s .start-nonterminal) y bs c′ e in
       few-acts (o .production) (d .by .string) (letter-read y) (letter y) bs (no-letter (o .production) y) (omega arith) (d .are-acts)
-      (few-brackets (grammar s) keeps nodes (o .production) (o .place) character (d .by .string) (string-of (d .by) (d .is-way)))
+      (few-brackets (grammar s) keeps (o .production) (o .place) character (d .by .string) (string-of (d .by) (d .is-way)))
   event-visits after x bs c′ e = refuse-go bs c′ e
 
   -- and so of events one after another

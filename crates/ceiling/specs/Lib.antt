@@ -1,4 +1,1 @@
-pub mod Once
-pub mod Strings
 pub mod Visits
-pub mod Broken

@@ -19,11 +19,8 @@ use Rattle.runs.specs.Taken.{Passed}
 use Rattle.runs.specs.Spells.{Token, eventsOfToken, stepToken}
 use Rattle.calls.specs.Held.{Held}
 use Rattle.calls.specs.Call.{Result, Called}
-use Rattle.ceiling.specs.Once.{Once}
-
--- an expression of a sheet has at most 32 nodes
-abbrev pub nodesAtMost : ℕ
-nodesAtMost = 32
+use Rattle.few.specs.Once.{Once}
+use Rattle.few.specs.Strings.{nodesAtMost}
 
 abbrev pub FewNodes : List Production → Type 0
 FewNodes g = (q : ℕ) → nodesOf (contentOf g q) ≤ nodesAtMost

@@ -16,7 +16,8 @@ use Rattle.layout.specs.LaidOut.{Reads}
 use Rattle.layout.specs.Records.{tagNumberOf}
 use Rattle.sheet.specs.Sheet.{Sheet, IsSheet}
 use Rattle.visits.specs.Written.{Pen}
-use Rattle.ways.specs.Answers.{mostBrackets, EndWayIs}
+use Rattle.few.specs.Strings.{mostBrackets}
+use Rattle.ways.specs.Answers.{EndWayIs}
 use Rattle.ways.specs.Held.{LineIs}
 use Rattle.ways.specs.Held.{LineIn as Line}
 use Rattle.runs.specs.Lookup.{tagOf}
@@ -101,7 +102,7 @@ closes {s} {a} i {z} h f o R own {w} W there {p} {b} {mid} B =
     record {
       string = v .0;
       asks = own-turn i h f o R own (some (v .0)) (v .1);
-      comes = B .right a i (v .0) (subst (λ (y : Option (List Bracket)). LineIs y w) (v .1) L .string-is .1) h (openOf (topOf z)) (j .around) (j .stands) (T .0) [] (T .1) (sym (sets-are z h o) ∙ T .2);
+      comes = B .right a i (v .0) (subst (λ (y : Option (List Bracket)). LineIs y w) (v .1) L .string-is .1 (omega (arith, W .few there, W .room))) h (openOf (topOf z)) (j .around) (j .stands) (T .0) [] (T .1) (sym (sets-are z h o) ∙ T .2);
       left = λ m e D. one-left a (topOf z .production) (v .0) z p b mid m h j (T .0) (T .1) (T .2) e D;
     }
 

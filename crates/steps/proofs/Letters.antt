@@ -11,7 +11,8 @@ use Rattle.expressions.specs.Grammar.{character}
 use Rattle.trees.specs.declared.Symbol.the-variants.{Character}
 use Rattle.sheet.specs.Sheet.{Sheet}
 use Rattle.visits.specs.Written.{Pen}
-use Rattle.ways.specs.Answers.{mostBrackets, AtomWayIs}
+use Rattle.few.specs.Strings.{mostBrackets}
+use Rattle.ways.specs.Answers.{AtomWayIs}
 use Rattle.ways.specs.Held.{WayIn as Way}
 use Rattle.runs.specs.Events.{letter}
 use Rattle.runs.specs.Acts.{letter-read, bracket-acts, act, acts}
@@ -60,7 +61,7 @@ module _ {s : List ℕ} {z : State} {p : Pen} {r : Stepped} {d : List ℕ} (c : 
           let L = way-leads i h f o W there in
           let to : Control = inside (at-place (openOf (topOf z)) (L .way .place)) (L .os) in
           rejected-first a z p u mid (bracket-acts (topOf z .production) (L .way .string)) (letter-read c) to to (letter c) (char-turn a z c w L)
-          (F .right a i h f (L .os) (L .stands) character (L .way) (L .is-way) (L .held .place-is) (L .held .line-is .string-is .1)) bad))
+          (F .right a i h f (L .os) (L .stands) character (L .way) (L .is-way) (L .held .place-is) (L .bytes)) bad))
 
       pub char-done : u .ok ≡ true → (e : Acted) → ReadsAs c (u .state) (onPen p mid (u .at)) e d → r ≡ answering e → SteppedAs s (letter c) z p r d
       char-done good e E k =
@@ -72,6 +73,6 @@ module _ {s : List ℕ} {z : State} {p : Pen} {r : Stepped} {d : List ℕ} (c : 
               let L = way-leads i h f o W there in
               let to : Control = inside (at-place (openOf (topOf z)) (L .way .place)) (L .os) in
               both-done a z p u mid (bracket-acts (topOf z .production) (L .way .string)) (letter-read c) to to (letter c) (char-turn a z c w L)
-              (F .right a i h f (L .os) (L .stands) character (L .way) (L .is-way) (L .held .place-is) (L .held .line-is .string-is .1)) good e d
+              (F .right a i h f (L .os) (L .stands) character (L .way) (L .is-way) (L .held .place-is) (L .bytes)) good e d
               (λ m D.
               subst (λ (y : Control). Comes (act a (letter-read c) (meaningOf (u .state) .store)) y (u .state) (onPen p mid (u .at)) e d) (ap (λ (y : Standing). y .control) (D .means)) (E .right a (D .shaped)))

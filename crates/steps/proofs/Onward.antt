@@ -25,6 +25,7 @@ use Rattle.state.specs.Meaning.{meaningOf}
 use Rattle.state.proofs.Meant.{meaning-fresh, shaped-fresh}
 use Rattle.steps.specs.Seen.{Whole as Stepped}
 use Rattle.steps.specs.Taken.{EventIn, Takes, TakenAs}
+use Rattle.runs.specs.Taken.{Passed}
 use Rattle.steps.specs.Parts.{Ready}
 
 token-fits : (a : Sheet) → SheetFits a → (m : Standing) → RunFits a m → (k : Token) → EventsFit (eventsOfToken k) → (m′ : Standing) → stepToken a m k ≡ took m′ → RunFits a m′
@@ -54,6 +55,7 @@ ready-for-more {s} {part} {e} {z} {lent} {at} {r} {d} y E t =
         record {
           sheet = y .sheet;
           is-sheet = y .is-sheet;
+          passed = y .passed;
           shaped = k .shaped;
           fits = subst (RunFits (y .sheet)) (sym (k .means))
               (taken-fits (y .sheet) (sheet-fits (y .is-sheet)) (meaningOf z) (length lent - at) (tokenOf (y .sheet) part e) m w (event-fits (y .sheet) part e E) (y .fits) q);
@@ -62,5 +64,5 @@ ready-for-more {s} {part} {e} {z} {lent} {at} {r} {d} y E t =
     by no-room q k = subst (Ready s) (sym (k .state)) y
 
 -- a run that has read nothing is ready
-pub fresh-ready : {s : List ℕ} {a : Sheet} → IsSheet s a → Ready s freshState
-fresh-ready {s} {a} i = record { sheet = a; is-sheet = i; shaped = shaped-fresh; fits = subst (RunFits a) (sym meaning-fresh) (fresh-run-fits a) }
+pub fresh-ready : {s : List ℕ} {a : Sheet} → IsSheet s a → Passed a → Ready s freshState
+fresh-ready {s} {a} i ok = record { sheet = a; is-sheet = i; passed = ok; shaped = shaped-fresh; fits = subst (RunFits a) (sym meaning-fresh) (fresh-run-fits a) }

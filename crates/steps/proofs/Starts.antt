@@ -15,7 +15,8 @@ use Rattle.layout.specs.Layout.{start}
 use Rattle.trees.specs.declared.Symbol.the-variants.{Tag}
 use Rattle.sheet.specs.Sheet.{Sheet}
 use Rattle.visits.specs.Written.{Pen}
-use Rattle.ways.specs.Answers.{mostBrackets, AtomWayIs}
+use Rattle.few.specs.Strings.{mostBrackets}
+use Rattle.ways.specs.Answers.{AtomWayIs}
 use Rattle.ways.specs.Held.{WayIn as Way}
 use Rattle.runs.specs.Lookup.{find}
 use Rattle.runs.specs.Visits.{grammar}
@@ -148,7 +149,7 @@ module _ {s : List ℕ} {z : State} {p : Pen} {r : Stepped} {d : List ℕ} where
                 rejected-first a z p u mid (bracket-acts (topOf z .production) (L .way .string)) (start-tag q) (inside (at-place (openOf (topOf z)) (L .way .place)) (L .os))
                 (inside (at-start q) (at-place (openOf (topOf z)) (L .way .place) ∷ L .os)) (starts (tagIn t))
                 (depth-turn a z t q w g L (production-found i P real) true (le-leb (suc (suc (length (L .os)))) 32 (omega (arith, L .deep, room))))
-                (F .right a i h f (L .os) (L .stands) (tag t) (L .way) (L .is-way) (L .held .place-is) (L .held .line-is .string-is .1)) bad))
+                (F .right a i h f (L .os) (L .stands) (tag t) (L .way) (L .is-way) (L .held .place-is) (L .bytes)) bad))
 
             pub start-done : u .ok ≡ true → (e : Acted) → EntersAs s q (u .state) (onPen p mid (u .at)) e d → r ≡ answering e → SteppedAs s (starts (tagIn t)) z p r d
             start-done good e E k =
@@ -161,7 +162,7 @@ module _ {s : List ℕ} {z : State} {p : Pen} {r : Stepped} {d : List ℕ} where
                     let to : Control = inside (at-place (openOf (topOf z)) (L .way .place)) (L .os) in
                     both-done a z p u mid (bracket-acts (topOf z .production) (L .way .string)) (start-tag q) to (inside (at-start q) (at-place (openOf (topOf z)) (L .way .place) ∷ L .os)) (starts (tagIn t))
                     (depth-turn a z t q w g L (production-found i P real) true (le-leb (suc (suc (length (L .os)))) 32 (omega (arith, L .deep, room))))
-                    (F .right a i h f (L .os) (L .stands) (tag t) (L .way) (L .is-way) (L .held .place-is) (L .held .line-is .string-is .1)) good e d
+                    (F .right a i h f (L .os) (L .stands) (tag t) (L .way) (L .is-way) (L .held .place-is) (L .bytes)) good e d
                     (λ m D.
                     let at : meaningOf (u .state) .control ≡ to = ap (λ (y : Standing). y .control) (D .means) in
                     subst (λ (y : Control). Comes (act a (start-tag q) (meaningOf (u .state) .store)) (inside (at-start q) (opensOf y)) (u .state) (onPen p mid (u .at)) e d) at

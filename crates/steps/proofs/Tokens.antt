@@ -94,7 +94,7 @@ module _ {s : List ℕ} {x : Event} {z : State} {p : Pen} {r : Stepped} {d : Lis
   pub ready-on : Ready s z → EventsFit (x ∷ []) → r .number ≡ 0 → Ready s (r .state)
   ready-on y E e =
       let w = fits-on (y .sheet) (y .is-sheet) (y .shaped) (y .fits) E e in
-      record { sheet = y .sheet; is-sheet = y .is-sheet; shaped = w .0; fits = w .1 }
+      record { sheet = y .sheet; is-sheet = y .is-sheet; passed = y .passed; shaped = w .0; fits = w .1 }
 
 module _ {s part : List ℕ} {z : State} {p : Pen} {r : Stepped} {d : List ℕ} where
   -- tags

@@ -8,11 +8,12 @@ use mathlib.Core.Option.{Option, none, some}
 use Prim.Native.Nat.{ℕ, zero, suc, _≤_, _<_}
 use native.Mathlib.Omega.{arith}
 use lib.Dec.{T}
-use lib.ListN.{length}
+use lib.ListN.{length, take}
 use Rattle.expressions.specs.Expr.{Atom, nonterminal, anychar, Content, nothing, tree, nodesOf, places}
 use Rattle.expressions.specs.Words.{Bracket}
 use Rattle.expressions.proofs.Rule.{Rest}
 use Rattle.expressions.specs.Grammar.{Production, Nth, Next, tag, tagsOf, contentOf, canBe}
+use Rattle.expressions.specs.FaultList.{KeepsS}
 use Rattle.layout.specs.Layout.{productionCount}
 use Rattle.layout.specs.LaidOut.{Reads, LaidOut}
 use Rattle.layout.specs.declared.Layout.{Layout}
@@ -20,6 +21,7 @@ use Rattle.layout.specs.Records.{nonterminalOf, tagNumberOf, nodeCountOf}
 use Rattle.trees.specs.declared.Symbol.{Symbol}
 use Rattle.trees.specs.Symbol.{nextOf}
 use Rattle.trees.specs.GrammarAt.{GrammarIs}
+use Rattle.trees.proofs.Unique.{one-grammar}
 use Rattle.trees.proofs.Grammars.{is-nth, nodes-of-content, content-at}
 use Rattle.trees.proofs.Tallies.{few-atoms}
 use Rattle.trees.specs.Parsed.{RunsInside}
@@ -28,8 +30,8 @@ use Rattle.sheet.proofs.DefectLaws.{runs-inside}
 use Rattle.sheet.specs.Sheet.{Sheet, IsSheet}
 use Rattle.visits.specs.Written.{Pen}
 use Rattle.sheet.proofs.SheetLaws.{sheet-grammar, few-productions}
-use Rattle.ways.specs.Held.{argumentNumber, LineIs, WayIs}
-use Rattle.ways.specs.Answers.{EndWayIs, AtomWayIs}
+use Rattle.ways.specs.Held.{codes, argumentNumber, LineIs, WayIs}
+use Rattle.ways.specs.Answers.{FollowsS, EndWayIs, AtomWayIs}
 use Rattle.ways.specs.Held.{LineIn as Line}
 use Rattle.ways.specs.Held.{WayIn as Way}
 use Rattle.runs.specs.Lookup.{tagOf, produces, find}
@@ -152,6 +154,9 @@ module _ {s : List ℕ} {z : State} (y : Ready s z) where
   pub well : WellFormed s
   well = y .is-sheet .well-formed
 
+  pub follows : FollowsS s
+  follows g γ = subst KeepsS (one-grammar s (grammar (y .sheet)) g (sheet-grammar (y .is-sheet)) γ) (y .passed .keeps-S)
+
   pub runs-in : RunsInside s
   runs-in = runs-inside s (well .productions)
 
@@ -212,6 +217,7 @@ pub record Leads (a : Sheet) (z : State) (x : Next) (w : Way) : Type 0 where
   pub way : Found
   pub is-way : atomWay (tagsOf (grammar a)) (contentOf (grammar a) (topOf z .production)) (topOf z .place) x ≡ some way
   pub held : WayIs (some way) w
+  pub bytes : take (w .line .length) (w .line .bytes) ≡ codes (way .string)
 
 module _ {s : List ℕ} {a : Sheet} (i : IsSheet s a) {z : State} (h : Shaped z) (f : RunFits a (meaningOf z)) (o : 0 < z .depth) {x : Symbol} {w : Way}
     (W : AtomWayIs s (topOf z .production) (topOf z .place) x w) where
@@ -223,7 +229,16 @@ module _ {s : List ℕ} {a : Sheet} (i : IsSheet s a) {z : State} (h : Shaped z)
       let j = inside-at z h o in
       let held = way-is i (top-below i h f o) W in
       let v = way-found _ w held e in
-      record { os = j .around; stands = j .stands; deep = j .deep; way = v .0; is-way = v .1; held = subst (λ (y : Option Found). WayIs y w) (v .1) held }
+      let held-so = subst (λ (y : Option Found). WayIs y w) (v .1) held in
+      record {
+        os = j .around;
+        stands = j .stands;
+        deep = j .deep;
+        way = v .0;
+        is-way = v .1;
+        held = held-so;
+        bytes = held-so .line-is .string-is .1 (omega (arith, W .few e, W .room));
+      }
 
 pub place-below : {s : List ℕ} {z : State} → Ready s z → 0 < z .depth → {x : Symbol} {w : Way} → AtomWayIs s (topOf z .production) (topOf z .place) x w → w .line .found ≡ true → w .place < 256
 place-below y o {x} {w} W e =

@@ -10,9 +10,10 @@ use Rattle.expressions.specs.Grammar.{tagsOf, contentOf, Next}
 use Rattle.sheet.specs.Sheet.{Sheet, IsSheet}
 use Rattle.visits.specs.Written.{Pen}
 use Rattle.ways.specs.Held.{codes}
-use Rattle.ways.specs.Answers.{mostBrackets}
+use Rattle.few.specs.Strings.{mostBrackets}
 use Rattle.runs.specs.Acts.{bracket-acts, acts}
 use Rattle.runs.specs.Machine.{Open, inside, at-place}
+use Rattle.runs.specs.Taken.{Passed}
 use Rattle.runs.specs.Spells.{Token, passesAt, stepToken}
 use Rattle.runs.specs.Visits.{grammar}
 use Rattle.runs.specs.Way.{Way as Found, atomWay}
@@ -31,10 +32,11 @@ use Rattle.steps.specs.Seen.{whole}
 use Rattle.steps.specs.Seen.{Whole as Stepped}
 use Rattle.steps.specs.Stepped.{AnsweredAs, SteppedAs, eventReach, eventVisits}
 
--- the bytes are a sheet, and the state is of a run that fits it
+-- the bytes are a sheet that passes, and the state is of a run that fits it
 pub record Ready (s : List ℕ) (z : State) : Type 0 where
   pub sheet : Sheet
   pub is-sheet : IsSheet s sheet
+  pub passed : Passed sheet
   pub shaped : Shaped z
   pub fits : RunFits sheet (meaningOf z)
 

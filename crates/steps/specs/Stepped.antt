@@ -19,7 +19,7 @@ use Rattle.calls.specs.Names.{tokenOf}
 use Rattle.fit.specs.RunFits.{RunFits}
 use Rattle.state.specs.Meaning.{meaningOf, Shaped}
 use Rattle.state.specs.declared.State.{State}
-use Rattle.ways.specs.Answers.{mostBrackets}
+use Rattle.few.specs.Strings.{mostBrackets}
 use Rattle.acts.specs.Acted.{visitReach}
 use Rattle.steps.specs.Seen.{Whole as Stepped}
 

@@ -7,7 +7,7 @@ ghost use Rattle.text.specs.Chars.{Char};
 ghost use Rattle.text.specs.Names.{blank};
 ghost use Rattle.runs.specs.Events.{starts, ends, letter};
 ghost use Rattle.live.specs.Live.{full};
-ghost use Rattle.ways.specs.Answers.{mostBrackets};
+ghost use Rattle.few.specs.Strings.{mostBrackets};
 ghost use Rattle.acts.specs.Seen.{seen};
 ghost use Rattle.steps.specs.Seen.{whole};
 ghost use Rattle.steps.specs.Stepped.{tagIn, eventVisits, SteppedAs, TokenAs};

@@ -4,7 +4,8 @@ use mathlib.Core.Path.{_≡_, refl, sym, _∙_, ap, ap₂, subst}
 use mathlib.Core.Bool.{Bool, true, false}
 use mathlib.Core.List.{List, _++_}
 use mathlib.Core.Option.{Option, none, some}
-use Prim.Native.Nat.{ℕ}
+use Prim.Native.Nat.{ℕ, _≤_}
+use native.Mathlib.Omega.{arith}
 use lib.ListN.{length, take, drop, take-append-drop}
 use Rattle.expressions.specs.Grammar.{Production, Nth, tagsOf}
 use Rattle.expressions.specs.Words.{Bracket}
@@ -33,6 +34,7 @@ module _ (lent : List ℕ) where
     pub is : LineIs o (lineIn r d)
     pub behind : drop (r .length) d ≡ drop (r .length) lent
     pub nothing : r .found ≡ false → r .length ≡ 0
+    pub room : r .length ≤ length d
 
   -- where it is told by the string alone
   sized : (o : Option (List Bracket)) → ℕ
@@ -54,7 +56,7 @@ module _ (lent : List ℕ) where
       let e : r .length ≡ 0 = h .nothing (h .is .found-is) in
       sym (ap (λ (i : ℕ). drop i d) e) ∙ h .behind ∙ ap (λ (i : ℕ). drop i lent) e
   bytes-are (some α) r d h =
-      sym (take-append-drop (r .length) d) ∙ ap₂ (λ (u v : List ℕ). u ++ v) (h .is .string-is .1) (h .behind ∙ ap (λ (i : ℕ). drop i lent) (h .is .string-is .0))
+      sym (take-append-drop (r .length) d) ∙ ap₂ (λ (u v : List ℕ). u ++ v) (h .is .string-is .1 (h .room)) (h .behind ∙ ap (λ (i : ℕ). drop i lent) (h .is .string-is .0))
 
   one-line : (o : Option (List Bracket)) (r u : Line) (d e : List ℕ) → Placed o r d → Placed o u e → (r ≡ u) × (d ≡ e)
   one-line o r u d e h k =
@@ -70,14 +72,14 @@ module _ (lent : List ℕ) where
         let v = h .told .is g γ c m in
         let w = k .told .is g γ c m in
         one-found _ r u d e v w
-        (one-line _ (r .line) (u .line) d e (record { is = v .line-is; behind = h .behind; nothing = h .nothing }) (record { is = w .line-is; behind = k .behind; nothing = k .nothing }))
+        (one-line _ (r .line) (u .line) d e (record { is = v .line-is; behind = h .behind; nothing = h .nothing; room = omega (arith, h .few, h .told .room) }) (record { is = w .line-is; behind = k .behind; nothing = k .nothing; room = omega (arith, k .few, k .told .room) }))
     one-way Character h k =
         let v = h .told .is g γ c m in
         let w = k .told .is g γ c m in
         one-found _ r u d e v w
-        (one-line _ (r .line) (u .line) d e (record { is = v .line-is; behind = h .behind; nothing = h .nothing }) (record { is = w .line-is; behind = k .behind; nothing = k .nothing }))
+        (one-line _ (r .line) (u .line) d e (record { is = v .line-is; behind = h .behind; nothing = h .nothing; room = omega (arith, h .few, h .told .room) }) (record { is = w .line-is; behind = k .behind; nothing = k .nothing; room = omega (arith, k .few, k .told .room) }))
     one-way End h k =
         let l =
-        one-line _ (r .line) (u .line) d e (record { is = h .told .0 .is g γ c m; behind = h .behind; nothing = h .nothing })
-        (record { is = k .told .0 .is g γ c m; behind = k .behind; nothing = k .nothing }) in
+        one-line _ (r .line) (u .line) d e (record { is = h .told .0 .is g γ c m; behind = h .behind; nothing = h .nothing; room = omega (arith, h .few, h .told .0 .room) })
+        (record { is = k .told .0 .is g γ c m; behind = k .behind; nothing = k .nothing; room = omega (arith, k .few, k .told .0 .room) }) in
         (way-by (l .0) (h .told .1 ∙ sym (k .told .1)) (h .told .2 ∙ sym (k .told .2)) (h .told .3 ∙ sym (k .told .3)), l .1)

@@ -1,11 +1,12 @@
--- What is held tells the string and the way: two that are held alike are equal, as no two brackets have one byte.
+-- What is held in full tells the string and the way: two that are held alike are equal, as no two brackets have one byte.
 -- Assumes nothing.
 use mathlib.Core.Path.{_≡_, refl, sym, _∙_, ap}
 use mathlib.Core.Bool.{Bool, true, false, true≢false}
 use mathlib.Core.List.{List, [], _∷_, _++_}
 use mathlib.Core.Option.{Option, none, some}
-use Prim.Native.Nat.{ℕ, suc}
+use Prim.Native.Nat.{ℕ, suc, _≤_}
 use native.Mathlib.Omega.{arith}
+use lib.ListN.{length}
 use Rattle.expressions.specs.Expr.{Atom, nonterminal, anychar}
 use Rattle.expressions.specs.Words.{Bracket, opening, closing}
 use Rattle.runs.specs.Way.{Way as Found}
@@ -30,11 +31,11 @@ one-string (c ∷ α) (d ∷ β) e =
     let y = one-string α β tail in
     cc
 
-pub same-string : (o p : Option (List Bracket)) (r : Line) → LineIs o r → LineIs p r → o ≡ p
-same-string none none r h k = refl
-same-string none (some β) r h k = absurd (true≢false (sym (k .found-is) ∙ h .found-is))
-same-string (some α) none r h k = absurd (true≢false (sym (h .found-is) ∙ k .found-is))
-same-string (some α) (some β) r h k = ap some (one-string α β (sym (h .string-is .1) ∙ k .string-is .1))
+pub same-string : (o p : Option (List Bracket)) (r : Line) → r .length ≤ length (r .bytes) → LineIs o r → LineIs p r → o ≡ p
+same-string none none r room h k = refl
+same-string none (some β) r room h k = absurd (true≢false (sym (k .found-is) ∙ h .found-is))
+same-string (some α) none r room h k = absurd (true≢false (sym (h .found-is) ∙ k .found-is))
+same-string (some α) (some β) r room h k = ap some (one-string α β (sym (h .string-is .1 room) ∙ k .string-is .1 room))
 
 one-atom : (a b : Atom) → kindNumber a ≡ kindNumber b → argumentNumber a ≡ argumentNumber b → a ≡ b
 one-atom (nonterminal m) (nonterminal n) e f = ap nonterminal f
@@ -47,11 +48,11 @@ found-by {v} {w} x y z =
     let u : record { string = v .string; place = v .place; kind = v .kind } ≡ w = rw (x, y, z) refl in
     u
 
-pub same-way : (v w : Option Found) (r : Way) → WayIs v r → WayIs w r → v ≡ w
-same-way none none r h k = refl
-same-way none (some w) r h k = absurd (true≢false (sym (k .line-is .found-is) ∙ h .line-is .found-is))
-same-way (some v) none r h k = absurd (true≢false (sym (h .line-is .found-is) ∙ k .line-is .found-is))
-same-way (some v) (some w) r h k =
-    let lines = same-string (some (v .string)) (some (w .string)) (r .line) (h .line-is) (k .line-is) in
+pub same-way : (v w : Option Found) (r : Way) → r .line .length ≤ length (r .line .bytes) → WayIs v r → WayIs w r → v ≡ w
+same-way none none r room h k = refl
+same-way none (some w) r room h k = absurd (true≢false (sym (k .line-is .found-is) ∙ h .line-is .found-is))
+same-way (some v) none r room h k = absurd (true≢false (sym (h .line-is .found-is) ∙ k .line-is .found-is))
+same-way (some v) (some w) r room h k =
+    let lines = same-string (some (v .string)) (some (w .string)) (r .line) room (h .line-is) (k .line-is) in
     let strings : v .string ≡ w .string = cc in
     ap some (found-by strings (sym (h .place-is) ∙ k .place-is) (one-atom (v .kind) (w .kind) (sym (h .kind-is) ∙ k .kind-is) (sym (h .argument-is) ∙ k .argument-is)))

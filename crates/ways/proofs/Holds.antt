@@ -52,12 +52,13 @@ kept-then {w} {r} {q} h k =
 pub kept-again : {w r : Line} → Kept w r → Kept w (again w (r .bytes))
 kept-again {w} {r} h = record { low = omega arith; long = h .long; same = h .same }
 
-pub line-with : {w : Line} (b : List ℕ) → take (w .length) b ≡ take (w .length) (w .bytes) → (o : Option (List Bracket)) → LineIs o w → LineIs o (again w b)
-line-with b same none l = record { found-is = l .found-is; string-is = tt }
-line-with b same (some α) l = record { found-is = l .found-is; string-is = (l .string-is .0, same ∙ l .string-is .1) }
+pub line-with : {w : Line} (b : List ℕ) → (w .length ≤ length b → w .length ≤ length (w .bytes)) → take (w .length) b ≡ take (w .length) (w .bytes) →
+    (o : Option (List Bracket)) → LineIs o w → LineIs o (again w b)
+line-with b room same none l = record { found-is = l .found-is; string-is = tt }
+line-with b room same (some α) l = record { found-is = l .found-is; string-is = (l .string-is .0, λ f. same ∙ l .string-is .1 (room f)) }
 
 pub line-again : {w r : Line} → Kept w r → (o : Option (List Bracket)) → LineIs o w → LineIs o (again w (r .bytes))
-line-again {w} {r} h o l = line-with (r .bytes) (h .same) o l
+line-again {w} {r} h o l = line-with (r .bytes) (λ f. omega (arith, f, h .long)) (h .same) o l
 
 -- none
 pub missing-line : {w r : Line} → Missing w r → LineIs none r
@@ -81,7 +82,7 @@ module _ (w : Line) (f : w .found ≡ false) where
 
 -- the empty string
 pub empty-line : (b : List ℕ) → LineIs (some []) (record { found = true; length = 0; bytes = b })
-empty-line b = record { found-is = refl; string-is = (refl, refl) }
+empty-line b = record { found-is = refl; string-is = (refl, λ _. refl) }
 
 module _ (b : ℕ) (w : Line) where
   pub pushed-none : w .found ≡ false → Pushed b w w
@@ -97,8 +98,8 @@ module _ (b : ℕ) (w : Line) where
           found-is = found;
           string-is = (
             omega (arith, h .string-is .0, one-more, length-append α (c ∷ [])),
-            ap (λ (k : ℕ). take k (r .bytes)) n ∙ ap (take (suc (w .length))) stored ∙ take-suc-set (w .bytes) (w .length) b room
-                ∙ ap (λ (l : List ℕ). l ++ b ∷ []) (h .string-is .1) ∙ ap (λ (k : ℕ). codes α ++ k ∷ []) e ∙ sym (codes-snoc α c),
+            λ _. ap (λ (k : ℕ). take k (r .bytes)) n ∙ ap (take (suc (w .length))) stored ∙ take-suc-set (w .bytes) (w .length) b room
+                ∙ ap (λ (l : List ℕ). l ++ b ∷ []) (h .string-is .1 (omega (arith, room))) ∙ ap (λ (k : ℕ). codes α ++ k ∷ []) e ∙ sym (codes-snoc α c),
           );
         }
 
@@ -114,6 +115,19 @@ module _ (b : ℕ) (w : Line) where
               };
           is = some-of;
         }
+
+  -- past the lent bytes it is counted only
+  module _ (f : w .found ≡ true) (past : length (w .bytes) ≤ w .length) (r : Line) (found : r .found ≡ true) (one-more : r .length ≡ w .length + 1) (same : r .bytes ≡ w .bytes) where
+    counted : (c : Bracket) → (o : Option (List Bracket)) → LineIs o w → LineIs (joined o (some (c ∷ []))) r
+    counted c none h = absurd (true≢false (sym f ∙ h .found-is))
+    counted c (some α) h =
+        record {
+          found-is = found;
+          string-is = (omega (arith, h .string-is .0, one-more, length-append α (c ∷ [])), λ room. absurd (omega (arith, room, one-more, past, ap length same)));
+        }
+
+    pub pushed-past : Pushed b w r
+    pushed-past = record { few = omega (arith, one-more); kept = record { low = omega (arith, one-more); long = ap length same; same = ap (take (w .length)) same }; is = λ c e o h. counted c o h }
 
 pub bracketed : (bracket : ℕ → Bracket) (i b : ℕ) (w r : Line) → b ≡ codeOf (bracket i) → Pushed b w r → Bracketed bracket i w r
 bracketed bracket i b w r e p =

@@ -1,5 +1,4 @@
--- How long a way's string is, over the tree: at most two brackets a node, and four where a way goes out and in again.
--- So 128 bytes hold any string of a production, which has at most 32 nodes.
+-- How long a way's string is, over any tree, faulty or not: at most two brackets a node, and four where a way goes out and in again.
 -- Assumes nothing.
 use mathlib.Core.Bool.{Bool, true, false}
 use mathlib.Core.List.{List, [], _∷_}

@@ -53,10 +53,10 @@ abbrev pub stringIn : Option (List Bracket) → List Bracket
 stringIn none = []
 stringIn (some α) = α
 
--- of n lent bytes b: where there is a string, it is that long and those are its bytes
+-- of n lent bytes b: where there is a string, it is that long and, if they have room for it, those are its bytes
 abbrev pub Holds : Option (List Bracket) → ℕ → List ℕ → Type 0
 Holds none n b = Unit {0}
-Holds (some α) n b = (n ≡ length α) × (take n b ≡ codes α)
+Holds (some α) n b = (n ≡ length α) × (n ≤ length b → take n b ≡ codes α)
 
 -- r holds the string, or that there is none
 pub record LineIs (o : Option (List Bracket)) (r : LineIn) : Type 0 where

@@ -11,7 +11,8 @@ ghost use Rattle.trees.specs.Parsed.{RunsInside};
 ghost use Rattle.ways.specs.Held.{lineIn, wayIn, Missing, MissingWay, Pushed, Bracketed};
 ghost use Rattle.ways.specs.Spot.{SpotIn, PartOf, PartsOf};
 ghost use Rattle.ways.specs.Walks.{CanIs, AtomWay, Through, Into, IfJoined, OutOf, Across};
-ghost use Rattle.ways.specs.Answers.{mostBrackets, EndWayIs, AtomWayIs, Told, WayAs};
+ghost use Rattle.few.specs.Strings.{mostBrackets};
+ghost use Rattle.ways.specs.Answers.{mostTried, FollowsS, EndWayIs, AtomWayIs, Told, WayAs};
 use layout::Layout;
 use layout::argument_of;
 use layout::first_node_of;
@@ -22,10 +23,11 @@ use trees::can_be;
 use trees::is_character;
 use trees::walk_tree;
 
-// The most brackets of a way: four for each of a production's nodes.
-pub const MOST: usize = 128;
+// The most brackets of a way in a sheet that passes: two for each of a production's nodes.
+pub const MOST: usize = 64;
 
-// Whether there is a bracket string, and how many of the lent bytes it takes: opening i is the byte 2 * i, closing i is 2 * i + 1.
+// Whether there is a bracket string, and how long it is; it stands in the lent bytes, where they have room for it: opening i is the
+// byte 2 * i, closing i is 2 * i + 1.
 pub struct Line {
     pub found: bool,
     pub length: usize,
@@ -75,26 +77,30 @@ fn no_way(w: Line) -> Way
     }
 }
 
-// One more bracket after a string, where there is one.
+// One more bracket after a string, where there is one. Past the lent bytes it is counted only: an attempt may be longer than any way.
 fn push(w: Line, b: usize, line: &mut [u8]) -> Line
     requires { ⌜ b < 256 ⌝ }
-    requires { ⌜ w .length < length (now line) ⌝ }
+    requires { ⌜ w .length < mostTried ⌝ }
     ensures { λ r. ⌜ Pushed b (lineIn w (now (line .entry))) (lineIn r (now (line .exit))) ⌝ }
 {
     if !w.found {
         return w;
     }
     let n = w.length;
-    line[n] = b as u8;
-    Line {
+    let longer = Line {
         found: true,
         length: n + 1,
+    };
+    if n < line.len() {
+        line[n] = b as u8;
+        return longer;
     }
+    longer
 }
 
 fn opened(w: Line, i: usize, line: &mut [u8]) -> Line
     requires { ⌜ i < 128 ⌝ }
-    requires { ⌜ w .length < length (now line) ⌝ }
+    requires { ⌜ w .length < mostTried ⌝ }
     ensures { λ r. ⌜ Bracketed opening i (lineIn w (now (line .entry))) (lineIn r (now (line .exit))) ⌝ }
 {
     push(w, 2 * i, line)
@@ -102,7 +108,7 @@ fn opened(w: Line, i: usize, line: &mut [u8]) -> Line
 
 fn closed(w: Line, i: usize, line: &mut [u8]) -> Line
     requires { ⌜ i < 127 ⌝ }
-    requires { ⌜ w .length < length (now line) ⌝ }
+    requires { ⌜ w .length < mostTried ⌝ }
     ensures { λ r. ⌜ Bracketed closing i (lineIn w (now (line .entry))) (lineIn r (now (line .exit))) ⌝ }
 {
     push(w, 2 * i + 1, line)
@@ -190,7 +196,7 @@ fn atom_way(s: &[u8], l: Layout, t: Spot, x: Symbol, w: Line) -> Way
 fn through(s: &[u8], l: Layout, t: Spot, w: Line, line: &mut [u8]) -> Line
     requires { ⌜ LaidOut (now s) l ⌝ }
     requires { ⌜ SpotIn (now s) t ⌝ }
-    requires { ⌜ w .length + 2 * t .nodes ≤ length (now line) ⌝ }
+    requires { ⌜ w .length + 2 * t .nodes ≤ mostTried ⌝ }
     ensures { λ r. ⌜ Through (now (s .entry)) t (lineIn w (now (line .entry))) (lineIn r (now (line .exit))) ⌝ }
 {
     if !w.found {
@@ -223,7 +229,7 @@ fn through(s: &[u8], l: Layout, t: Spot, w: Line, line: &mut [u8]) -> Line
 fn into(s: &[u8], l: Layout, t: Spot, x: Symbol, w: Line, line: &mut [u8]) -> Way
     requires { ⌜ LaidOut (now s) l ⌝ }
     requires { ⌜ SpotIn (now s) t ⌝ }
-    requires { ⌜ w .length + 2 * t .nodes ≤ length (now line) ⌝ }
+    requires { ⌜ w .length + 2 * t .nodes ≤ mostTried ⌝ }
     ensures { λ r. ⌜ Into (now (s .entry)) t x (lineIn w (now (line .entry))) (wayIn r (now (line .exit))) ⌝ }
 {
     if !w.found {
@@ -256,7 +262,7 @@ fn into(s: &[u8], l: Layout, t: Spot, x: Symbol, w: Line, line: &mut [u8]) -> Wa
 fn if_joined(s: &[u8], l: Layout, kind: usize, second: Spot, w: Line, line: &mut [u8]) -> Line
     requires { ⌜ LaidOut (now s) l ⌝ }
     requires { ⌜ SpotIn (now s) second ⌝ }
-    requires { ⌜ w .length + 2 * second .nodes ≤ length (now line) ⌝ }
+    requires { ⌜ w .length + 2 * second .nodes ≤ mostTried ⌝ }
     ensures { λ r. ⌜ IfJoined (now (s .entry)) kind second (lineIn w (now (line .entry))) (lineIn r (now (line .exit))) ⌝ }
 {
     if kind == 3 {
@@ -269,7 +275,7 @@ fn if_joined(s: &[u8], l: Layout, kind: usize, second: Spot, w: Line, line: &mut
 fn out_of(s: &[u8], l: Layout, t: Spot, p: usize, w: Line, line: &mut [u8]) -> Line
     requires { ⌜ LaidOut (now s) l ⌝ }
     requires { ⌜ SpotIn (now s) t ⌝ }
-    requires { ⌜ w .length + 2 * t .nodes ≤ length (now line) ⌝ }
+    requires { ⌜ w .length + 2 * t .nodes ≤ mostTried ⌝ }
     ensures { λ r. ⌜ OutOf (now (s .entry)) t p (lineIn w (now (line .entry))) (lineIn r (now (line .exit))) ⌝ }
 {
     let kind = kind_of(s, l, t.node);
@@ -300,7 +306,7 @@ fn out_of(s: &[u8], l: Layout, t: Spot, p: usize, w: Line, line: &mut [u8]) -> L
 fn across(s: &[u8], l: Layout, t: Spot, p: usize, x: Symbol, w: Line, line: &mut [u8]) -> Way
     requires { ⌜ LaidOut (now s) l ⌝ }
     requires { ⌜ SpotIn (now s) t ⌝ }
-    requires { ⌜ w .length + 4 * t .nodes ≤ length (now line) ⌝ }
+    requires { ⌜ w .length + 4 * t .nodes ≤ mostTried ⌝ }
     ensures { λ r. ⌜ Across (now (s .entry)) t p x (lineIn w (now (line .entry))) (wayIn r (now (line .exit))) ⌝ }
 {
     let kind = kind_of(s, l, t.node);
@@ -339,6 +345,7 @@ fn way_to_end(s: &[u8], l: Layout, q: usize, p: usize, line: &mut [u8]) -> Line
     requires { ⌜ LaidOut (now s) l ⌝ }
     requires { ⌜ RunsInside (now s) ⌝ }
     requires { ⌜ Trees (now s) ⌝ }
+    requires { ⌜ FollowsS (now s) ⌝ }
     requires { ⌜ q < l .productions ⌝ }
     requires { ⌜ nodeCountOf (now s) q ≤ 32 ⌝ }
     requires { ⌜ mostBrackets ≤ length (now line) ⌝ }
@@ -374,6 +381,7 @@ fn way_to_atom(s: &[u8], l: Layout, q: usize, p: usize, x: Symbol, line: &mut [u
     requires { ⌜ LaidOut (now s) l ⌝ }
     requires { ⌜ RunsInside (now s) ⌝ }
     requires { ⌜ Trees (now s) ⌝ }
+    requires { ⌜ FollowsS (now s) ⌝ }
     requires { ⌜ q < l .productions ⌝ }
     requires { ⌜ nodeCountOf (now s) q ≤ 32 ⌝ }
     requires { ⌜ mostBrackets ≤ length (now line) ⌝ }
@@ -406,6 +414,7 @@ fn search(s: &[u8], l: Layout, q: usize, p: usize, x: Symbol, line: &mut [u8]) -
     requires { ⌜ LaidOut (now s) l ⌝ }
     requires { ⌜ RunsInside (now s) ⌝ }
     requires { ⌜ Trees (now s) ⌝ }
+    requires { ⌜ FollowsS (now s) ⌝ }
     requires { ⌜ q < l .productions ⌝ }
     requires { ⌜ nodeCountOf (now s) q ≤ 32 ⌝ }
     requires { ⌜ mostBrackets ≤ length (now line) ⌝ }
@@ -433,6 +442,7 @@ pub fn find_way(s: &[u8], l: Layout, q: usize, p: usize, x: Symbol, line: &mut [
     requires { ⌜ LaidOut (now s) l ⌝ }
     requires { ⌜ RunsInside (now s) ⌝ }
     requires { ⌜ Trees (now s) ⌝ }
+    requires { ⌜ FollowsS (now s) ⌝ }
     requires { ⌜ q < l .productions ⌝ }
     requires { ⌜ nodeCountOf (now s) q ≤ 32 ⌝ }
     requires { ⌜ mostBrackets ≤ length (now line) ⌝ }

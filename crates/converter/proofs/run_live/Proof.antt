@@ -70,7 +70,7 @@ take-requires c κs =
       start .pre .0,
       (
         record {
-          ready = record { sheet = g .given .sheet; is-sheet = g .given .is-sheet; shaped = g .shaped; fits = g .fits };
+          ready = record { sheet = g .given .sheet; is-sheet = g .given .is-sheet; passed = g .given .passed; shaped = g .shaped; fits = g .fits };
           long = omega (arith, start .pre .1 .1, at-loop .loop .inv .0);
         },
         (
@@ -131,7 +131,7 @@ onward-requires c κs =
       start .pre .0,
       (
         record {
-          ready = record { sheet = g .given .sheet; is-sheet = g .given .is-sheet; shaped = g .shaped; fits = g .fits };
+          ready = record { sheet = g .given .sheet; is-sheet = g .given .is-sheet; passed = g .given .passed; shaped = g .shaped; fits = g .fits };
           long = omega (arith, start .pre .1 .1, at-loop .loop .inv .0, at-take .take .ensures .long);
         },
         (g .within, (omega (arith, g .room, g .long), g .count)),

@@ -2,26 +2,27 @@
 -- Assumes nothing.
 use borrow.Author.Needs.{needs}
 use mathlib.Core.Path.{refl}
-use Prim.Native.Nat.{_<_}
 use native.Mathlib.Omega.{arith}
-use Rattle.layout.specs.Layout.{productionCount}
 use Rattle.ways.proofs.Holds.{empty-line}
-use Rattle.ways.proofs.Ends.{end-empty, end-missing, spot-there, end-through, end-out}
+use Rattle.ways.proofs.Ends.{grounded, end-empty, end-missing, spot-there, end-through, end-out}
 use Rattle.ways.proofs.way_to_end.Statement.{statement}
 use Rattle.ways.proofs.way_to_end.Tie as tie
 
 returns : tie.Need-returns
-returns c = (end-empty _ _ _ (c .before .before .node-count-of .ensures .is) (c .before .if1 .taken) _ (c .if2 .taken) _ refl (empty-line _), refl)
+returns c =
+    let w = c .before .before .before .before .before in
+    (end-empty _ _ _ (c .before .before .node-count-of .ensures .is) (grounded (w .pre .0) (w .pre .1 .1 .0) (w .pre .1 .1 .1 .0) (w .pre .1 .1 .1 .1 .0) (w .pre .1 .1 .1 .1 .1 .0)) (c .before .if1 .taken) _ (c .if2 .taken) _ (w .pre .1 .1 .1 .1 .1 .1) (empty-line _), refl)
 
 returns-2 : tie.Need-returns-2
-returns-2 c = (end-missing _ _ _ (c .before .before .before .node-count-of .ensures .is) (c .before .before .if1 .taken) _ (c .before .if2 .left) _ _ refl (c .no-line .ensures _), refl)
+returns-2 c =
+    let w = c .before .before .before .before .before .before in
+    (end-missing _ _ _ (c .before .before .before .node-count-of .ensures .is) (grounded (w .pre .0) (w .pre .1 .1 .0) (w .pre .1 .1 .1 .0) (w .pre .1 .1 .1 .1 .0) (w .pre .1 .1 .1 .1 .1 .0)) (c .before .before .if1 .taken) _ (c .before .if2 .left) _ _ (w .pre .1 .1 .1 .1 .1 .1) (c .no-line .ensures _), refl)
 
 through-requires : tie.Need-through-requires
 through-requires c κs =
     let w = c .before .before .before .before .before .before .before in
-    let h : w .args .q < productionCount (w .args .s .now) = omega (arith, w .pre .0 .layout-is .productions-is) in
     let n = c .before .before .before .before .node-count-of .ensures .is in
-    (w .pre .0, (spot-there _ _ _ n (c .before .before .before .if1 .left) _ (c .before .before .first-node-of .ensures .is) refl refl refl (w .pre .1 .1 .0) (w .pre .1 .0) h (w .pre .1 .1 .1 .1 .0), omega (arith, n, w .pre .1 .1 .1 .1 .0, w .pre .1 .1 .1 .1 .1)))
+    (w .pre .0, (spot-there _ _ _ n (grounded (w .pre .0) (w .pre .1 .1 .0) (w .pre .1 .1 .1 .0) (w .pre .1 .1 .1 .1 .0) (w .pre .1 .1 .1 .1 .1 .0)) (c .before .before .before .if1 .left) _ (c .before .before .first-node-of .ensures .is) refl refl refl (w .pre .1 .0), omega (arith, n, w .pre .1 .1 .1 .1 .1 .0)))
 
 same-length : tie.Need-same-length
 same-length c = omega (arith, c .before .before .through .ensures .kept .long)
@@ -29,14 +30,14 @@ same-length c = omega (arith, c .before .before .through .ensures .kept .long)
 returns-3 : tie.Need-returns-3
 returns-3 c =
     let n = c .before .before .before .before .before .before .before .node-count-of .ensures .is in
-    (end-through _ _ _ n (c .before .before .before .before .before .before .if1 .left) _ (c .before .before .before .before .before .first-node-of .ensures .is) refl refl refl (omega (arith, n, c .before .before .before .before .before .before .before .before .before .before .pre .1 .1 .1 .1 .0)) _ refl (empty-line _) _ (c .before .before .before .before .if3 .taken) _ (c .before .before .through .ensures), omega (arith, c .before .before .through .ensures .kept .long))
+    let w = c .before .before .before .before .before .before .before .before .before .before in
+    (end-through _ _ _ n (grounded (w .pre .0) (w .pre .1 .1 .0) (w .pre .1 .1 .1 .0) (w .pre .1 .1 .1 .1 .0) (w .pre .1 .1 .1 .1 .1 .0)) (c .before .before .before .before .before .before .if1 .left) _ (c .before .before .before .before .before .first-node-of .ensures .is) refl refl refl _ (empty-line _) (w .pre .1 .1 .1 .1 .1 .1) _ (c .before .before .before .before .if3 .taken) _ (c .before .before .through .ensures), omega (arith, c .before .before .through .ensures .kept .long))
 
 out-of-requires : tie.Need-out-of-requires
 out-of-requires c κs =
     let w = c .before .before .before .before .before .before .before in
-    let h : w .args .q < productionCount (w .args .s .now) = omega (arith, w .pre .0 .layout-is .productions-is) in
     let n = c .before .before .before .before .node-count-of .ensures .is in
-    (w .pre .0, (spot-there _ _ _ n (c .before .before .before .if1 .left) _ (c .before .before .first-node-of .ensures .is) refl refl refl (w .pre .1 .1 .0) (w .pre .1 .0) h (w .pre .1 .1 .1 .1 .0), omega (arith, n, w .pre .1 .1 .1 .1 .0, w .pre .1 .1 .1 .1 .1)))
+    (w .pre .0, (spot-there _ _ _ n (grounded (w .pre .0) (w .pre .1 .1 .0) (w .pre .1 .1 .1 .0) (w .pre .1 .1 .1 .1 .0) (w .pre .1 .1 .1 .1 .1 .0)) (c .before .before .before .if1 .left) _ (c .before .before .first-node-of .ensures .is) refl refl refl (w .pre .1 .0), omega (arith, n, w .pre .1 .1 .1 .1 .1 .0)))
 
 same-length-2 : tie.Need-same-length-2
 same-length-2 c = omega (arith, c .before .before .out-of .ensures .kept .long)
@@ -44,7 +45,8 @@ same-length-2 c = omega (arith, c .before .before .out-of .ensures .kept .long)
 returns-4 : tie.Need-returns-4
 returns-4 c =
     let n = c .before .before .before .before .before .before .before .node-count-of .ensures .is in
-    (end-out _ _ _ n (c .before .before .before .before .before .before .if1 .left) _ (c .before .before .before .before .before .first-node-of .ensures .is) refl refl refl (omega (arith, n, c .before .before .before .before .before .before .before .before .before .before .pre .1 .1 .1 .1 .0)) _ refl (empty-line _) _ (c .before .before .before .before .if3 .left) _ (c .before .before .out-of .ensures), omega (arith, c .before .before .out-of .ensures .kept .long))
+    let w = c .before .before .before .before .before .before .before .before .before .before in
+    (end-out _ _ _ n (grounded (w .pre .0) (w .pre .1 .1 .0) (w .pre .1 .1 .1 .0) (w .pre .1 .1 .1 .1 .0) (w .pre .1 .1 .1 .1 .1 .0)) (c .before .before .before .before .before .before .if1 .left) _ (c .before .before .before .before .before .first-node-of .ensures .is) refl refl refl _ (empty-line _) (w .pre .1 .1 .1 .1 .1 .1) _ (c .before .before .before .before .if3 .left) _ (c .before .before .out-of .ensures), omega (arith, c .before .before .out-of .ensures .kept .long))
 
 pub way-to-end-spec : {M : Type 1} → statement M
 way-to-end-spec =

@@ -3,7 +3,7 @@
 use mathlib.Core.Path.{_∙_, ap, refl, sym}
 use native.Mathlib.Omega.{arith}
 use borrow.Author.Tests.{not-true, not-false}
-use Rattle.steps.proofs.Tops.{well, runs-in, top-inside, top-few, top-way, place-below}
+use Rattle.steps.proofs.Tops.{follows, well, runs-in, top-inside, top-few, top-way, place-below}
 use Rattle.steps.proofs.Letters.{char-no-way, char-rejected, char-done}
 use Rattle.live.specs.Live.{full}
 use Rattle.live.proofs.Stacks.{top-full}
@@ -20,7 +20,7 @@ find-way-requires : tie.Need-find-way-requires
 find-way-requires c κs =
     let at-top = c .before .before .before in
     let start = c .before .before .before .before .before .before .before .before in
-    (start .pre .0, (runs-in (start .pre .1 .0 .ready), (well (start .pre .1 .0 .ready) .trees, (top-inside (start .pre .1 .0 .ready) (start .pre .1 .1 .0) (at-top .top .ensures ∙ sym (top-full (start .args .self .live) (start .args .stack .now) (start .pre .1 .1 .0))) (start .pre .0), (top-few (start .pre .1 .0 .ready) (start .pre .1 .1 .0) (at-top .top .ensures ∙ sym (top-full (start .args .self .live) (start .args .stack .now) (start .pre .1 .1 .0))), omega arith)))))
+    (start .pre .0, (runs-in (start .pre .1 .0 .ready), (well (start .pre .1 .0 .ready) .trees, (follows (start .pre .1 .0 .ready), (top-inside (start .pre .1 .0 .ready) (start .pre .1 .1 .0) (at-top .top .ensures ∙ sym (top-full (start .args .self .live) (start .args .stack .now) (start .pre .1 .1 .0))) (start .pre .0), (top-few (start .pre .1 .0 .ready) (start .pre .1 .1 .0) (at-top .top .ensures ∙ sym (top-full (start .args .self .live) (start .args .stack .now) (start .pre .1 .1 .0))), omega arith))))))
 
 returns : tie.Need-returns
 returns c =

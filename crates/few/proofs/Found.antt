@@ -18,10 +18,9 @@ use Rattle.runs.specs.Options.{bind}
 use Rattle.runs.specs.Way.{Way, atomWay, endWay, into, across, through, out-of, led}
 use Rattle.runs.proofs.Rules.{no-S}
 use Rattle.runs.proofs.Ways.{end-found, atom-found, found-atom}
-use Rattle.ceiling.specs.Strings.{FewBrackets, StringsFew, stringTo, WaysFew}
-use Rattle.ceiling.specs.Visits.{FewNodes, forNodes}
-use Rattle.ceiling.proofs.Weighed.{Few, few-add-right, Fine, Most, MostWay, weigh, total, through-fine, into-fine, out-fine, round, across-fine}
-use Rattle.ceiling.proofs.Counting.{one-each, weigh-length, total-nodes, only, total-once, weighed-once}
+use Rattle.few.specs.Strings.{nodesAtMost, mostBrackets, FewBrackets, StringsFew, stringTo, WaysFew}
+use Rattle.few.proofs.Weighed.{Few, few-add-right, Fine, Most, MostWay, weigh, total, through-fine, into-fine, out-fine, round, across-fine}
+use Rattle.few.proofs.Counting.{one-each, weigh-length, total-nodes, only, total-once, weighed-once}
 
 abbrev Str : Type 0
 Str = List Bracket
@@ -96,23 +95,24 @@ never-end : (tags : ℕ → List ℕ) (k : Atom) → canBe tags k end ≡ true �
 never-end tags (nonterminal n) e = false≢true e
 never-end tags anychar e = false≢true e
 
--- as the crates below a call need it: in a grammar that keeps rule S, of productions of at most 32 nodes, a way has at most 64 brackets
-module _ (g : List Production) (keeps : KeepsS g) (few : FewNodes g) (q p : ℕ) where
+module _ (g : List Production) (keeps : KeepsS g) (q p : ℕ) where
   pub few-brackets : (x : Next) (α : Str) → stringTo (tagsOf g) (contentOf g q) p x ≡ some α → FewBrackets (contentOf g q) α
   few-brackets x α e = ways-few (tagsOf g) (contentOf g q) p x (no-S g keeps q p x) α e
 
-  at-most-64 : (α : Str) → FewBrackets (contentOf g q) α → length α ≤ forNodes
-  at-most-64 α b = omega (arith, b .few, few q)
+  -- as the search needs it: in a grammar that keeps rule S, a way in a production of at most 32 nodes has at most 64 brackets
+  module _ (few : nodesOf (contentOf g q) ≤ nodesAtMost) where
+    at-most-64 : (α : Str) → FewBrackets (contentOf g q) α → length α ≤ mostBrackets
+    at-most-64 α b = omega (arith, b .few, few)
 
-  pub atom-way-64 : (x : Next) (w : Way) → atomWay (tagsOf g) (contentOf g q) p x ≡ some w → length (w .string) ≤ forNodes
-  atom-way-64 (tag t) w e = at-most-64 (w .string) (few-brackets (tag t) (w .string) (string-of w e))
-  atom-way-64 character w e = at-most-64 (w .string) (few-brackets character (w .string) (string-of w e))
-  atom-way-64 end w e = absurd (never-end (tagsOf g) (w .kind) (found-atom (tagsOf g) end (contentOf g q) p w e .1))
+    pub atom-way-64 : (x : Next) (w : Way) → atomWay (tagsOf g) (contentOf g q) p x ≡ some w → length (w .string) ≤ mostBrackets
+    atom-way-64 (tag t) w e = at-most-64 (w .string) (few-brackets (tag t) (w .string) (string-of w e))
+    atom-way-64 character w e = at-most-64 (w .string) (few-brackets character (w .string) (string-of w e))
+    atom-way-64 end w e = absurd (never-end (tagsOf g) (w .kind) (found-atom (tagsOf g) end (contentOf g q) p w e .1))
 
-  pub end-way-64 : (α : Str) → endWay (contentOf g q) p ≡ some α → length α ≤ forNodes
-  end-way-64 α e = at-most-64 α (few-brackets end α e)
+    pub end-way-64 : (α : Str) → endWay (contentOf g q) p ≡ some α → length α ≤ mostBrackets
+    end-way-64 α e = at-most-64 α (few-brackets end α e)
 
--- as the search needs it on its way: round a star the string out of the body and the one into it again have together at most two brackets for each of
+-- of the search on its way: round a star the string out of the body and the one into it again have together at most two brackets for each of
 -- its nodes. That the count of the star is not many follows from the count of the whole, part by part (`few-add-left`, `few-add-right`)
 pub round-few : (tags : ℕ → List ℕ) (x : Next) (e : Exp) (i j p : ℕ) → Few (follow tags (star e) j p x) → (α : Str) → out-of e i j p ≡ some α → (w : Way) →
     into tags e i j x ≡ some w → length α + length (w .string) ≤ 2 * nodes e

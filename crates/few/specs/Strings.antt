@@ -12,7 +12,14 @@ use Rattle.expressions.specs.Grammar.{Next, tag, character, end}
 use Rattle.expressions.specs.Fault.{UpTo, GoesOn, Fault}
 use Rattle.runs.specs.Options.{bind}
 use Rattle.runs.specs.Way.{atomWay, endWay}
-use Rattle.ceiling.specs.Once.{Once}
+use Rattle.few.specs.Once.{Once}
+
+-- an expression of a sheet has at most 32 nodes, so a string at most 64 brackets
+abbrev pub nodesAtMost : ℕ
+nodesAtMost = 32
+
+abbrev pub mostBrackets : ℕ
+mostBrackets = 2 * nodesAtMost
 
 pub record FewBrackets (c : Content) (α : List Bracket) : Type 0 where
   pub once : Once α

@@ -7,7 +7,7 @@ use native.Mathlib.Omega.{arith}
 use lib.ListN.{length}
 use Rattle.expressions.specs.Expr.{Atom, atom, star}
 use Rattle.expressions.specs.Words.{Bracket, opening, closing, Sym, br, at, _▷_, Lang, only, Star, stop, more, within, Word}
-use Rattle.ceiling.specs.Broken.{NoCeiling}
+use Rattle.few.specs.Broken.{NoCeiling}
 
 -- the rounds, and then to k
 abbrev rounds : ℕ → List Bracket

@@ -13,8 +13,8 @@ use lib.ListN.{length}
 use borrow.Author.Tests.{eq-eqb, ne-eqb}
 use Rattle.expressions.specs.Expr.{Exp, atom, cat, alt, star, empty, nodes}
 use Rattle.expressions.specs.Words.{Bracket, opening, closing}
-use Rattle.ceiling.specs.Once.{Once}
-use Rattle.ceiling.proofs.Weighed.{weigh, own, total}
+use Rattle.few.specs.Once.{Once}
+use Rattle.few.proofs.Weighed.{weigh, own, total}
 
 -- one for each bracket
 abbrev pub one-each : Bracket → ℕ

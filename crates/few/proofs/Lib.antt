@@ -1,0 +1,4 @@
+pub mod Weighed
+pub mod Counting
+pub mod Found
+pub mod Rounds
