@@ -65,7 +65,7 @@ module _ {A S : Type 0} (step : S → A → Option S) (Held : S → List A → T
 
 module _ {A R : Type 0} (m : Machine A R) (Phrase : List A → R → Type 0) (Fits : R → Type 0) (fits : (r : R) → Dec (Fits r)) (reads : Reads m Phrase Fits) where
   -- a step with the limits
-  next-is : (s s′ : m .State) (a : A) → m .step s a ≡ some s′ → Fits (m .finished s′) → next m fits s a ≡ some s′
+  pub next-is : (s s′ : m .State) (a : A) → m .step s a ≡ some s′ → Fits (m .finished s′) → next m fits s a ≡ some s′
   next-is s s′ a e f = ap (λ o. andThen o (λ s″. onlyWhere (fits (m .finished s″)) s″)) e ∙ go (fits (m .finished s′))
     where
       go : (d : Dec (Fits (m .finished s′))) → onlyWhere d s′ ≡ some s′

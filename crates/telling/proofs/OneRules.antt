@@ -24,33 +24,33 @@ use Rattle.telling.proofs.Acceptable.{Proper, Fine, taken-is-fine, Want
 use Rattle.telling.proofs.Bytes.{OpenTail, InGap, ending-was}
 use Rattle.telling.proofs.Lexical.{Stops, stops-of, same-name, same-string, lexed, View, a-name, a-string, lexical, view, Solid, solid}
 
-clash : {A : Type 0} → _≡_ {A = Bool} true false → A
+pub clash : {A : Type 0} → _≡_ {A = Bool} true false → A
 clash e = absurd (let z : _≡_ {A = ℕ} 0 1 = cc in omega arith)
 
 -- a comment ends at its first LF
-comment-one : (c d x y : List ℕ) → All inComment c → All inComment d → c ++ 10 ∷ x ≡ d ++ 10 ∷ y → x ≡ y
+pub comment-one : (c d x y : List ℕ) → All inComment c → All inComment d → c ++ 10 ∷ x ≡ d ++ 10 ∷ y → x ≡ y
 comment-one [] [] x y a b e = tail-eq-of-cons-eq e
 comment-one [] (k ∷ d) x y a b e = clash (sym (subst (λ z. inComment z ≡ true) (sym (head-eq-of-cons-eq e)) (b .0)))
 comment-one (k ∷ c) [] x y a b e = clash (sym (subst (λ z. inComment z ≡ true) (head-eq-of-cons-eq e) (a .0)))
 comment-one (k ∷ c) (l ∷ d) x y a b e = comment-one c d x y (a .1) (b .1) (tail-eq-of-cons-eq e)
 
-no-line-end : (c d y : List ℕ) → All inComment c → c ≡ d ++ 10 ∷ y → ⊥
+pub no-line-end : (c d y : List ℕ) → All inComment c → c ≡ d ++ 10 ∷ y → ⊥
 no-line-end [] [] y a e = cons≢[] (sym e)
 no-line-end [] (k ∷ d) y a e = cons≢[] (sym e)
 no-line-end (k ∷ c) [] y a e = clash (sym (subst (λ z. inComment z ≡ true) (head-eq-of-cons-eq e) (a .0)))
 no-line-end (k ∷ c) (l ∷ d) y a e = no-line-end c d y (a .1) (tail-eq-of-cons-eq e)
 
-white-solid : (b : ℕ) (l x : List ℕ) → blank b ≡ true → Solid x → b ∷ l ≡ x → ⊥
+pub white-solid : (b : ℕ) (l x : List ℕ) → blank b ≡ true → Solid x → b ∷ l ≡ x → ⊥
 white-solid b l x h s e = let same : b ≡ s .lead = head-eq-of-cons-eq (e ∙ s .are) in clash (sym h ∙ ap blank same ∙ s .no-blank)
 
-sharp-solid : (l x : List ℕ) → Solid x → 35 ∷ l ≡ x → ⊥
+pub sharp-solid : (l x : List ℕ) → Solid x → 35 ∷ l ≡ x → ⊥
 sharp-solid l x s e = s .no-sharp (sym (head-eq-of-cons-eq (e ∙ s .are)))
 
-sharp-white : (b : ℕ) → b ≡ 35 → blank b ≡ true → ⊥
+pub sharp-white : (b : ℕ) → b ≡ 35 → blank b ≡ true → ⊥
 sharp-white b e h = clash (sym (subst (λ z. blank z ≡ true) e h))
 
 -- a gap ends where a token begins
-gap-one : {g h : List ℕ} → Gap g → Gap h → (x y : List ℕ) → Solid x → Solid y → g ++ x ≡ h ++ y → x ≡ y
+pub gap-one : {g h : List ℕ} → Gap g → Gap h → (x y : List ℕ) → Solid x → Solid y → g ++ x ≡ h ++ y → x ≡ y
 gap-one Gap.none Gap.none x y s t e = e
 gap-one Gap.none (white {b = b} {g = l} i j) x y s t e = absurd (white-solid b (l ++ y) x i s (sym e))
 gap-one Gap.none (comment c {g = l} a j) x y s t e = absurd (sharp-solid ((c ++ 10 ∷ l) ++ y) x s (sym e))
@@ -67,7 +67,7 @@ tail-solid : (w x : List ℕ) → OpenTail w → Solid x → w ≡ x → ⊥
 tail-solid [] x h s e = cons≢[] (sym (e ∙ s .are))
 tail-solid (b ∷ c) x h s e = s .no-sharp (sym (head-eq-of-cons-eq (e ∙ s .are)) ∙ h .0)
 
-gap-no-end : {g h : List ℕ} → Gap g → Gap h → (w y : List ℕ) → OpenTail w → Solid y → g ++ w ≡ h ++ y → ⊥
+pub gap-no-end : {g h : List ℕ} → Gap g → Gap h → (w y : List ℕ) → OpenTail w → Solid y → g ++ w ≡ h ++ y → ⊥
 gap-no-end Gap.none Gap.none w y o t e = tail-solid w y o t e
 gap-no-end Gap.none (white {b = b} i j) [] y o t e = cons≢[] (sym e)
 gap-no-end Gap.none (white {b = b} i j) (k ∷ w) y o t e = sharp-white b (sym (head-eq-of-cons-eq e) ∙ o .0) i
@@ -81,7 +81,7 @@ gap-no-end (comment c a j) (white {b = b} i j′) w y o t e = sharp-white b (sym
 gap-no-end (comment c {g = l} a j) (comment d {g = m} b j′) w y o t e =
     gap-no-end j j′ w y o t (comment-one c d (l ++ w) (m ++ y) a b (sym (append-assoc c (10 ∷ l) w) ∙ tail-eq-of-cons-eq e ∙ append-assoc d (10 ∷ m) y))
 
-solid-append : (x r : List ℕ) → Solid x → Solid (x ++ r)
+pub solid-append : (x r : List ℕ) → Solid x → Solid (x ++ r)
 solid-append x r s = record { lead = s .lead; others = s .others ++ r; are = ap (λ l. l ++ r) (s .are); no-blank = s .no-blank; no-sharp = s .no-sharp }
 
 -- a { begins no name
@@ -98,7 +98,7 @@ module _ (s : Progress) where
       (λ (x : u ≡ sign BRACE). brace-name n r q (h .a-name) (sym (ap (λ y. bytesOf y ++ r) e) ∙ k ∙ ap (λ y. bytesOf y ++ q) x))
       (tag-place s z′ u (name-wants-tag s z n (sym (ap (stepRules s) e) ∙ i)) j)
 
-  one-token : (z z′ : Progress) (t u : Token) (r q : List ℕ) → stepRules s t ≡ some z → stepRules s u ≡ some z′ → MayFollow t r → MayFollow u q → bytesOf t ++ r ≡ bytesOf u ++ q → t ≡ u
+  pub one-token : (z z′ : Progress) (t u : Token) (r q : List ℕ) → stepRules s t ≡ some z → stepRules s u ≡ some z′ → MayFollow t r → MayFollow u q → bytesOf t ++ r ≡ bytesOf u ++ q → t ≡ u
   one-token z z′ t u r q i j m k e = on (view t (taken-is-fine s z t i .proper)) (view u (taken-is-fine s z′ u j .proper))
     where
       on : View t → View u → t ≡ u

@@ -54,7 +54,7 @@ live s (us, e) =
     let c = ended rules RulesAre Within within? reads-rules (us ++ g .rest) (g .value) (g .writes) in
     (g .rest, c .0, g .value, sym (walk-on take-token beginning s us (g .rest) e) ∙ c .1, c .2)
 
-reached-next : (s s′ : Progress) (t : Token) → Reached s → take-token s t ≡ some s′ → Reached s′
+pub reached-next : (s s′ : Progress) (t : Token) → Reached s → take-token s t ≡ some s′ → Reached s′
 reached-next s s′ t (us, e) h = (us ++ t ∷ [], walk-on take-token beginning s us (t ∷ []) e ∙ ap (λ o. andThen o (λ z. some z)) h)
 
 fine : (s s′ : Progress) (t : Token) → take-token s t ≡ some s′ → Fine t
