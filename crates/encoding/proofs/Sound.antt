@@ -5,6 +5,7 @@ use mathlib.Core.List.{List, [], _∷_, _++_}
 use mathlib.Core.Option.{Option, none, some}
 use Prim.Native.Nat.{ℕ, _<_}
 use Rattle.text.specs.Characters.{WholeCharacters, utf8s}
+use Rattle.expressions.specs.Expr.{Atom, nonterminal, anychar}
 use Rattle.expressions.specs.Grammar.{nonterminals}
 use Rattle.programs.specs.Program.{Operand, constant, current, recalled, Condition, equal, negated, both, either}
 use Rattle.programs.specs.Limits.{Attribute, Value, OperandFits, ConditionFits, Visit, first, second, isFirst, isSecond, operandAllowed, conditionAllowed}
@@ -36,12 +37,16 @@ abbrev pub SoundIf : Visit → Option Program → Type 0
 SoundIf v none = Unit {0}
 SoundIf v (some p) = Sound v p
 
+abbrev pub SoundAtom : Atom → Type 0
+SoundAtom (nonterminal n) = n < nonterminals
+SoundAtom anychar = Unit {0}
+
 abbrev mutual
   pub SoundTree : Tree → Type 0
   SoundTree (node f g k) = SoundIf first f × (SoundIf second g × SoundForm k)
 
   pub SoundForm : Form → Type 0
-  SoundForm (atom k) = Unit {0}
+  SoundForm (atom k) = SoundAtom k
   SoundForm (cat l r) = SoundTree l × SoundTree r
   SoundForm (alt l r) = SoundTree l × SoundTree r
   SoundForm (star e) = SoundTree e
@@ -153,7 +158,7 @@ mutual
   starred-sound (stars s e) = (tt, (tt, starred-sound s))
 
   primary-sound : {p : ℕ} {ts : List Token} {e : Tree} → PrimaryIs p ts e → SoundTree e
-  primary-sound (a-nonterminal h) = (tt, (tt, tt))
+  primary-sound (a-nonterminal h) = (tt, (tt, h))
   primary-sound a-character = (tt, (tt, tt))
   primary-sound (PrimaryIs.parenthesised i e) = inside-sound i
 

@@ -21,7 +21,7 @@ and-parts : (a b : Bool) → a && b ≡ true → (a ≡ true) × (b ≡ true)
 and-parts true b e = (refl, e)
 and-parts false b e = absurd (let z : _≡_ {A = ℕ} 0 1 = cc in omega arith)
 
-equal-true : (a b : List ℕ) → equal a b ≡ true → a ≡ b
+pub equal-true : (a b : List ℕ) → equal a b ≡ true → a ≡ b
 equal-true [] [] e = refl
 equal-true [] (y ∷ b) e = absurd (let z : _≡_ {A = ℕ} 0 1 = cc in omega arith)
 equal-true (x ∷ a) [] e = absurd (let z : _≡_ {A = ℕ} 0 1 = cc in omega arith)
@@ -31,19 +31,19 @@ equal-true (x ∷ a) (y ∷ b) e =
     let g = equal-true a b (p .1) in
     cc
 
-equal-same : (a : List ℕ) → equal a a ≡ true
+pub equal-same : (a : List ℕ) → equal a a ≡ true
 equal-same [] = refl
 equal-same (x ∷ a) = rw (eq-eqb x x refl) (equal-same a)
 
-or-left : (a b : Bool) → a ≡ true → a || b ≡ true
+pub or-left : (a b : Bool) → a ≡ true → a || b ≡ true
 or-left true b e = refl
 or-left false b e = absurd (let z : _≡_ {A = ℕ} 0 1 = cc in omega arith)
 
-or-right : (a b : Bool) → b ≡ true → a || b ≡ true
+pub or-right : (a b : Bool) → b ≡ true → a || b ≡ true
 or-right true b e = refl
 or-right false b e = e
 
-or-parts : (a b : Bool) → a || b ≡ true → a ≡ false → b ≡ true
+pub or-parts : (a b : Bool) → a || b ≡ true → a ≡ false → b ≡ true
 or-parts true b e f = absurd (let z : _≡_ {A = ℕ} 0 1 = cc in omega arith)
 or-parts false b e f = e
 
@@ -106,11 +106,11 @@ place-below (y ∷ l) x e = on (equal x y) refl (λ f. place-below l x (or-parts
     on false f ih = omega (arith, ih f)
 
 -- its bytes at its offset
-record Lies (l : List (List ℕ)) (x : List ℕ) (o : ℕ) : Type 0 where
-  inside : o + length x ≤ length (joined l)
-  there : take (length x) (drop o (joined l)) ≡ x
+pub record Lies (l : List (List ℕ)) (x : List ℕ) (o : ℕ) : Type 0 where
+  pub inside : o + length x ≤ length (joined l)
+  pub there : take (length x) (drop o (joined l)) ≡ x
 
-lies : (l : List (List ℕ)) (x : List ℕ) → has l x ≡ true → Lies l x (offsetOf l x)
+pub lies : (l : List (List ℕ)) (x : List ℕ) → has l x ≡ true → Lies l x (offsetOf l x)
 lies [] x e = absurd (let z : _≡_ {A = ℕ} 0 1 = cc in omega arith)
 lies (y ∷ l) x e = on (equal x y) refl (λ f. lies l x (or-parts (equal x y) (has l x) e f))
   where

@@ -1,0 +1,5 @@
+pub mod Here
+pub mod Store
+pub mod Nodes
+pub mod Productions
+pub mod Packing

@@ -1,0 +1,3 @@
+pub mod Packed
+pub mod Packs
+pub mod Promises
