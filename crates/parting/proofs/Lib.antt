@@ -1,1 +1,4 @@
 pub mod Parting
+pub mod Tallied
+pub mod Listed
+pub mod Faults
