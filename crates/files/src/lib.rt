@@ -1,7 +1,9 @@
 // Files by name: one read whole, one read on into what is there already, and a new one made beside another to take its place.
-ghost use Prim.Native.Nat.{_≤_};
+ghost use mathlib.Core.Path.{_≡_};
+ghost use Prim.Native.Nat.{_≤_, min};
 ghost use lib.ListN.{length};
 ghost use Rattle.io.specs.Counts.{Counts};
+ghost use Rattle.files.specs.Moved.{MovedAs};
 
 // What reading came to: how many bytes of the memory are in use, whether the file has no more, and whether a read failed.
 pub struct Filled {
@@ -44,7 +46,9 @@ pub fn fill(fd: i32, memory: &mut [u8], from: usize) -> Filled
 }
 
 // Moves what stands from one byte on, before another, to the memory's start, and answers how much that is.
-pub fn move_to_front(memory: &mut [u8], from: usize, end: usize) -> usize {
+pub fn move_to_front(memory: &mut [u8], from: usize, end: usize) -> usize
+    ensures { λ r. ⌜ MovedAs from end (now (memory .entry)) (now (memory .exit)) r ⌝ }
+{
     if end > memory.len() {
         return 0;
     }
@@ -61,6 +65,7 @@ pub fn move_to_front(memory: &mut [u8], from: usize, end: usize) -> usize {
 // A number of bytes at the start of the memory: n, or all of them where there are not so many.
 pub fn within(n: usize, memory: &[u8]) -> usize
     ensures { λ r. ⌜ Counts r (now (memory .entry)) ⌝ }
+    ensures { λ r. ⌜ r ≡ min n (length (now (memory .entry))) ⌝ }
 {
     if n < memory.len() { n } else { memory.len() }
 }
