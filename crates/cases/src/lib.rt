@@ -1,8 +1,10 @@
 // What the programs of the tests share: the lines of a file of cases, the numbers and bytes in them, and memory that is lent.
 ghost use mathlib.Core.Path.{_≡_};
 ghost use Prim.Native.Nat.{_≤_, _<_};
-ghost use lib.ListN.{length};
+ghost use lib.ListN.{length, drop};
 ghost use Rattle.io.specs.Counts.{Counts};
+ghost use Rattle.tells.specs.Tells.{Tells};
+ghost use Rattle.cases.specs.Kept.{AllAre};
 
 // A number that was read, and where the line goes on.
 pub struct Read {
@@ -81,14 +83,10 @@ pub fn read_bytes(line: &[u8], at: usize, memory: &mut [u8], to: usize) -> usize
     n
 }
 
-// A number that is no more than the memory has bytes.
-pub fn within(n: usize, memory: &[u8]) -> usize
-    ensures { λ r. ⌜ Counts r (now (memory .entry)) ⌝ }
+// Makes every byte the one that is lent.
+pub fn fill(memory: &mut [u8], b: u8)
+    ensures { λ _. ⌜ AllAre b (now (memory .exit)) ⌝ }
 {
-    if n < memory.len() { n } else { memory.len() }
-}
-
-pub fn fill(memory: &mut [u8], b: u8) {
     let mut i = 0;
     while i < memory.len() {
         memory[i] = b;
@@ -97,7 +95,9 @@ pub fn fill(memory: &mut [u8], b: u8) {
 }
 
 // Whether every byte from one on is as lent.
-pub fn is_kept(memory: &[u8], from: usize, lent: u8) -> bool {
+pub fn is_kept(memory: &[u8], from: usize, lent: u8) -> bool
+    ensures { λ r. ⌜ Tells (AllAre lent (drop from (now (memory .entry)))) r ⌝ }
+{
     let mut i = from;
     while i < memory.len() {
         if memory[i] != lent {

@@ -9,9 +9,9 @@ use cases::is_kept;
 use cases::read_bytes;
 use cases::read_line;
 use cases::read_number;
-use cases::within;
 use faults::Checked;
 use faults::check;
+use files::within;
 use libc::STDOUT_FILENO;
 
 // What every byte of a list is before it is lent.

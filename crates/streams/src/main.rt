@@ -10,8 +10,8 @@ use cases::is_kept;
 use cases::read_bytes;
 use cases::read_line;
 use cases::read_number;
-use cases::within;
 use converter::convert_bytes;
+use files::within;
 use libc::STDOUT_FILENO;
 
 // What every byte of the output is before it is lent.

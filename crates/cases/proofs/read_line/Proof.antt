@@ -1,7 +1,7 @@
 -- The position stays within the line, which keeps its length.
 use mathlib.Core.Path.{_≡_}
 use native.Mathlib.Omega.{arith}
-use Rattle.cases.proofs.Laws.{counts}
+use Rattle.io.proofs.Counting.{counts}
 use Prim.Native.Nat.{_≤_, _-_}
 use lib.ListN.{length}
 use borrow.Author.Needs.{needs}
