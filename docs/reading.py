@@ -22,12 +22,15 @@ WORD = re.compile(r'[^\s(){};,.λ→]+')
 FIELD = re.compile(r'(?<=\s)\.[^\s(){};,.]+|(?<=[{;])\s*[^\s=]+ =')  # x .field, and a field that is given a value
 USE = re.compile(r'^use Rattle·(\w+)(?:·specs)?\.specs\.([\w.-]+?)\.\{(.*)\}')
 
-PASSED = {('converter', 'Answered', 'AnsweredAs'), ('converter', 'Bytes', 'BytesAnsweredAs'), ('calls', 'Call', 'Called')}
+PASSED = {('converter', 'Answered', 'AnsweredAs'), ('converter', 'Bytes', 'BytesAnsweredAs'), ('capi', 'Started', 'StartedAs'), ('capi', 'RunAnswer', 'RunAs'), ('calls', 'Call', 'Called')}
 
 # each demand's statements, in the order in which they are best read
 DEMANDS = [
     ('Demand 1: whatever bytes reach it', ['faults.Checked.CheckedAs', 'converter.Answered.AnsweredAs', 'converter.Bytes.BytesAnsweredAs']),
     ('Demand 2: which streams are taken, their output and visits', ['calls.Accepted.Accepted', 'calls.Accepted.TwiceTheNodes']),
+    ('Demand 2: the same of the code, in one call', ['converter.Promises.CallAccepts', 'converter.Promises.CallConverts']),
+    ('Demand 2: the same of the code, in whatever parts and rooms', ['converter.Promises.FedAccepts', 'converter.Promises.FedConverts', 'converter.Promises.BytesFedAccepts', 'converter.Promises.BytesFedConverts']),
+    ('Demand 2: the same for hosts in C', ['capi.Hosts.HostAccepts', 'capi.Hosts.HostConverts']),
     ('Demand 2: every number, what is taken and written then, and the visits', ['converter.Explained.RepliesExactly']),
     ('Demand 2: the same in whatever parts and rooms', ['converter.Explained.FedExactly']),
     ('Demand 2: what we write reads back', ['converter.ReadsBack.WrittenReadsBack', 'converter.ReadsBack.BytesWrittenReadBack']),

@@ -2,7 +2,6 @@
 -- end exactly when it is accepted and its output has room in all that is lent; and then all is as the tree says.
 -- Assumes nothing.
 use mathlib.Core.Path.{_≡_, refl, sym, ap, ap₂, _∙_, subst}
-use mathlib.Core.Logic.{_↔_}
 use mathlib.Core.Bool.{Bool, true, false, not}
 use mathlib.Core.List.{List, _++_}
 use Prim.Native.Nat.{ℕ, _<_, _≤_}
@@ -11,12 +10,9 @@ use lib.Dec.{eqb}
 use lib.ListN.{length, take, drop, getD}
 use lib.Seq.{take-at}
 use Rattle.sheet.specs.Sheet.{Sheet, IsSheet}
-use Rattle.output.specs.Escape.{render}
-use Rattle.runs.specs.Visits.{Env}
 use Rattle.runs.specs.Taken.{Passed}
 use Rattle.calls.specs.Call.{Result}
-use Rattle.calls.specs.Accepted.{Accepted}
-use Rattle.calls.specs.Parts.{Feeds, at-once, closes, goes-on, Each, FedAccepted}
+use Rattle.calls.specs.Parts.{Feeds, at-once, closes, goes-on}
 use Rattle.calls.proofs.Parts.{each-call}
 use Rattle.state.specs.Bounds.{stateWidth}
 use Rattle.state.specs.Bytes.{bytesOf, stateFrom}
@@ -26,7 +22,7 @@ use Rattle.converter.specs.Fed.{resultIn, BytesCall}
 use Rattle.converter.proofs.Widths.{fresh-wide}
 use Rattle.converter.proofs.Theorems.{bytes-fed-converted, bytes-fed-accepted, bytes-as-lent}
 use Rattle.capi.specs.Started.{StartedAs, too-short, fresh}
-use Rattle.capi.specs.Hosts.{RunCall, RunAsLent}
+use Rattle.capi.specs.Hosts.{RunCall, RunAsLent, HostAccepts, HostConverts}
 
 twice-not : (b : Bool) → not (not b) ≡ b
 twice-not true = refl
@@ -67,13 +63,15 @@ fresh-there : {lent area : List ℕ} {w : ℕ} → StartedAs lent area w → 0 <
 fresh-there (too-short h e) p = absurd (omega arith)
 fresh-there {lent} (fresh h e n) p = ap (take stateWidth) e ∙ take-at (bytesOf freshState) (drop stateWidth lent) stateWidth fresh-wide
 
-module _ {s : List ℕ} {a : Sheet} (i : IsSheet s a) (ok : Passed a) {lent area : List ℕ} {w : ℕ} (started : StartedAs lent area w) (written : 0 < w)
-    {whole : List ℕ} {room : ℕ} {x : Result} {v : ℕ} (d : Feeds (RunCall s) false whole room (take stateWidth area) x v) where
-  host-fed : Feeds (BytesCall s) false whole room (bytesOf freshState) x v
-  host-fed = subst (λ (b : List ℕ). Feeds (BytesCall s) false whole room b x v) (fresh-there started written) (runs-bytes d)
+module _ {s : List ℕ} {a : Sheet} (i : IsSheet s a) (ok : Passed a) where
+  host-fed : {lent area : List ℕ} {w : ℕ} → StartedAs lent area w → 0 < w → {whole : List ℕ} {room : ℕ} {x : Result} {v : ℕ} →
+      Feeds (RunCall s) false whole room (take stateWidth area) x v → Feeds (BytesCall s) false whole room (bytesOf freshState) x v
+  host-fed started written {whole} {room} {x} {v} d =
+      subst (λ (b : List ℕ). Feeds (BytesCall s) false whole room b x v) (fresh-there started written) (runs-bytes d)
 
-  pub host-converted : (e : Env) → Accepted a whole e → length (render (e .out)) ≤ room → FedAccepted whole e x v × Each (RunAsLent s) d
-  host-converted e y f = (bytes-fed-converted i ok host-fed e y f .0, each-call (RunAsLent s) run-as-lent d)
+  pub host-converted : HostConverts s a
+  host-converted lent area w st wr whole room x v d e y f =
+      (bytes-fed-converted i ok whole room x v (host-fed st wr d) e y f .0, each-call (RunAsLent s) run-as-lent d)
 
-  pub host-accepted : (x .number ≡ 0) ↔ ((e : Env) × (Accepted a whole e × (length (render (e .out)) ≤ room)))
-  host-accepted = bytes-fed-accepted i ok host-fed
+  pub host-accepted : HostAccepts s a
+  host-accepted lent area w st wr whole room x v d = bytes-fed-accepted i ok whole room x v (host-fed st wr d)

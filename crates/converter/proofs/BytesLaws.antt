@@ -16,10 +16,11 @@ use Rattle.state.specs.declared.State.{State}
 use Rattle.converter.specs.declared.Reply.{Reply}
 use Rattle.converter.specs.declared.Counts.{Counts}
 use Rattle.converter.specs.Answered.{FitsSheet, heldOf, GivenBack, Ran, AnsweredAs, as-given as value-given, runs as value-runs}
-use Rattle.converter.specs.Bytes.{CountsOf, SameCounts, BytesAnsweredAs, as-given, runs}
+use Rattle.converter.specs.Bytes.{AsValue, SameCounts, BytesAnsweredAs, as-given, runs}
+use Rattle.converter.specs.Promises.{InTable, BytesNumbersInTable}
 use Rattle.converter.proofs.Entering.{state-in}
 use Rattle.converter.proofs.Widths.{state-wide}
-use Rattle.converter.proofs.Replies.{one-given, not-both, one-run-reply, written-first, InTable, given-number, ran-number, fits-here}
+use Rattle.converter.proofs.Replies.{one-given, not-both, one-run-reply, written-first, given-number, ran-number, fits-here}
 
 same-counts : (r q : Counts) → r .number ≡ q .number → r .taken ≡ q .taken → r .written ≡ q .written → r .visits ≡ q .visits → r ≡ q
 same-counts r q n t w v = λ i. record { number = n i; taken = t i; written = w i; visits = v i }
@@ -95,21 +96,15 @@ module _ {s b part : List ℕ} {ended : Bool} {lent : List ℕ} where
       BytesAnsweredAs s b b′ part ended lent after r × ((r .taken ≤ length part) × (r .written ≤ length lent))
   and-within w = (w, bytes-within w)
 
-  pub bytes-numbers : {b′ after : List ℕ} {r : Counts} → BytesAnsweredAs s b b′ part ended lent after r → InTable (r .number)
-  bytes-numbers (as-given g u) = given-number g
-  bytes-numbers (runs e q w c x y) = subst InTable (sym (c .number)) (ran-number w)
-
   pub bytes-fit : {a : Sheet} {b′ after : List ℕ} {r : Counts} → IsSheet s a → Passed a → FitsSheet a (stateFrom b) → BytesAnsweredAs s b b′ part ended lent after r → FitsSheet a (stateFrom b′)
   bytes-fit {a} i ok f (as-given g u) = subst (λ (x : List ℕ). FitsSheet a (stateFrom x)) (sym (u .same)) f
   bytes-fit {a} i ok f (runs e q w c x y) = subst (FitsSheet a) (sym y) (fits-here i ok (w .is-sheet) (w .fits-again))
 
--- what is said of a call whose state is a value is said of this one
-pub record AsValue (s b b′ part : List ℕ) (ended : Bool) (lent after : List ℕ) (r : Counts) : Type 0 where
-  pub reply : Reply
-  pub answered : AnsweredAs s (stateFrom b) part ended lent after reply
-  pub counts : CountsOf reply r
-  pub reads-back : stateFrom b′ ≡ reply .state
+pub bytes-numbers : BytesNumbersInTable
+bytes-numbers s b b′ part ended lent after r (as-given g u) = given-number g
+bytes-numbers s b b′ part ended lent after r (runs e q w c x y) = subst InTable (sym (c .number)) (ran-number w)
 
+-- what is said of a call whose state is a value is said of this one
 pub as-value : {s b b′ part : List ℕ} {ended : Bool} {lent after : List ℕ} {r : Counts} → length b ≡ stateWidth → BytesAnsweredAs s b b′ part ended lent after r →
     AsValue s b b′ part ended lent after r
 as-value {s} {b} {r = r} h (as-given g u) =

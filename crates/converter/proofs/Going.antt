@@ -54,7 +54,8 @@ use Rattle.converter.specs.declared.Reply.{Reply}
 use Rattle.converter.specs.declared.LiveReply.{LiveReply}
 use Rattle.converter.specs.Answered.{FitsSheet, closingIn, heldOf, closingByte, stateOf, Ran}
 use Rattle.converter.specs.Inner.{MayRun, NumberedAs, leftWith, StopsAs, closedLive, leftLive, StopsLive, seen, RanLive}
-use Rattle.converter.proofs.Replies.{InTable, run-number, fits-here}
+use Rattle.converter.specs.Promises.{InTable}
+use Rattle.converter.proofs.Replies.{run-number, fits-here}
 
 -- what the reader answers of a part lies in it
 pub event-in : (part : List ℕ) (at : ℕ) (e : Event) (next : Cursor) → Means (front part at) at (Token e next) → EventIn part e

@@ -31,6 +31,7 @@ use Rattle.fit.specs.Fit.{ClosingNumber, ended, refused, counted}
 use Rattle.converter.specs.declared.Reply.{Reply}
 use Rattle.converter.specs.Answered.{FitsSheet, heldOf, stateOf, GivenBack, sheet-fails, unfit, closed, Ran, AnsweredAs, as-given, runs}
 use Rattle.converter.specs.Fed.{resultOf}
+use Rattle.converter.specs.Promises.{InTable, NumbersInTable}
 
 pub some-inj : {X : Type 0} {x y : X} → some x ≡ some y → x ≡ y
 some-inj e = cc
@@ -149,10 +150,6 @@ same-held {s} {a} i ok {z} {y} f g e {part} {ended} {lent} {after} {after′} {r
     by o (as-given k x v) u = absurd (let (m, c, n) = given-closed i ok f k in none-some m (sym o ∙ c))
     by o (runs w v) (as-given k x v′) = absurd (let (m, c, n) = given-closed i ok g k in none-some m (sym o ∙ ap (λ (h : Held). h .closing) e ∙ c))
 
--- the numbers of the table that a call answers; 10 is none of them
-abbrev pub InTable : ℕ → Type 0
-InTable n = (n ≤ 9) ⊎ ((n ≡ 16) ⊎ ((n ≡ 17) ⊎ ((20 ≤ n) × (n ≤ 30))))
-
 closing-in : {n : ℕ} → Closing n → InTable n
 closing-in (inl e) = inl (omega arith)
 closing-in (inr (inl (h, k))) = inr (inr (inr (h, omega arith)))
@@ -194,9 +191,9 @@ ran-number {z = z} {part} {ended} {lent} w =
     (run-number (subst (λ (c : Option ℕ). CalledBy (w .sheet) part (not ended) (length lent) (meaningOf z) c (w .answer)) (w .is-open) (w .called)))
 
 -- every number that a call answers
-pub numbers : {s : List ℕ} {z : State} {part : List ℕ} {ended : Bool} {lent after : List ℕ} {r : Reply} → AnsweredAs s z part ended lent after r → InTable (r .number)
-numbers (as-given g k v) = given-number g
-numbers (runs w v) = ran-number w
+pub numbers : NumbersInTable
+numbers s z part e lent after r (as-given g k v) = given-number g
+numbers s z part e lent after r (runs w v) = ran-number w
 
 -- the output stands first in the lent memory, and all past it is as lent
 pub written-first : {s : List ℕ} {z : State} {part : List ℕ} {ended : Bool} {lent after : List ℕ} {r : Reply} → AnsweredAs s z part ended lent after r →

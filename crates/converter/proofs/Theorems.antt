@@ -3,10 +3,9 @@
 -- Each is the law of the calls, as a reply is a call's answer (`is-call`).
 -- Assumes nothing.
 use mathlib.Core.Path.{_≡_, refl, sym, ap, ap₂, _∙_, subst}
-use mathlib.Core.Logic.{_↔_}
 use mathlib.Core.Bool.{Bool, true, false, not}
 use mathlib.Core.List.{List, _++_}
-use mathlib.Core.Option.{some, Option·none-ne-some as none-some}
+use mathlib.Core.Option.{Option·none-ne-some as none-some}
 use Prim.Native.Nat.{ℕ, _≤_}
 use lib.ListN.{length, take, drop}
 use Rattle.sheet.specs.Sheet.{Sheet, IsSheet}
@@ -16,7 +15,7 @@ use Rattle.runs.specs.Taken.{Passed}
 use Rattle.calls.specs.Held.{Held, fresh-held}
 use Rattle.calls.specs.Call.{Result, again, Called}
 use Rattle.calls.specs.Accepted.{Accepted, accepted}
-use Rattle.calls.specs.Parts.{Feeds, Each, CallOf, FedAccepted}
+use Rattle.calls.specs.Parts.{Feeds, CallOf}
 use Rattle.calls.proofs.Main.{accepted-iff}
 use Rattle.calls.proofs.Answers.{call-one}
 use Rattle.calls.proofs.Parts.{feeds-as-one, feeds-visits, feeds-held, each-call}
@@ -31,8 +30,9 @@ use Rattle.state.proofs.Back.{state-back}
 use Rattle.state.proofs.Tidy.{fresh-sized}
 use Rattle.fit.proofs.Theorems.{fresh-fit}
 use Rattle.converter.specs.declared.Reply.{Reply}
-use Rattle.converter.specs.Answered.{FitsSheet, closingIn, heldOf, AsGiven, AnsweredAs, as-given, runs}
+use Rattle.converter.specs.Answered.{FitsSheet, closingIn, heldOf, AnsweredAs, as-given, runs}
 use Rattle.converter.specs.Fed.{resultOf, resultIn, ValueCall, BytesCall, ValueAsLent, BytesAsLent}
+use Rattle.converter.specs.Promises.{CallAccepts, CallConverts, FedAccepts, FedConverts, BytesFedAccepts, BytesFedConverts, PartsAsOne, ClosedRepeats}
 use Rattle.converter.proofs.Widths.{fresh-wide}
 use Rattle.converter.proofs.BytesLaws.{bytes-state, bytes-first, as-value}
 use Rattle.converter.proofs.Replies.{some-inj, given-closed, is-call, handed-back-fit, written-first, visits-held}
@@ -40,13 +40,6 @@ use Rattle.converter.proofs.Replies.{some-inj, given-closed, is-call, h
 pub held-fresh : heldOf freshState ≡ fresh-held
 unfolding freshState
 held-fresh = let e = meaning-fresh in λ i. record { run = e i; closing = closingIn (freshState .closed) }
-
--- what a call comes to that has taken the whole stream
-pub record Converted (part lent after : List ℕ) (r : Reply) (v : Env) : Type 0 where
-  pub taken : r .taken ≡ length part
-  pub written : r .written ≡ length (render (v .out))
-  pub left : after ≡ render (v .out) ++ drop (length (render (v .out))) lent
-  pub visits : r .visits ≡ v .count
 
 -- what a call leaves of the memory that is lent to it
 value-as-lent : {s : List ℕ} (part : List ℕ) (more : Bool) (room : ℕ) (z z′ : State) (x : Result) (v : ℕ) (c : ValueCall s part more room z z′ x v) →
@@ -103,25 +96,25 @@ module _ {s : List ℕ} {a : Sheet} (i : IsSheet s a) (ok : Passed a) where
     is-accepted v x f =
         call-one a part false (length lent) fresh-held (resultOf after r) (accepted part v) from-fresh (accepted-iff a ok part (length lent) (accepted part v) .1 (v, (x, f, refl)) .0)
 
-    -- demand 2, of the code
-    pub accepted-exactly : (r .number ≡ 0) ↔ ((v : Env) × (Accepted a part v × (length (render (v .out)) ≤ length lent)))
-    accepted-exactly = (
-      (λ e. let (v, (x, f, q)) = accepted-iff a ok part (length lent) (resultOf after r) .0 (from-fresh, e) in (v, (x, f))),
-      (λ h. ap (λ (x : Result). x .number) (is-accepted (h .0) (h .1 .0) (h .1 .1))),
-    )
+  -- demand 2, of the code
+  pub accepted-exactly : CallAccepts s a
+  accepted-exactly part lent after r w = (
+    (λ e. let (v, (x, f, q)) = accepted-iff a ok part (length lent) (resultOf after r) .0 (from-fresh w, e) in (v, (x, f))),
+    (λ h. ap (λ (x : Result). x .number) (is-accepted w (h .0) (h .1 .0) (h .1 .1))),
+  )
 
-    pub converted : (v : Env) → Accepted a part v → length (render (v .out)) ≤ length lent → Converted part lent after r v
-    converted v x f =
-        let e = is-accepted v x f in
-        let o : take (r .written) after ≡ render (v .out) = ap (λ (y : Result). y .output) e in
-        let k = written-first w in
-        let n : r .written ≡ length (render (v .out)) = k .0 ∙ ap length o in
-        record {
-          taken = ap (λ (y : Result). y .taken) e;
-          written = n;
-          left = k .1 ∙ ap₂ (λ (l : List ℕ) (m : ℕ). l ++ drop m lent) o n;
-          visits = visits-held w ∙ ap (λ (y : Result). y .held .run .store .env .count) e;
-        }
+  pub converted : CallConverts s a
+  converted part lent after r w v x f =
+      let e = is-accepted w v x f in
+      let o : take (r .written) after ≡ render (v .out) = ap (λ (y : Result). y .output) e in
+      let k = written-first w in
+      let n : r .written ≡ length (render (v .out)) = k .0 ∙ ap length o in
+      record {
+        taken = ap (λ (y : Result). y .taken) e;
+        written = n;
+        left = k .1 ∙ ap₂ (λ (l : List ℕ) (m : ℕ). l ++ drop m lent) o n;
+        visits = visits-held w ∙ ap (λ (y : Result). y .held .run .store .env .count) e;
+      }
 
   -- a call of the code is one of the definition, on what is held
   value-call : (part : List ℕ) (more : Bool) (room : ℕ) (z z′ : State) (x : Result) (v : ℕ) → FitsSheet a z → ValueCall s part more room z z′ x v →
@@ -144,15 +137,15 @@ module _ {s : List ℕ} {a : Sheet} (i : IsSheet s a) (ok : Passed a) where
 
   -- so a stream from the fresh state, fed in whatever parts and rooms, is answered with 0 in the end exactly when it is accepted and its output has room
   -- in all that is lent; and then all is as the tree says
-  module _ {whole : List ℕ} {room : ℕ} {x : Result} {v : ℕ} (d : Feeds (ValueCall s) false whole room freshState x v) where
-    fed-fresh : Feeds (CallOf a) false whole room fresh-held x v
-    fed-fresh = subst (λ (h : Held). Feeds (CallOf a) false whole room h x v) held-fresh (feeds-value (fresh-fit (grammar a) (a .start-nonterminal)) d)
+  fed-fresh : {whole : List ℕ} {room : ℕ} {x : Result} {v : ℕ} → Feeds (ValueCall s) false whole room freshState x v → Feeds (CallOf a) false whole room fresh-held x v
+  fed-fresh {whole} {room} {x} {v} d =
+      subst (λ (h : Held). Feeds (CallOf a) false whole room h x v) held-fresh (feeds-value (fresh-fit (grammar a) (a .start-nonterminal)) d)
 
-    pub fed-converted : (e : Env) → Accepted a whole e → length (render (e .out)) ≤ room → FedAccepted whole e x v × Each (ValueAsLent s) d
-    fed-converted e y f = (of-calls.fed-converted ok fed-fresh e y f, each-call (ValueAsLent s) value-as-lent d)
+  pub fed-converted : FedConverts s a
+  fed-converted whole room x v d e y f = (of-calls.fed-converted ok (fed-fresh d) e y f, each-call (ValueAsLent s) value-as-lent d)
 
-    pub fed-accepted : (x .number ≡ 0) ↔ ((e : Env) × (Accepted a whole e × (length (render (e .out)) ≤ room)))
-    fed-accepted = of-calls.fed-accepted ok fed-fresh
+  pub fed-accepted : FedAccepts s a
+  fed-accepted whole room x v d = of-calls.fed-accepted ok (fed-fresh d)
 
   -- the same where the state is bytes, from those of the fresh state
   bytes-call : (part : List ℕ) (more : Bool) (room : ℕ) (b b′ : List ℕ) (x : Result) (v : ℕ) → Good b → BytesCall s part more room b b′ x v →
@@ -161,29 +154,26 @@ module _ {s : List ℕ} {a : Sheet} (i : IsSheet s a) (ok : Passed a) where
       let k = value-call part more room (stateFrom b) (stateFrom b′) x v (g .1) (bytes-value (g .0) c) in
       (k .0, (bytes-state (g .0) (c .answered), k .1))
 
-  module _ {whole : List ℕ} {room : ℕ} {x : Result} {v : ℕ} (d : Feeds (BytesCall s) false whole room (bytesOf freshState) x v) where
-    bytes-fresh : Feeds (CallOf a) false whole room fresh-held x v
-    bytes-fresh =
-        let e = state-back freshState fresh-sized in
-        subst (λ (h : Held). Feeds (CallOf a) false whole room h x v) (ap heldOf e ∙ held-fresh)
-        (feeds-held a (λ (b : List ℕ). heldOf (stateFrom b)) Good bytes-call (fresh-wide, subst (FitsSheet a) (sym e) (fresh-fit (grammar a) (a .start-nonterminal))) d)
+  bytes-fresh : {whole : List ℕ} {room : ℕ} {x : Result} {v : ℕ} → Feeds (BytesCall s) false whole room (bytesOf freshState) x v →
+      Feeds (CallOf a) false whole room fresh-held x v
+  bytes-fresh {whole} {room} {x} {v} d =
+      let e = state-back freshState fresh-sized in
+      subst (λ (h : Held). Feeds (CallOf a) false whole room h x v) (ap heldOf e ∙ held-fresh)
+      (feeds-held a (λ (b : List ℕ). heldOf (stateFrom b)) Good bytes-call (fresh-wide, subst (FitsSheet a) (sym e) (fresh-fit (grammar a) (a .start-nonterminal))) d)
 
-    pub bytes-fed-converted : (e : Env) → Accepted a whole e → length (render (e .out)) ≤ room → FedAccepted whole e x v × Each (BytesAsLent s) d
-    bytes-fed-converted e y f = (of-calls.fed-converted ok bytes-fresh e y f, each-call (BytesAsLent s) bytes-as-lent d)
+  pub bytes-fed-converted : BytesFedConverts s a
+  bytes-fed-converted whole room x v d e y f = (of-calls.fed-converted ok (bytes-fresh d) e y f, each-call (BytesAsLent s) bytes-as-lent d)
 
-    pub bytes-fed-accepted : (x .number ≡ 0) ↔ ((e : Env) × (Accepted a whole e × (length (render (e .out)) ≤ room)))
-    bytes-fed-accepted = of-calls.fed-accepted ok bytes-fresh
+  pub bytes-fed-accepted : BytesFedAccepts s a
+  bytes-fed-accepted whole room x v d = of-calls.fed-accepted ok (bytes-fresh d)
 
   -- a stream in parts gives what one call gives
-  pub parts-as-one : {ended : Bool} {whole lent after : List ℕ} {z : State} {x : Result} {v : ℕ} {r : Reply} → FitsSheet a z →
-      Feeds (ValueCall s) (not ended) whole (length lent) z x v → AnsweredAs s z whole ended lent after r → (x ≡ resultOf after r) × (v ≡ r .visits)
-  parts-as-one {ended} {whole} {lent} {after} {z} {x} {r = r} f d w =
+  pub parts-as-one : PartsAsOne s a
+  parts-as-one ended whole lent after z x v r f d w =
       let t = feeds-value f d in
       let e = call-one a whole (not ended) (length lent) (heldOf z) x (resultOf after r) (feeds-as-one a (not ended) t) (is-call i ok f w) in
       (e, feeds-visits a (not ended) t ∙ ap (λ (y : Result). y .held .run .store .env .count) e ∙ sym (visits-held w))
 
-  -- a closed state repeats: 28 after 0, else the number again, and all is handed back as given
-  pub closed-repeats : {z : State} {part : List ℕ} {ended : Bool} {lent after : List ℕ} {r : Reply} (n : ℕ) → FitsSheet a z → heldOf z .closing ≡ some n →
-      AnsweredAs s z part ended lent after r → (r .number ≡ again n) × AsGiven z lent after r
-  closed-repeats n f c (as-given g k v) = let (m, e, q) = given-closed i ok f g in (q ∙ ap again (some-inj (sym e ∙ c)), k)
-  closed-repeats n f c (runs w v) = absurd (none-some n (sym (w .is-open) ∙ c))
+  pub closed-repeats : ClosedRepeats s a
+  closed-repeats z part ended lent after r n f c (as-given g k v) = let (m, e, q) = given-closed i ok f g in (q ∙ ap again (some-inj (sym e ∙ c)), k)
+  closed-repeats z part ended lent after r n f c (runs w v) = absurd (none-some n (sym (w .is-open) ∙ c))

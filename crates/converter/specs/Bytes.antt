@@ -13,7 +13,7 @@ use Rattle.state.specs.Bytes.{bytesOf, stateFrom}
 use Rattle.state.specs.declared.State.{State}
 use Rattle.converter.specs.declared.Reply.{Reply}
 use Rattle.converter.specs.declared.Counts.{Counts}
-use Rattle.converter.specs.Answered.{heldOf, stateOf, GivenBack, Ran}
+use Rattle.converter.specs.Answered.{heldOf, stateOf, GivenBack, Ran, AnsweredAs}
 
 -- bytes of another length are no state
 abbrev pub stateIn : List ℕ → Option State
@@ -39,6 +39,13 @@ pub data BytesAnsweredAs (s b b′ part : List ℕ) (ended : Bool) (lent after :
   as-given : GivenBack s (stateIn b) (r .number) → Untouched b b′ lent after r → BytesAnsweredAs s b b′ part ended lent after r
   runs : stateIn b ≡ some (stateFrom b) → (q : Reply) → Ran s (stateFrom b) part ended lent after q → CountsOf q r → b′ ≡ bytesOf (q .state) → stateFrom b′ ≡ q .state →
       BytesAnsweredAs s b b′ part ended lent after r
+
+-- the same call with the state that the bytes are as a value: what is said of that is said of this one
+pub record AsValue (s b b′ part : List ℕ) (ended : Bool) (lent after : List ℕ) (r : Counts) : Type 0 where
+  pub reply : Reply
+  pub answered : AnsweredAs s (stateFrom b) part ended lent after reply
+  pub counts : CountsOf reply r
+  pub reads-back : stateFrom b′ ≡ reply .state
 
 -- what two answers of a call whose state is bytes have in common, to the byte
 pub record SameCounts (b b′ after after′ : List ℕ) (r q : Counts) : Type 0 where
