@@ -17,9 +17,9 @@ use Rattle.calls.proofs.Parts.{each-call}
 use Rattle.state.specs.Bounds.{stateWidth}
 use Rattle.state.specs.Bytes.{bytesOf, stateFrom}
 use Rattle.state.specs.Changes.{freshState}
+use Rattle.state.proofs.Widths.{fresh-wide}
 use Rattle.converter.specs.Answered.{heldOf}
 use Rattle.converter.specs.Fed.{resultIn, BytesCall}
-use Rattle.converter.proofs.Widths.{fresh-wide}
 use Rattle.converter.proofs.Theorems.{bytes-fed-converted, bytes-fed-accepted, bytes-as-lent}
 use Rattle.capi.specs.Started.{StartedAs, too-short, fresh}
 use Rattle.capi.specs.Hosts.{RunCall, RunAsLent, HostAccepts, HostConverts}

@@ -13,13 +13,13 @@ use Rattle.runs.specs.Taken.{Passed}
 use Rattle.state.specs.Bounds.{stateWidth}
 use Rattle.state.specs.Bytes.{bytesOf, stateFrom}
 use Rattle.state.specs.declared.State.{State}
+use Rattle.state.proofs.Widths.{state-wide}
 use Rattle.converter.specs.declared.Reply.{Reply}
 use Rattle.converter.specs.declared.Counts.{Counts}
 use Rattle.converter.specs.Answered.{FitsSheet, heldOf, GivenBack, Ran, AnsweredAs, as-given as value-given, runs as value-runs}
 use Rattle.converter.specs.Bytes.{AsValue, SameCounts, BytesAnsweredAs, as-given, runs}
 use Rattle.converter.specs.Promises.{InTable, BytesNumbersInTable}
 use Rattle.converter.proofs.Entering.{state-in}
-use Rattle.converter.proofs.Widths.{state-wide}
 use Rattle.converter.proofs.Replies.{one-given, not-both, one-run-reply, written-first, given-number, ran-number, fits-here}
 
 same-counts : (r q : Counts) → r .number ≡ q .number → r .taken ≡ q .taken → r .written ≡ q .written → r .visits ≡ q .visits → r ≡ q

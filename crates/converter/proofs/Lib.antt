@@ -4,5 +4,4 @@ pub mod Theorems
 pub mod Told
 pub mod Going
 pub mod Entering
-pub mod Widths
 pub mod HandedBack

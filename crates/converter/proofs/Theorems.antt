@@ -28,12 +28,12 @@ use Rattle.state.specs.declared.State.{State}
 use Rattle.state.proofs.Meant.{meaning-fresh}
 use Rattle.state.proofs.Back.{state-back}
 use Rattle.state.proofs.Tidy.{fresh-sized}
+use Rattle.state.proofs.Widths.{fresh-wide}
 use Rattle.fit.proofs.Theorems.{fresh-fit}
 use Rattle.converter.specs.declared.Reply.{Reply}
 use Rattle.converter.specs.Answered.{FitsSheet, closingIn, heldOf, AnsweredAs, as-given, runs}
 use Rattle.converter.specs.Fed.{resultOf, resultIn, ValueCall, BytesCall, ValueAsLent, BytesAsLent}
 use Rattle.converter.specs.Promises.{CallAccepts, CallConverts, FedAccepts, FedConverts, BytesFedAccepts, BytesFedConverts, PartsAsOne, ClosedRepeats}
-use Rattle.converter.proofs.Widths.{fresh-wide}
 use Rattle.converter.proofs.BytesLaws.{bytes-state, bytes-first, as-value}
 use Rattle.converter.proofs.Replies.{some-inj, given-closed, is-call, handed-back-fit, written-first, visits-held}
 

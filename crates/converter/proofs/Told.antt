@@ -23,7 +23,8 @@ use Rattle.state.specs.Bytes.{byteAt, frameAt, stateFrom, SizedFrame, Sized}
 use Rattle.state.proofs.Gathered.{length-gathered}
 use Rattle.state.specs.declared.State.{State}
 use Rattle.fit.proofs.RunsFit.{fit-run}
-use Rattle.fit.proofs.Theorems.{all-read, frame-read, fresh-fit}
+use Rattle.state.proofs.Widths.{all-read, frame-read}
+use Rattle.fit.proofs.Theorems.{fresh-fit}
 use Rattle.converter.specs.declared.Reply.{Reply}
 use Rattle.converter.specs.Answered.{FitsSheet, heldOf, Ran, as-given, runs}
 use Rattle.converter.specs.Bytes.{as-given as bytes-given, runs as bytes-run}

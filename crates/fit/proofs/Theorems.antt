@@ -6,7 +6,7 @@ use mathlib.Core.Bool.{Bool}
 use mathlib.Core.List.{List, [], _∷_}
 use mathlib.Core.Logic.{inl}
 use mathlib.Core.Option.{Option, some}
-use Prim.Native.Nat.{ℕ, zero, suc, _+_, _≤_}
+use Prim.Native.Nat.{ℕ, _≤_}
 use native.Mathlib.Omega.{arith}
 use lib.Dec.{T}
 use lib.ListN.{length, take}
@@ -21,13 +21,13 @@ use Rattle.sheet.proofs.SheetLaws.{sheet-grammar}
 use Rattle.runs.specs.Lookup.{produces}
 use Rattle.runs.specs.Nodes.{openNodes}
 use Rattle.runs.proofs.Nodes.{open-few}
-use Rattle.runs.specs.Visits.{attributes}
 use Rattle.runs.specs.Machine.{most}
-use Rattle.state.specs.Bounds.{mostSets, setWidth, frameWidth, headWidth}
+use Rattle.state.specs.Bounds.{mostSets, frameWidth, headWidth}
 use Rattle.state.specs.Changes.{freshState}
 use Rattle.state.specs.Meaning.{All, none, more, Fits, Shaped}
-use Rattle.state.specs.Bytes.{gathered, byteAt, savedAt, frameAt, stateFrom, SizedSet, SizedFrame, Sized}
+use Rattle.state.specs.Bytes.{frameAt, stateFrom, SizedFrame, Sized}
 use Rattle.state.proofs.Gathered.{length-gathered}
+use Rattle.state.proofs.Widths.{all-read, frame-read}
 use Rattle.state.specs.declared.Frame.{Frame}
 use Rattle.state.specs.declared.State.{State}
 use Rattle.fit.specs.Fit.{childAt, SetFits, FrameFits, FramesFit, Fit}
@@ -43,20 +43,6 @@ one-fitting s w z a b h k = let g = grammar-is s w in one-telling (h .tells (g .
 -- it is the sheet's
 pub fits-sheet : {s : List ℕ} {a : Sheet} → IsSheet s a → (z : State) (r : Bool) → FitTold s z r → Tells (Fit (grammarOf (a .rules)) (a .start-nonterminal) z) r
 fits-sheet {s} {a} i z r h = subst (λ (n : ℕ). Tells (Fit (grammarOf (a .rules)) n z) r) (sym (i .start-is)) (h .tells (grammarOf (a .rules)) (sheet-grammar i))
-
--- what is read from bytes has the length of its type
-pub all-read : {X : Type 0} (P : X → Type 0) (f : ℕ → X) (w : ℕ) → ((at : ℕ) → P (f at)) → (at n : ℕ) → All P (gathered f w at n)
-unfolding gathered
-all-read P f w h at zero = none
-all-read P f w h at (suc n) = more (h at) (all-read P f w h (at + w) n)
-
-set-read : (b : List ℕ) (at : ℕ) → SizedSet (savedAt b at)
-unfolding savedAt
-set-read b at = record { values = length-gathered (byteAt b) 1 at attributes }
-
-pub frame-read : (b : List ℕ) (at : ℕ) → SizedFrame (frameAt b at)
-unfolding frameAt
-frame-read b at = record { saved = length-gathered (savedAt b) setWidth (at + 3) mostSets; sets = all-read SizedSet (savedAt b) setWidth (set-read b) (at + 3) mostSets }
 
 -- no state that fits has more in use than its arrays hold
 module _ (s : List ℕ) (g : List Production) (γ : GrammarIs s g) where

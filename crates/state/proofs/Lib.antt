@@ -5,3 +5,4 @@ pub mod Gathered
 pub mod Back
 pub mod Sizes
 pub mod Tidy
+pub mod Widths

@@ -1,24 +1,36 @@
--- How many bytes a state has that is read from any bytes, and the fresh state: as many as every state.
+-- What is read from bytes has the length of its type; and how many bytes a state has that is read from any bytes, and the fresh state: as many as every state.
 -- Assumes nothing.
 use mathlib.Core.Path.{_≡_, sym, ap, _∙_}
 use mathlib.Core.List.{List, [], _∷_, _++_}
-use Prim.Native.Nat.{ℕ, _*_}
+use Prim.Native.Nat.{ℕ, zero, suc, _+_, _*_}
 use native.Mathlib.Nat.{mul-suc}
 use native.Mathlib.Omega.{arith}
 use lib.ListN.{length, length-append}
 use Rattle.runs.specs.Visits.{attributes}
 use Rattle.runs.specs.Machine.{most}
 use Rattle.state.specs.declared.Frame.{Frame}
-use Rattle.state.specs.Bounds.{frameWidth, headWidth, stackWidth, stateWidth}
-use Rattle.state.specs.Bytes.{flag, numberBytes, joined, frameBytes, bytesOf, byteAt, bytesAt, gathered, frameAt, stateFrom, SizedFrame}
-use Rattle.state.specs.Changes.{freshState}
-use Rattle.state.specs.Meaning.{All, more}
 use Rattle.state.specs.declared.State.{State}
+use Rattle.state.specs.Bounds.{mostSets, setWidth, frameWidth, headWidth, stackWidth, stateWidth}
+use Rattle.state.specs.Bytes.{flag, numberBytes, joined, frameBytes, bytesOf, byteAt, bytesAt, gathered, savedAt, frameAt, stateFrom, SizedSet, SizedFrame}
+use Rattle.state.specs.Changes.{freshState}
+use Rattle.state.specs.Meaning.{All, none, more}
 use Rattle.state.proofs.Written.{number-wide}
 use Rattle.state.proofs.Gathered.{length-gathered}
 use Rattle.state.proofs.Back.{frame-back, state-back}
 use Rattle.state.proofs.Tidy.{fresh-sized}
-use Rattle.fit.proofs.Theorems.{all-read, frame-read}
+
+pub all-read : {X : Type 0} (P : X → Type 0) (f : ℕ → X) (w : ℕ) → ((at : ℕ) → P (f at)) → (at n : ℕ) → All P (gathered f w at n)
+unfolding gathered
+all-read P f w h at zero = none
+all-read P f w h at (suc n) = more (h at) (all-read P f w h (at + w) n)
+
+set-read : (b : List ℕ) (at : ℕ) → SizedSet (savedAt b at)
+unfolding savedAt
+set-read b at = record { values = length-gathered (byteAt b) 1 at attributes }
+
+pub frame-read : (b : List ℕ) (at : ℕ) → SizedFrame (frameAt b at)
+unfolding frameAt
+frame-read b at = record { saved = length-gathered (savedAt b) setWidth (at + 3) mostSets; sets = all-read SizedSet (savedAt b) setWidth (set-read b) (at + 3) mostSets }
 
 frames-wide : (l : List Frame) → All SizedFrame l → length (joined frameBytes l) ≡ frameWidth * length l
 unfolding joined
