@@ -25,7 +25,8 @@ use Rattle.runs.proofs.Spells.{token-refused}
 use Rattle.calls.specs.Names.{tokenOf}
 use Rattle.runs.specs.Visits.{mostVisits}
 use Rattle.calls.specs.Limits.{silent, outputOf, Taking, taken, refuses, no-room, limited, within, oneToken, Over, Full}
-use Rattle.calls.specs.Held.{Held, leavesOpen, closingOf, Closing}
+use Rattle.runs.specs.Closing.{Closing, closed-by-end, closed-by-refusal, closed-by-count}
+use Rattle.calls.specs.Held.{Held, leavesOpen, closingOf}
 use Rattle.calls.specs.Call.{Result, numberAt, stops, full, no-token, Runs, takes, halts, again, CalledBy, Called}
 use Rattle.calls.specs.Reached.{ReachedBy, StopsAt}
 use Rattle.calls.proofs.Frame.{state-behind, answer-behind, token-frame, countOf, token-number}
@@ -176,12 +177,12 @@ none-closes n e = let x : _≡_ {A = ℕ} 0 1 = cc in omega arith
 none-number : (more : Bool) (left : ℕ) (c : Control) (x : Rattle.tokens.specs.declared.Answer.Answer) (j : ℕ) → numberAt more left c x ≡ some j → (j ≡ 16) ⊎ Closing j
 none-number more left c (Rattle.tokens.specs.declared.Answer.the-variants.Token e next) j q = absurd (let y : _≡_ {A = ℕ} 0 1 = cc in omega arith)
 none-number true left c Begun j q = let h : 16 ≡ j = cc in inl (sym h)
-none-number false zero before Begun j q = let h : 27 ≡ j = cc in inr (inr (inl (omega arith, omega arith)))
-none-number false zero (inside o os) Begun j q = let h : 27 ≡ j = cc in inr (inr (inl (omega arith, omega arith)))
-none-number false zero after Begun j q = let h : 0 ≡ j = cc in inr (inl (sym h))
-none-number false (suc left) c Begun j q = let h : 27 ≡ j = cc in inr (inr (inl (omega arith, omega arith)))
-none-number more left c Bad j q = let h : 20 ≡ j = cc in inr (inr (inl (omega arith, omega arith)))
-none-number more left c Long j q = let h : 21 ≡ j = cc in inr (inr (inl (omega arith, omega arith)))
+none-number false zero before Begun j q = let h : 27 ≡ j = cc in inr (closed-by-refusal {n = j} (omega arith) (omega arith))
+none-number false zero (inside o os) Begun j q = let h : 27 ≡ j = cc in inr (closed-by-refusal {n = j} (omega arith) (omega arith))
+none-number false zero after Begun j q = let h : 0 ≡ j = cc in inr (subst Closing h closed-by-end)
+none-number false (suc left) c Begun j q = let h : 27 ≡ j = cc in inr (closed-by-refusal {n = j} (omega arith) (omega arith))
+none-number more left c Bad j q = let h : 20 ≡ j = cc in inr (closed-by-refusal {n = j} (omega arith) (omega arith))
+none-number more left c Long j q = let h : 21 ≡ j = cc in inr (closed-by-refusal {n = j} (omega arith) (omega arith))
 
 module _ {a : Sheet} {part : List ℕ} {more : Bool} where
   pub closing-fits : {at room : ℕ} {z : State} {r : Result} → Runs a part more at room z r → (n : ℕ) → r .held .closing ≡ some n → Closing n
@@ -190,8 +191,8 @@ module _ {a : Sheet} {part : List ℕ} {more : Bool} where
       subst Closing (closing-is (leavesOpen j) j n h) (by (refuses-iff a z room (tokenOf a part e) j .0 t))
     where
       by : (stepToken a z (tokenOf a part e) ≡ refused j) ⊎ Over a z (tokenOf a part e) j → Closing j
-      by (inl r) = let i = token-number a z (tokenOf a part e) j r in inr (inl (omega (arith, i .0), omega (arith, i .1)))
-      by (inr o) = inr (inr (o .0))
+      by (inl r) = let i = token-number a z (tokenOf a part e) j r in closed-by-refusal {n = j} (omega (arith, i .0)) (omega (arith, i .1))
+      by (inr o) = subst Closing (sym (o .0)) closed-by-count
   closing-fits (halts (full e next m t)) n h = absurd (let x : _≡_ {A = ℕ} 0 1 = cc in omega arith)
   closing-fits (halts {at} {room} {z} (no-token x j m q)) n h = by (none-number more (length (drop at part)) (z .control) x j q)
     where

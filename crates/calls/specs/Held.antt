@@ -1,10 +1,8 @@
 -- What is handed in and back between two calls, and which numbers close it.
 -- Assumes nothing.
-use mathlib.Core.Path.{_≡_}
-use mathlib.Core.Logic.{_⊎_}
 use mathlib.Core.Bool.{Bool, true, false, _||_}
 use mathlib.Core.Option.{Option, none, some}
-use Prim.Native.Nat.{ℕ, _≤_}
+use Prim.Native.Nat.{ℕ}
 use lib.Dec.{eqb}
 use Rattle.runs.specs.Machine.{State, fresh-state}
 
@@ -26,7 +24,3 @@ closingOf false n = some n
 
 abbrev pub handed : ℕ → State → Held
 handed n z = record { run = z; closing = closingOf (leavesOpen n) n }
-
--- the numbers that a state can be closed by
-abbrev pub Closing : ℕ → Type 0
-Closing n = (n ≡ 0) ⊎ (((20 ≤ n) × (n ≤ 27)) ⊎ (n ≡ 30))

@@ -28,7 +28,8 @@ use Rattle.runs.specs.Machine.{Control, most, State as Standing, answered, run}
 use Rattle.runs.proofs.SheetFits.{sheet-fits}
 use Rattle.calls.specs.Names.{tokenOf}
 use Rattle.calls.specs.Limits.{Taking, taken, refuses, no-room, oneToken}
-use Rattle.calls.specs.Held.{Held, leavesOpen, closingOf, handed, Closing}
+use Rattle.runs.specs.Closing.{Closing, closed-by-end, closed-by-refusal, closed-by-count}
+use Rattle.calls.specs.Held.{Held, leavesOpen, closingOf, handed}
 use Rattle.calls.specs.Call.{Result, roomLeft, stopped, after-writing, numberAt, stops, full as no-space, no-token, Runs, takes, halts as run-halts, CalledBy, Called}
 use Rattle.calls.proofs.Steps.{takes-one, refuses-over}
 use Rattle.calls.proofs.Exactly.{closing-fits}
@@ -38,7 +39,7 @@ use Rattle.state.specs.Meaning.{meaningOf, Shaped}
 use Rattle.state.specs.declared.State.{State}
 use Rattle.state.proofs.Meant.{meaning-closed, shaped-closed, shaped-env}
 use Rattle.state.proofs.Tidy.{meaning-tidied, shaped-tidied, tidied-for}
-use Rattle.fit.specs.Fit.{ended, refused as closed-by-refusal, counted, ClosingFits}
+use Rattle.fit.specs.Fit.{ClosingFits}
 use Rattle.fit.specs.RunFits.{RunFits}
 use Rattle.fit.proofs.RunsFit.{run-fit}
 use Rattle.steps.proofs.Onward.{event-fits, taken-fits}
@@ -221,9 +222,9 @@ at-state {s} {z₀} {part} {more} {lent} {d} {at} {put} e g = subst (Going s z�
 
 -- what is handed back with a number
 closing-is : {n : ℕ} → Closing n → ClosingFits n × (n ≤ 30)
-closing-is (inl e) = (subst ClosingFits (sym e) (inr ended), omega arith)
-closing-is (inr (inl (h, k))) = (inr (closed-by-refusal h k), omega arith)
-closing-is (inr (inr e)) = (subst ClosingFits (sym e) (inr counted), omega arith)
+closing-is closed-by-end = (inr closed-by-end, omega arith)
+closing-is (closed-by-refusal h k) = (inr (closed-by-refusal h k), omega arith)
+closing-is closed-by-count = (inr closed-by-count, omega arith)
 
 module _ {s : List ℕ} {z₀ : State} {part : List ℕ} (ended-now : Bool) {lent d : List ℕ} {at put : ℕ} {z : State}
     (g : Going s z₀ part (not ended-now) lent d at put z) (n : ℕ)

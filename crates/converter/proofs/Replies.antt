@@ -20,14 +20,14 @@ use Rattle.faults.specs.Verdict.{VerdictIs, of-sheet}
 use Rattle.faults.proofs.Theorems.{one-verdict, verdict-most}
 use Rattle.runs.specs.Taken.{Passed}
 use Rattle.runs.specs.Machine.{State as Run}
-use Rattle.calls.specs.Held.{Held, leavesOpen, closingOf, Closing}
+use Rattle.runs.specs.Closing.{Closing, closed-by-end, closed-by-refusal, closed-by-count}
+use Rattle.calls.specs.Held.{Held, leavesOpen, closingOf}
 use Rattle.calls.specs.Call.{Result, Runs, takes, halts, again, CalledBy, Called}
 use Rattle.calls.proofs.Answers.{call-one}
 use Rattle.calls.proofs.Exactly.{closing-fits}
 use Rattle.state.specs.Meaning.{meaningOf}
 use Rattle.state.specs.Changes.{notClosed}
 use Rattle.state.specs.declared.State.{State}
-use Rattle.fit.specs.Fit.{ClosingNumber, ended, refused, counted}
 use Rattle.converter.specs.declared.Reply.{Reply}
 use Rattle.converter.specs.Answered.{FitsSheet, heldOf, stateOf, GivenBack, sheet-fails, unfit, closed, Ran, AnsweredAs, as-given, runs}
 use Rattle.converter.specs.Fed.{resultOf}
@@ -151,9 +151,9 @@ same-held {s} {a} i ok {z} {y} f g e {part} {ended} {lent} {after} {after′} {r
     by o (runs w v) (as-given k x v′) = absurd (let (m, c, n) = given-closed i ok g k in none-some m (sym o ∙ ap (λ (h : Held). h .closing) e ∙ c))
 
 closing-in : {n : ℕ} → Closing n → InTable n
-closing-in (inl e) = inl (omega arith)
-closing-in (inr (inl (h, k))) = inr (inr (inr (h, omega arith)))
-closing-in (inr (inr e)) = inr (inr (inr (omega arith, omega arith)))
+closing-in closed-by-end = inl (omega arith)
+closing-in (closed-by-refusal h k) = inr (inr (inr (h, omega arith)))
+closing-in closed-by-count = inr (inr (inr (omega arith, omega arith)))
 
 -- what a run hands back is closed or not by its number
 handed-by : {a : Sheet} {part : List ℕ} {more : Bool} {at room : ℕ} {z : Run} {r : Result} → Runs a part more at room z r →
@@ -169,18 +169,18 @@ run-number {r = r} d = by (eqb (r .number) 16) (eqb (r .number) 17) refl refl (h
     by false true e h k = inr (inr (inl (eqb-true (r .number) 17 h)))
     by false false e h k = closing-in (closing-fits d (r .number) k)
 
-again-in : {c n : ℕ} → ClosingNumber c → c ≡ n → InTable (again n)
+again-in : {c n : ℕ} → Closing c → c ≡ n → InTable (again n)
 again-in {n = zero} k e = inr (inr (inr (omega arith, omega arith)))
-again-in {n = suc n} ended e = absurd (omega arith)
-again-in {n = suc n} (refused h k) e = inr (inr (inr (omega arith, omega arith)))
-again-in {n = suc n} counted e = inr (inr (inr (omega arith, omega arith)))
+again-in {n = suc n} closed-by-end e = absurd (omega arith)
+again-in {n = suc n} (closed-by-refusal h k) e = inr (inr (inr (omega arith, omega arith)))
+again-in {n = suc n} closed-by-count e = inr (inr (inr (omega arith, omega arith)))
 
 pub given-number : {s : List ℕ} {o : Option State} {n : ℕ} → GivenBack s o n → InTable n
 given-number (sheet-fails h v) = inl (verdict-most v)
 given-number (unfit a i k w) = inr (inr (inr (omega arith, omega arith)))
 given-number (closed a i k z e f m c) = by (f .closing) (eqb (z .closed) notClosed) refl c
   where
-    by : (z .closed ≡ notClosed) ⊎ ClosingNumber (z .closed) → (b : Bool) → eqb (z .closed) notClosed ≡ b → cond b none (some (z .closed)) ≡ some m → InTable (again m)
+    by : (z .closed ≡ notClosed) ⊎ Closing (z .closed) → (b : Bool) → eqb (z .closed) notClosed ≡ b → cond b none (some (z .closed)) ≡ some m → InTable (again m)
     by q true e c = absurd (none-some m c)
     by (inl q) false e c = absurd (true≢false (sym (eq-eqb (z .closed) notClosed q) ∙ e))
     by (inr q) false e c = again-in q (some-inj c)
@@ -192,8 +192,8 @@ ran-number {z = z} {part} {ended} {lent} w =
 
 -- every number that a call answers
 pub numbers : NumbersInTable
-numbers s z part e lent after r (as-given g k v) = given-number g
-numbers s z part e lent after r (runs w v) = ran-number w
+numbers s z part ended lent after r (as-given g k v) = given-number g
+numbers s z part ended lent after r (runs w v) = ran-number w
 
 -- the output stands first in the lent memory, and all past it is as lent
 pub written-first : {s : List ℕ} {z : State} {part : List ℕ} {ended : Bool} {lent after : List ℕ} {r : Reply} → AnsweredAs s z part ended lent after r →

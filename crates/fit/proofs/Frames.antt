@@ -23,6 +23,7 @@ use Rattle.trees.specs.Trees.{TreeAt, ContentAt, Trees}
 use Rattle.trees.specs.GrammarAt.{GrammarFrom, GrammarIs}
 use Rattle.trees.proofs.Grammars.{length-grammar, content-at}
 use Rattle.trees.proofs.Unique.{nodes-pos}
+use Rattle.runs.specs.Closing.{Closing, closed-by-end, closed-by-refusal, closed-by-count}
 use Rattle.runs.specs.Lookup.{produces}
 use Rattle.runs.specs.Nodes.{openNodes, deepest}
 use Rattle.runs.proofs.Nodes.{open-few}
@@ -32,7 +33,7 @@ use Rattle.fit.proofs.Lists.{drop-past, length-first}
 use Rattle.fit.specs.declared.Spot.{Spot}
 use Rattle.fit.specs.declared.Walked.{Walked}
 use Rattle.fit.specs.declared.Fitted.{Fitted}
-use Rattle.fit.specs.Fit.{childAt, SetFits, FrameFits, FramesFit, ClosingNumber, ended, refused, counted, ClosingFits}
+use Rattle.fit.specs.Fit.{childAt, SetFits, FrameFits, FramesFit, ClosingFits}
 use Rattle.fit.specs.Tests.{numberOf, SpotOf, here, nowhere, WalkedAs, SpotIs, FrameTold, FramesTold}
 
 -- where a production is of a nonterminal, it is there
@@ -102,23 +103,23 @@ module _ (s : List ℕ) where
         by (suc p) k a (tree c) h = a .finds c (subst (λ (z : ℕ). TreeAt s z c) (sym first) (h .0)) 1
 
 -- closing numbers
-pub a-closing : {n m : ℕ} → ClosingNumber m → n ≡ m → ClosingNumber n
-a-closing c e = subst ClosingNumber (sym e) c
+pub a-closing : {n m : ℕ} → Closing m → n ≡ m → Closing n
+a-closing c e = subst Closing (sym e) c
 
 module _ (n : ℕ) (not-open : n ≡ 255 → ⊥) (not-0 : n ≡ 0 → ⊥) (not-30 : n ≡ 30 → ⊥) where
   between : ClosingFits n → (20 ≤ n) × (n ≤ 27)
   between c = ⊎-elim (λ e. absurd (not-open e)) (λ k. by k refl) c
     where
-      by : {m : ℕ} → ClosingNumber m → n ≡ m → (20 ≤ n) × (n ≤ 27)
-      by ended e = absurd (not-0 e)
-      by (refused a b) e = (omega arith, omega arith)
-      by counted e = absurd (not-30 e)
+      by : {m : ℕ} → Closing m → n ≡ m → (20 ≤ n) × (n ≤ 27)
+      by closed-by-end e = absurd (not-0 e)
+      by (closed-by-refusal a b) e = (omega arith, omega arith)
+      by closed-by-count e = absurd (not-30 e)
 
   pub not-closing : n < 20 → ClosingFits n → ⊥
   not-closing h c = omega (arith, between c)
 
   pub closing-between : 20 ≤ n → Tells (ClosingFits n) (leb n 27)
-  closing-between h = as-told (λ k. inr (refused h k)) (λ c. between c .1) (leb-tells n 27)
+  closing-between h = as-told (λ k. inr (closed-by-refusal h k)) (λ c. between c .1) (leb-tells n 27)
 
 -- what was found at a place that is there
 spot-inv : {r : Spot} {o : Option (List ℕ)} {child : Option ℕ} → SpotOf r o child → r .there ≡ true →

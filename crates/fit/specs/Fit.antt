@@ -11,6 +11,7 @@ use lib.ListN.{length, take}
 use Rattle.expressions.specs.Expr.{Atom, nonterminal, anychar, Exp, atom, cat, alt, star, empty, atoms, Content, nothing, tree}
 use Rattle.expressions.specs.Grammar.{Production, contentOf}
 use Rattle.programs.specs.Limits.{Value}
+use Rattle.runs.specs.Closing.{Closing}
 use Rattle.runs.specs.Visits.{mostVisits}
 use Rattle.runs.specs.Options.{whenTrue}
 use Rattle.runs.specs.Lookup.{produces}
@@ -65,14 +66,9 @@ abbrev pub FramesFit : List Production → Option ℕ → List Frame → Type 0
 FramesFit g may [] = Unit {0}
 FramesFit g may (f ∷ fs) = FrameFits g may f × FramesFit g (childAt (contentOf g (f .production)) (f .place)) fs
 
--- the numbers that close a state: 0, 20 to 27, 30
-pub data ClosingNumber : ℕ → Type 0 where
-  ended : ClosingNumber 0
-  refused : {n : ℕ} → 20 ≤ n → n ≤ 27 → ClosingNumber n
-  counted : ClosingNumber 30
-
+-- open, or closed by one of the numbers that close
 abbrev pub ClosingFits : ℕ → Type 0
-ClosingFits c = (c ≡ notClosed) ⊎ ClosingNumber c
+ClosingFits c = (c ≡ notClosed) ⊎ Closing c
 
 -- the state z fits the grammar g with the start n
 pub record Fit (g : List Production) (n : ℕ) (z : State) : Type 0 where

@@ -8,6 +8,7 @@ pub mod Parse
 pub mod Acts
 pub mod Way
 pub mod Machine
+pub mod Closing
 pub mod Line
 pub mod Taken
 pub mod Nodes
