@@ -3,3 +3,4 @@ pub mod Reading
 pub mod Forms
 pub mod Characters
 pub mod Sections
+pub mod Numbers

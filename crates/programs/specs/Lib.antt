@@ -3,3 +3,4 @@ pub mod Bounds
 pub mod Limits
 pub mod Section
 pub mod Parsed
+pub mod Numbers
