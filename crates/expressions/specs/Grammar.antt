@@ -30,8 +30,11 @@ contentOf (d ∷ ds) zero = d .content
 contentOf (d ∷ ds) (suc q) = contentOf ds q
 
 -- the limits that a sheet of n tags sets: tags 0 to n - 1, 64 at most, and nonterminals 0 to 63
+abbrev pub lastNonterminal : ℕ
+lastNonterminal = 63
+
 abbrev pub nonterminals : ℕ
-nonterminals = 64
+nonterminals = suc lastNonterminal
 
 abbrev pub Numbered : ℕ → List Production → Type 0
 Numbered n [] = Unit {0}

@@ -2,11 +2,12 @@
 use mathlib.Core.Path.{_≡_}
 use mathlib.Core.List.{List}
 use Prim.Native.Nat.{ℕ, _+_, _≤_, _<_}
+use Rattle.expressions.specs.Grammar.{lastNonterminal}
 use Rattle.layout.specs.Layout.{byteAt, tagCount, productionCount, nodeCount, start}
 use Rattle.layout.specs.Records.{productionAt, nonterminalOf, tagNumberOf, firstNodeOf, nodeCountOf, nodesBefore}
 
 pub record ProductionFits (s : List ℕ) (q : ℕ) : Type 0 where
-  pub nonterminal : nonterminalOf s q ≤ 63
+  pub nonterminal : nonterminalOf s q ≤ lastNonterminal
   pub tag : tagNumberOf s q < tagCount s
   pub follows : firstNodeOf s q ≡ nodesBefore s q
   pub few-nodes : nodeCountOf s q ≤ 32
@@ -18,4 +19,4 @@ pub record ProductionFits (s : List ℕ) (q : ℕ) : Type 0 where
 pub record Productions (s : List ℕ) : Type 0 where
   pub each : (q : ℕ) → q < productionCount s → ProductionFits s q
   pub every-node : nodesBefore s (productionCount s) ≡ nodeCount s
-  pub start-fits : start s ≤ 63
+  pub start-fits : start s ≤ lastNonterminal

@@ -4,6 +4,7 @@ use mathlib.Core.Logic.{_⊎_}
 use mathlib.Core.List.{List}
 use Prim.Native.Nat.{ℕ, _+_, _≤_, _<_}
 use Rattle.expressions.specs.Expr.{Exp, nodes, depth, Content}
+use Rattle.expressions.specs.Grammar.{lastNonterminal}
 use Rattle.layout.specs.Layout.{productionCount, nodeCount}
 use Rattle.layout.specs.Records.{firstNodeOf, nodeCountOf}
 use Rattle.trees.specs.declared.Parsed.{Parsed}
@@ -16,7 +17,7 @@ pub record RunsInside (s : List ℕ) : Type 0 where
 
 -- a kind and the argument that it asks for: a nonterminal's number with kind 1, 0 with 2 to 5
 abbrev pub NodeFits : ℕ → ℕ → Type 0
-NodeFits kind argument = ((kind ≡ 1) × (argument ≤ 63)) ⊎ ((2 ≤ kind) × (kind ≤ 5) × (argument ≡ 0))
+NodeFits kind argument = ((kind ≡ 1) × (argument ≤ lastNonterminal)) ⊎ ((2 ≤ kind) × (kind ≤ 5) × (argument ≡ 0))
 
 -- the node past the tree at i, of at most `left` nodes and at most `deep` deep; or that there is no such tree
 pub data ParsedAt (s : List ℕ) (i left deep : ℕ) : Parsed → Type 0 where

@@ -3,12 +3,13 @@ use mathlib.Core.Path.{_≡_}
 use mathlib.Core.List.{List}
 use Prim.Native.Nat.{ℕ, suc, _+_, _≤_, _<_}
 use Rattle.expressions.specs.Expr.{nonterminal, anychar, Exp, atom, cat, alt, star, empty, nodes, depth, Content, nothing, tree}
+use Rattle.expressions.specs.Grammar.{lastNonterminal}
 use Rattle.layout.specs.Layout.{productionCount}
 use Rattle.layout.specs.Records.{kindOf, argumentOf, firstNodeOf, nodeCountOf}
 
 -- the nodes from i on are the tree e, in preorder. Kinds are 1 to 5: no node is the empty word
 abbrev pub TreeAt : List ℕ → ℕ → Exp → Type 0
-TreeAt s i (atom (nonterminal n)) = (kindOf s i ≡ 1) × (argumentOf s i ≡ n) × (n ≤ 63)
+TreeAt s i (atom (nonterminal n)) = (kindOf s i ≡ 1) × (argumentOf s i ≡ n) × (n ≤ lastNonterminal)
 TreeAt s i (atom anychar) = (kindOf s i ≡ 2) × (argumentOf s i ≡ 0)
 TreeAt s i (cat l r) = (kindOf s i ≡ 3) × (argumentOf s i ≡ 0) × TreeAt s (suc i) l × TreeAt s (suc i + nodes l) r
 TreeAt s i (alt l r) = (kindOf s i ≡ 4) × (argumentOf s i ≡ 0) × TreeAt s (suc i) l × TreeAt s (suc i + nodes l) r
