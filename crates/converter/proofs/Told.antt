@@ -19,7 +19,8 @@ use Rattle.calls.proofs.Explained.{explained-exactly}
 use Rattle.calls.proofs.Parts.{feeds-as-one}
 use Rattle.state.specs.Changes.{freshState}
 use Rattle.state.specs.Bounds.{frameWidth, headWidth}
-use Rattle.state.specs.Bytes.{byteAt, frameAt, stateFrom, SizedFrame, Sized}
+use Rattle.layout.specs.Layout.{byteAt}
+use Rattle.state.specs.Bytes.{frameAt, stateFrom, SizedFrame, Sized}
 use Rattle.state.proofs.Gathered.{length-gathered}
 use Rattle.state.specs.declared.State.{State}
 use Rattle.fit.proofs.RunsFit.{fit-run}

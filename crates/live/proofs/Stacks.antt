@@ -19,7 +19,8 @@ use Rattle.state.specs.declared.State.{State}
 use Rattle.runs.specs.Visits.{attributes}
 use Rattle.runs.specs.Machine.{most}
 use Rattle.state.specs.Bounds.{mostSets, setWidth, frameWidth, stackWidth}
-use Rattle.state.specs.Bytes.{byteAt, bytesAt, onAt, gathered, savedAt, frameAt, frameBytes, SizedFrame, Wrote}
+use Rattle.layout.specs.Layout.{byteAt}
+use Rattle.state.specs.Bytes.{bytesAt, onAt, gathered, savedAt, frameAt, frameBytes, SizedFrame, Wrote}
 use Rattle.state.specs.Changes.{bareSaved, bareFrame, lastOf, putLast, keeping, lastSet, withoutLast, atPlace, pushed, popped, topOf, withTop, saving, restored, placed}
 use Rattle.state.specs.Meaning.{All, Fits, elements, meaningOf, Shaped}
 use Rattle.state.proofs.Gathered.{length-gathered}

@@ -11,7 +11,8 @@ use Rattle.state.specs.declared.Saved.{Saved}
 use Rattle.state.specs.declared.Frame.{Frame}
 use Rattle.state.specs.declared.State.{State}
 use Rattle.state.specs.Bounds.{frameWidth}
-use Rattle.state.specs.Bytes.{byteAt, gathered, frameAt}
+use Rattle.layout.specs.Layout.{byteAt}
+use Rattle.state.specs.Bytes.{gathered, frameAt}
 use Rattle.state.specs.Changes.{bareSaved, bareFrame, keeping, lastSet, withoutLast, atPlace, pushed, popped}
 use Rattle.state.specs.Meaning.{meaningOf, Shaped}
 use Rattle.live.specs.declared.Live.{Live}

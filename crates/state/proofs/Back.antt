@@ -18,7 +18,8 @@ use Rattle.state.specs.declared.State.{State}
 use Rattle.state.specs.Meaning.{All, none, more}
 use Rattle.state.specs.Bytes.{flag, numberBytes, number, joined, savedBytes, frameBytes, bytesOf}
 use Rattle.state.proofs.Written.{number-wide}
-use Rattle.state.specs.Bytes.{byteAt, onAt, gathered, bytesAt, savedAt, frameAt, stateFrom, SizedSet, SizedFrame, Sized}
+use Rattle.layout.specs.Layout.{byteAt}
+use Rattle.state.specs.Bytes.{onAt, gathered, bytesAt, savedAt, frameAt, stateFrom, SizedSet, SizedFrame, Sized}
 
 -- the bytes f x, w of them, read by g as x wherever they stand
 pub record Back {X : Type 0} (f : X → List ℕ) (g : List ℕ → ℕ → X) (w : ℕ) (x : X) : Type 0 where

@@ -8,7 +8,8 @@ use native.Mathlib.Omega.{arith}
 use native.Mathlib.Numerals.{add-one}
 use lib.ListN.{length, set, drop-of-length-le}
 use lib.Seq.{sets, sets-eq}
-use Rattle.state.specs.Bytes.{number, gathered, byteAt, bytesAt}
+use Rattle.layout.specs.Layout.{byteAt}
+use Rattle.state.specs.Bytes.{number, gathered, bytesAt}
 
 pub length-gathered : {X : Type 0} (f : ℕ → X) (w at n : ℕ) → length (gathered f w at n) ≡ n
 unfolding gathered

@@ -11,7 +11,8 @@ use Rattle.runs.specs.Machine.{most}
 use Rattle.state.specs.declared.Frame.{Frame}
 use Rattle.state.specs.declared.State.{State}
 use Rattle.state.specs.Bounds.{mostSets, setWidth, frameWidth, headWidth, stackWidth, stateWidth}
-use Rattle.state.specs.Bytes.{flag, numberBytes, joined, frameBytes, bytesOf, byteAt, bytesAt, gathered, savedAt, frameAt, stateFrom, SizedSet, SizedFrame}
+use Rattle.layout.specs.Layout.{byteAt}
+use Rattle.state.specs.Bytes.{flag, numberBytes, joined, frameBytes, bytesOf, bytesAt, gathered, savedAt, frameAt, stateFrom, SizedSet, SizedFrame}
 use Rattle.state.specs.Changes.{freshState}
 use Rattle.state.specs.Meaning.{All, none, more}
 use Rattle.state.proofs.Written.{number-wide}

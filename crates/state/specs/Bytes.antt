@@ -18,9 +18,10 @@ use mathlib.Core.Path.{_≡_}
 use mathlib.Core.List.{List, [], _∷_, _++_}
 use Prim.Native.Nat.{ℕ, zero, suc, _+_, _*_, _/_, _%_, _^_, _<_}
 use lib.Dec.{eqb}
-use lib.ListN.{length, getD}
+use lib.ListN.{length}
 use Rattle.state.specs.Meaning.{All}
 use Rattle.lent.specs.Put.{put}
+use Rattle.layout.specs.Layout.{byteAt}
 use Rattle.runs.specs.Visits.{attributes}
 use Rattle.runs.specs.Machine.{most}
 use Rattle.state.specs.Bounds.{mostSets, setWidth, frameWidth, countAt, rootedAt, closedAt, depthAt, headWidth}
@@ -63,10 +64,6 @@ pub record Wrote (width : ℕ) (memory : List ℕ) (at : ℕ) (new after : List 
   pub next : r ≡ at + width
   pub wide : length new ≡ width
   pub left : after ≡ put true memory at new
-
--- what stands at a byte, 0 past the end
-abbrev pub byteAt : List ℕ → ℕ → ℕ
-byteAt b at = getD b at 0
 
 abbrev pub onAt : List ℕ → ℕ → Bool
 onAt b at = not (eqb (byteAt b at) 0)

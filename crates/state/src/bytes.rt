@@ -9,7 +9,8 @@ ghost use Rattle.runs.specs.Visits.{attributes};
 ghost use Rattle.runs.specs.Machine.{most};
 ghost use Rattle.state.specs.Bounds.{mostSets, setWidth, frameWidth, stackWidth, stateWidth};
 ghost use Rattle.state.specs.Bytes.{flag, numberBytes, savedBytes, joined, frameBytes, bytesOf, Wrote};
-ghost use Rattle.state.specs.Bytes.{byteAt, onAt, bytesAt, numberAt, savedAt, frameAt, gathered, stateFrom};
+ghost use Rattle.layout.specs.Layout.{byteAt};
+ghost use Rattle.state.specs.Bytes.{onAt, bytesAt, numberAt, savedAt, frameAt, gathered, stateFrom};
 
 // Where the parts of a state's head stand: echo follows the attributes.
 const COUNT: usize = State::ATTRIBUTES + 1;

@@ -4,7 +4,8 @@ use Prim.Native.Nat.{_+_, _-_, _≤_}
 use native.Mathlib.Omega.{arith}
 use lib.Seq.{sets as stored}
 use Rattle.runs.specs.Visits.{attributes}
-use Rattle.state.specs.Bytes.{byteAt, gathered}
+use Rattle.layout.specs.Layout.{byteAt}
+use Rattle.state.specs.Bytes.{gathered}
 use Rattle.state.proofs.Gathered.{fill-all, fill-more, fill-none}
 use borrow.Author.Needs.{needs}
 use Rattle.state.proofs.bytes.values_at.Statement.{statement}
