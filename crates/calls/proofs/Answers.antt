@@ -18,19 +18,19 @@ use Rattle.runs.specs.Machine.{Control, State}
 use Rattle.calls.specs.Names.{tokenOf}
 use Rattle.calls.specs.Limits.{Taking, taken, refuses, no-room, oneToken}
 use Rattle.calls.specs.Held.{Held}
-use Rattle.calls.specs.Call.{Result, roomLeft, stopped, after-writing, numberAt, stops, full, no-token, Runs, takes, halts, again, CalledBy, Called}
+use Rattle.calls.specs.Call.{Result, roomLeft, stopped-at, after-writing, numberAt, stops, full, no-token, Runs, takes, halts, again, CalledBy, Called}
 use Rattle.calls.proofs.Readable.{some-answer}
 
 module _ (a : Sheet) (part : List ℕ) (more : Bool) where
   -- how a run goes on from the token that stands at `at`, by what that comes to
   abbrev pub AfterToken : ℕ → ℕ → State → ℕ → Result → Taking → Type 0
   AfterToken at room z next r (taken z′ w) = (r′ : Result) × Runs a part more next (roomLeft room w) z′ r′ × (r ≡ after-writing w r′)
-  AfterToken at room z next r (refuses n) = r ≡ stopped n at z
-  AfterToken at room z next r no-room = r ≡ stopped 17 at z
+  AfterToken at room z next r (refuses n) = r ≡ stopped-at n at z
+  AfterToken at room z next r no-room = r ≡ stopped-at 17 at z
 
   abbrev pub AfterNone : ℕ → State → Result → Option ℕ → Type 0
   AfterNone at z r none = ⊥
-  AfterNone at z r (some n) = r ≡ stopped n at z
+  AfterNone at z r (some n) = r ≡ stopped-at n at z
 
   -- and by what the reader answers there
   abbrev pub GoesOn : ℕ → ℕ → State → Result → Answer → Type 0
@@ -43,14 +43,14 @@ module _ (a : Sheet) (part : List ℕ) (more : Bool) where
   none≢some n e = let y : _≡_ {A = ℕ} 0 1 = cc in omega arith
 
   by-number : (at room : ℕ) (z : State) (r : Result) (x : Answer) (n : ℕ) → numberAt more (length (drop at part)) (z .control) x ≡ some n →
-      r ≡ stopped n at z → GoesOn at room z r x
+      r ≡ stopped-at n at z → GoesOn at room z r x
   by-number at room z r (Token e next) n q p = absurd (none≢some n q)
   by-number at room z r Begun n q p = subst (AfterNone at z r) (sym q) p
   by-number at room z r Bad n q p = subst (AfterNone at z r) (sym q) p
   by-number at room z r Long n q p = subst (AfterNone at z r) (sym q) p
 
   pub to-number : (at room : ℕ) (z : State) (r : Result) (x : Answer) (n : ℕ) → numberAt more (length (drop at part)) (z .control) x ≡ some n →
-      GoesOn at room z r x → r ≡ stopped n at z
+      GoesOn at room z r x → r ≡ stopped-at n at z
   to-number at room z r (Token e next) n q p = absurd (none≢some n q)
   to-number at room z r Begun n q p = subst (AfterNone at z r) q p
   to-number at room z r Bad n q p = subst (AfterNone at z r) q p
@@ -59,9 +59,9 @@ module _ (a : Sheet) (part : List ℕ) (more : Bool) where
   own : {at room : ℕ} {z : State} {r : Result} → Runs a part more at room z r → (x : Answer) × Means (front part at) at x × GoesOn at room z r x
   own (takes {at} {room} {z} {r} e next z′ w m t d) =
       (Token e (record { at = next }), m, subst (AfterToken at room z next (after-writing w r)) (sym t) (r, d, refl))
-  own (halts {at} {room} {z} (stops e next n m t)) = (Token e (record { at = next }), m, subst (AfterToken at room z next (stopped n at z)) (sym t) refl)
-  own (halts {at} {room} {z} (full e next m t)) = (Token e (record { at = next }), m, subst (AfterToken at room z next (stopped 17 at z)) (sym t) refl)
-  own (halts {at} {room} {z} (no-token x n m q)) = (x, m, by-number at room z (stopped n at z) x n q refl)
+  own (halts {at} {room} {z} (stops e next n m t)) = (Token e (record { at = next }), m, subst (AfterToken at room z next (stopped-at n at z)) (sym t) refl)
+  own (halts {at} {room} {z} (full e next m t)) = (Token e (record { at = next }), m, subst (AfterToken at room z next (stopped-at 17 at z)) (sym t) refl)
+  own (halts {at} {room} {z} (no-token x n m q)) = (x, m, by-number at room z (stopped-at n at z) x n q refl)
 
   -- a run goes on as the reader's answer says
   pub split : {at room : ℕ} {z : State} {r : Result} → Runs a part more at room z r → (x : Answer) → Means (front part at) at x → GoesOn at room z r x
@@ -91,16 +91,16 @@ module _ (a : Sheet) (part : List ℕ) (more : Bool) where
         let k = token-moves part at e (record { at = next }) h m in
         let i = rest next (k .0) (k .1) (roomLeft room w) z′ in
         (after-writing w (i .0), takes e next z′ w m t (i .1))
-    from-token room z e next m h (refuses n) t = (stopped n at z, halts (stops e next n m t))
-    from-token room z e next m h no-room t = (stopped 17 at z, halts (full e next m t))
+    from-token room z e next m h (refuses n) t = (stopped-at n at z, halts (stops e next n m t))
+    from-token room z e next m h no-room t = (stopped-at 17 at z, halts (full e next m t))
 
     from-answer : (room : ℕ) (z : State) → at ≤ length part → (x : Answer) → Means (front part at) at x → (r : Result) × Runs a part more at room z r
     from-answer room z h (Token e next) m = from-token room z e (next .at) m h (oneToken a z room (tokenOf a part e)) refl
     from-answer room z h Begun m =
         let b = begun-number (length (drop at part)) (z .control) in
-        (stopped (b .0) at z, halts (no-token Begun (b .0) m (b .1)))
-    from-answer room z h Bad m = (stopped 20 at z, halts (no-token Bad 20 m refl))
-    from-answer room z h Long m = (stopped 21 at z, halts (no-token Long 21 m refl))
+        (stopped-at (b .0) at z, halts (no-token Begun (b .0) m (b .1)))
+    from-answer room z h Bad m = (stopped-at 20 at z, halts (no-token Bad 20 m refl))
+    from-answer room z h Long m = (stopped-at 21 at z, halts (no-token Long 21 m refl))
 
   runs-on : (left at : ℕ) → at ≤ length part → length part ≤ at + left → (room : ℕ) (z : State) → (r : Result) × Runs a part more at room z r
   runs-on zero at h l room z = let x = some-answer part at in from-answer at (λ next i j room′ z′. absurd (omega arith)) room z h (x .0) (x .1)

@@ -29,8 +29,8 @@ use Rattle.calls.specs.Names.{tagNamed, tokenOf}
 use Rattle.runs.specs.Visits.{mostVisits}
 use Rattle.calls.specs.Limits.{silent, outputOf, Taking, taken, refuses, no-room, limited, within, oneToken}
 use Rattle.calls.specs.Held.{Held, leavesOpen, closingOf, handed}
-use Rattle.calls.specs.Call.{Result, stopped, after-writing, numberAt, stops, full, no-token, Runs, takes, halts, CalledBy, Called}
-use Rattle.calls.specs.Parts.{joined, Told, Continued, Feeds, at-once, closes, goes-on, Each, CallOf}
+use Rattle.calls.specs.Call.{Result, stopped-at, after-writing, numberAt, stops, full, no-token, Runs, takes, halts, CalledBy, Called}
+use Rattle.calls.specs.Parts.{answers-together, Told, Continued, Feeds, at-once, closes, goes-on, Each, CallOf}
 use Rattle.calls.proofs.Answers.{AfterToken, split, to-number, call-one, call-some}
 use Rattle.calls.proofs.Frame.{countOf}
 use Rattle.calls.proofs.Steps.{RunToken, RunAnswer, takes-one, one-takes, refuses-over}
@@ -100,7 +100,7 @@ module _ (a : Sheet) (s r : List ℕ) (b more : Bool) (told : Told b r more) (ex
   Onward room r₁ R (some n) = R ≡ r₁
 
   -- where the part's call stops open, the whole's goes on from there
-  from-here : (at room : ℕ) (z : State) (R : Result) (n : ℕ) → Runs a (s ++ r) more at (room + extra) z R → Onward room (stopped n at z) R none
+  from-here : (at room : ℕ) (z : State) (R : Result) (n : ℕ) → Runs a (s ++ r) more at (room + extra) z R → Onward room (stopped-at n at z) R none
   from-here at room z R n d = (R, subst (λ (m : ℕ). Runs a (s ++ r) more at m z R) (omega arith) d, refl)
 
   lift : (room : ℕ) (w : List ℕ) (r₁ R R′ : Result) (c : Option ℕ) → length w ≤ room → R ≡ after-writing w R′ → Onward (room - length w) r₁ R′ c →
@@ -114,23 +114,23 @@ module _ (a : Sheet) (s r : List ℕ) (b more : Bool) (told : Told b r more) (ex
 
   -- where the part's call stops at a token that is only begun
   at-begun : (at room : ℕ) (z : State) (R : Result) (n : ℕ) → Means (front s at) at Begun → numberAt b (length (drop at s)) (z .control) Begun ≡ some n →
-      Runs a (s ++ r) more at (room + extra) z R → Onward room (stopped n at z) R (handed n z .closing)
+      Runs a (s ++ r) more at (room + extra) z R → Onward room (stopped-at n at z) R (handed n z .closing)
   at-begun at room z R n m q d = by b refl told
     where
-      waits : b ≡ true → Onward room (stopped n at z) R (handed n z .closing)
+      waits : b ≡ true → Onward room (stopped-at n at z) R (handed n z .closing)
       waits e =
           let i : some 16 ≡ some n = ap (λ (x : Bool). numberAt x (length (drop at s)) (z .control) Begun) (sym e) ∙ q in
           let h : 16 ≡ n = cc in
-          subst (λ (j : ℕ). Onward room (stopped j at z) R (handed j z .closing)) h (from-here at room z R 16 d)
+          subst (λ (j : ℕ). Onward room (stopped-at j at z) R (handed j z .closing)) h (from-here at room z R 16 d)
 
-      by : (x : Bool) → b ≡ x → Told b r more → Onward room (stopped n at z) R (handed n z .closing)
+      by : (x : Bool) → b ≡ x → Told b r more → Onward room (stopped-at n at z) R (handed n z .closing)
       by true e t = waits e
       by false e (inl t) = waits t
       by false e (inr (l, t)) =
           let w : s ≡ s ++ r = sym (append-nil s) ∙ ap (λ (x : List ℕ). s ++ x) (sym l) in
           let k : numberAt more (length (drop at (s ++ r))) (z .control) Begun ≡ some n =
           ap₂ (λ (x : Bool) (y : List ℕ). numberAt x (length (drop at y)) (z .control) Begun) (sym t) (sym w) ∙ q in
-          subst (Onward room (stopped n at z) R)
+          subst (Onward room (stopped-at n at z) R)
           (sym (end-closes (length (drop at s)) (z .control) n (ap (λ (x : Bool). numberAt x (length (drop at s)) (z .control) Begun) (sym e) ∙ q)))
           (to-number a (s ++ r) more at (room + extra) z R Begun n k (split a (s ++ r) more d Begun (subst (λ (y : List ℕ). Means (front y at) at Begun) w m)))
 
@@ -149,17 +149,17 @@ module _ (a : Sheet) (s r : List ℕ) (b more : Bool) (told : Told b r more) (ex
       (ap (oneToken a z (room + extra)) (token-in a s r at e (record { at = next }) m) ∙ refused-in-more a z room extra (tokenOf a s e) n t)
       (split a (s ++ r) more d′ (Token e (record { at = next })) m′) in
       let h = refuses-over a z room (tokenOf a s e) n t in
-      subst (Onward room (stopped n at z) R) (sym (over-closes n (omega arith))) i
+      subst (Onward room (stopped-at n at z) R) (sym (over-closes n (omega arith))) i
   resume {R = R} (halts {at} {room} {z} (full e next m t)) d′ = from-here at room z R 17 d′
   resume {R = R} (halts {at} {room} {z} (no-token (Token e next) n m q)) d′ = absurd (let y : _≡_ {A = ℕ} 0 1 = cc in omega arith)
   resume {R = R} (halts {at} {room} {z} (no-token Begun n m q)) d′ = at-begun at room z R n m q d′
   resume {R = R} (halts {at} {room} {z} (no-token Bad n m q)) d′ =
       let h : 20 ≡ n = cc in
-      subst (Onward room (stopped n at z) R) (sym (over-closes n (omega arith)))
+      subst (Onward room (stopped-at n at z) R) (sym (over-closes n (omega arith)))
       (to-number a (s ++ r) more at (room + extra) z R Bad n q (split a (s ++ r) more d′ Bad (stays s r at Bad bad≢begun m)))
   resume {R = R} (halts {at} {room} {z} (no-token Long n m q)) d′ =
       let h : 21 ≡ n = cc in
-      subst (Onward room (stopped n at z) R) (sym (over-closes n (omega arith)))
+      subst (Onward room (stopped-at n at z) R) (sym (over-closes n (omega arith)))
       (to-number a (s ++ r) more at (room + extra) z R Long n q (split a (s ++ r) more d′ Long (stays s r at Long long≢begun m)))
 
 -- what stands in front of a part changes an answer's places only
@@ -222,13 +222,13 @@ module _ (a : Sheet) (whole : List ℕ) (more : Bool) (n : ℕ) where
       (after-writing w (i .0), takes (l .event) (l .to) z′ w (l .means) (sym (l .same) ∙ t) (i .1), ap (after-writing w) (i .2))
   shift (halts {at = from} {room} {z} (stops e next k m t)) at h =
       let l = left-token at from room z e next h m in
-      (stopped k at z, halts (stops (l .event) (l .to) k (l .means) (sym (l .same) ∙ t)), ap (λ (i : ℕ). stopped k i z) h)
+      (stopped-at k at z, halts (stops (l .event) (l .to) k (l .means) (sym (l .same) ∙ t)), ap (λ (i : ℕ). stopped-at k i z) h)
   shift (halts {at = from} {room} {z} (full e next m t)) at h =
       let l = left-token at from room z e next h m in
-      (stopped 17 at z, halts (full (l .event) (l .to) (l .means) (sym (l .same) ∙ t)), ap (λ (i : ℕ). stopped 17 i z) h)
+      (stopped-at 17 at z, halts (full (l .event) (l .to) (l .means) (sym (l .same) ∙ t)), ap (λ (i : ℕ). stopped-at 17 i z) h)
   shift (halts {at = from} {room} {z} (no-token x k m q)) at h =
       let l = none-left at from x k z h m q in
-      (stopped k at z, halts (no-token x k (l .0) (l .1)), ap (λ (i : ℕ). stopped k i z) h)
+      (stopped-at k at z, halts (no-token x k (l .0) (l .1)), ap (λ (i : ℕ). stopped-at k i z) h)
 
 module _ (a : Sheet) (s r : List ℕ) (b more : Bool) (told : Told b r more) (room extra : ℕ) where
   -- the call on the whole, from where the part's stopped, as a call of its own
@@ -263,7 +263,7 @@ feeds-as-one a more (goes-on {h} {h′} {r₂} room extra s later b r₁ told d 
     let q = subst (Continued a (s ++ later) more (room + extra) r₁ (R .0)) c (in-parts a s later b more told room extra h r₁ (R .0) (d .called) (R .1)) in
     let t = subst (λ (k : Held). Called a (drop (r₁ .taken) (s ++ later)) more (room + extra - length (r₁ .output)) k r₂) (sym (d .handed-back)) (feeds-as-one a more f) in
     let e = call-one a (drop (r₁ .taken) (s ++ later)) more (room + extra - length (r₁ .output)) (r₁ .held) (q .0) r₂ (q .1) t in
-    subst (Called a (s ++ later) more (room + extra) h) (q .2 ∙ ap (joined r₁) e) (R .1)
+    subst (Called a (s ++ later) more (room + extra) h) (q .2 ∙ ap (answers-together r₁) e) (R .1)
 
 -- and the visits told are those counted
 pub feeds-visits : (a : Sheet) (more : Bool) {whole : List ℕ} {room : ℕ} {h : Held} {r : Result} {v : ℕ} → Feeds (CallOf a) more whole room h r v → v ≡ r .held .run .store .env .count

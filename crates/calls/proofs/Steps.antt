@@ -25,7 +25,7 @@ use Rattle.calls.specs.Names.{tokenOf}
 use Rattle.runs.specs.Visits.{mostVisits}
 use Rattle.calls.specs.Limits.{silent, outputOf, Taking, taken, refuses, no-room, limited, within, oneToken}
 use Rattle.calls.specs.Held.{Held, handed}
-use Rattle.calls.specs.Call.{Result, stopped, after-writing, atEnd, numberAt, Stop, stops, full, no-token, Runs, takes, halts}
+use Rattle.calls.specs.Call.{Result, stopped-at, after-writing, atEnd, numberAt, Stop, stops, full, no-token, Runs, takes, halts}
 use Rattle.calls.proofs.Frame.{state-behind, answer-behind, token-frame, countOf, tokens-count, token-number}
 
 abbrev pub RunToken : Type 0

@@ -25,8 +25,8 @@ pub record Result : Type 0 where
   pub held : Held
 
 -- the call stops at `at` with the number n: the bytes before it are taken, and no more is written
-abbrev pub stopped : ℕ → ℕ → State → Result
-stopped n at z = record { number = n; taken = at; output = []; held = handed n z }
+abbrev pub stopped-at : ℕ → ℕ → State → Result
+stopped-at n at z = record { number = n; taken = at; output = []; held = handed n z }
 
 -- the same after w was written
 abbrev pub after-writing : List ℕ → Result → Result
@@ -65,7 +65,7 @@ pub data Runs (a : Sheet) (part : List ℕ) (more : Bool) : ℕ → ℕ → Stat
   takes : {at room : ℕ} {z : State} {r : Result} (e : Event) (next : ℕ) (z′ : State) (w : List ℕ) →
       Means (front part at) at (Token e (record { at = next })) → oneToken a z room (tokenOf a part e) ≡ taken z′ w → Runs a part more next (roomLeft room w) z′ r →
       Runs a part more at room z (after-writing w r)
-  halts : {at room : ℕ} {z : State} {n : ℕ} → Stop a part more at room z n → Runs a part more at room z (stopped n at z)
+  halts : {at room : ℕ} {z : State} {n : ℕ} → Stop a part more at room z n → Runs a part more at room z (stopped-at n at z)
 
 -- a closed state: 28 after 0, and any other number again; nothing is taken or written, and the state is handed back as given
 abbrev pub again : ℕ → ℕ

@@ -14,8 +14,8 @@ use Rattle.runs.specs.Visits.{Env}
 use Rattle.calls.specs.Accepted.{accepted}
 
 -- what two calls answer together
-abbrev pub joined : Result → Result → Result
-joined r₁ r₂ = record { number = r₂ .number; taken = r₁ .taken + r₂ .taken; output = r₁ .output ++ r₂ .output; held = r₂ .held }
+abbrev pub answers-together : Result → Result → Result
+answers-together r₁ r₂ = record { number = r₂ .number; taken = r₁ .taken + r₂ .taken; output = r₁ .output ++ r₂ .output; held = r₂ .held }
 
 -- what is told of the end is so: where `later` comes after a part, more is to come; where nothing does, it is told as of the whole
 abbrev pub Told : (moreThen : Bool) (later : List ℕ) (more : Bool) → Type 0
@@ -25,7 +25,7 @@ Told b later more = (b ≡ true) ⊎ ((later ≡ []) × (b ≡ more))
 -- call on the bytes and in the room that the first has left goes on, and the two together are the one
 abbrev pub Continued : Sheet → List ℕ → Bool → ℕ → Result → Result → Option ℕ → Type 0
 Continued a whole more room r₁ r none =
-    (r₂ : Result) × Called a (drop (r₁ .taken) whole) more (room - length (r₁ .output)) (r₁ .held) r₂ × (r ≡ joined r₁ r₂)
+    (r₂ : Result) × Called a (drop (r₁ .taken) whole) more (room - length (r₁ .output)) (r₁ .held) r₂ × (r ≡ answers-together r₁ r₂)
 Continued a whole more room r₁ r (some n) = r ≡ r₁
 
 -- calls one after another over a stream. Call says what one of them answers: of a part, whether more is to come, the room lent and what is handed in, what is
@@ -37,7 +37,7 @@ pub data Feeds {H : Type 0} (Call : List ℕ → Bool → ℕ → H → H → Re
       r₁ .held .closing ≡ some n → Feeds Call more (s ++ later) (room + extra) h r₁ v
   goes-on : {h h′ : H} {r₂ : Result} {u v : ℕ} (room extra : ℕ) (s later : List ℕ) (b : Bool) (r₁ : Result) → Told b later more → Call s b room h h′ r₁ u →
       r₁ .held .closing ≡ none → Feeds Call more (drop (r₁ .taken) (s ++ later)) (room + extra - length (r₁ .output)) h′ r₂ v →
-      Feeds Call more (s ++ later) (room + extra) h (joined r₁ r₂) v
+      Feeds Call more (s ++ later) (room + extra) h (answers-together r₁ r₂) v
 
 -- P holds of each of the calls
 abbrev pub Each : {H : Type 0} {Call : List ℕ → Bool → ℕ → H → H → Result → ℕ → Type 0} →

@@ -30,7 +30,7 @@ use Rattle.calls.specs.Names.{tokenOf}
 use Rattle.calls.specs.Limits.{Taking, taken, refuses, no-room, oneToken}
 use Rattle.runs.specs.Closing.{Closing, closed-by-end, closed-by-refusal, closed-by-count}
 use Rattle.calls.specs.Held.{Held, leavesOpen, closingOf, handed}
-use Rattle.calls.specs.Call.{Result, roomLeft, stopped, after-writing, numberAt, stops, full as no-space, no-token, Runs, takes, halts as run-halts, CalledBy, Called}
+use Rattle.calls.specs.Call.{Result, roomLeft, stopped-at, after-writing, numberAt, stops, full as no-space, no-token, Runs, takes, halts as run-halts, CalledBy, Called}
 use Rattle.calls.proofs.Steps.{takes-one, refuses-over}
 use Rattle.calls.proofs.Exactly.{closing-fits}
 use Rattle.state.specs.Changes.{notClosed, closedWith, withEnv, tidied}
@@ -167,13 +167,13 @@ module _ {s : List ℕ} {z₀ : State} {part : List ℕ} {more : Bool} {lent d :
 
     -- a number other than 0: the run stops before the token
     halts : (r : Stepped) (d′ : List ℕ) → TakenAs s part e z d put r d′ → (r .number ≡ 0 → ⊥) →
-        Runs sheet part more at left (meaningOf z) (stopped (r .number) at (meaningOf z)) × (d ≡ d′)
+        Runs sheet part more at left (meaningOf z) (stopped-at (r .number) at (meaningOf z)) × (d ≡ d′)
     halts r d′ T w = by here refl (takes-here r d′ T)
       where
-        by : (t : Taking) → here ≡ t → Takes t z d put r d′ → Runs sheet part more at left (meaningOf z) (stopped (r .number) at (meaningOf z)) × (d ≡ d′)
+        by : (t : Taking) → here ≡ t → Takes t z d put r d′ → Runs sheet part more at left (meaningOf z) (stopped-at (r .number) at (meaningOf z)) × (d ≡ d′)
         by (taken y u) q k = absurd (w (k .number))
-        by (refuses n) q k = (subst (λ (i : ℕ). Runs sheet part more at left (meaningOf z) (stopped i at (meaningOf z))) (sym (k .number)) (run-halts (stops e next n means q)), sym (k .left))
-        by no-room q k = (subst (λ (i : ℕ). Runs sheet part more at left (meaningOf z) (stopped i at (meaningOf z))) (sym (k .number)) (run-halts (no-space e next means q)), sym (k .left))
+        by (refuses n) q k = (subst (λ (i : ℕ). Runs sheet part more at left (meaningOf z) (stopped-at i at (meaningOf z))) (sym (k .number)) (run-halts (stops e next n means q)), sym (k .left))
+        by no-room q k = (subst (λ (i : ℕ). Runs sheet part more at left (meaningOf z) (stopped-at i at (meaningOf z))) (sym (k .number)) (run-halts (no-space e next means q)), sym (k .left))
 
 -- the same run at another count
 counted-on : (z : State) (n : ℕ) → meaningOf (withEnv z (z .values) (z .echo) n) ≡ counting (meaningOf z) n
@@ -228,7 +228,7 @@ closing-is closed-by-count = (inr closed-by-count, omega arith)
 
 module _ {s : List ℕ} {z₀ : State} {part : List ℕ} (ended-now : Bool) {lent d : List ℕ} {at put : ℕ} {z : State}
     (g : Going s z₀ part (not ended-now) lent d at put z) (n : ℕ)
-    (stops-here : Runs (g .given .sheet) part (not ended-now) at (length lent - put) (meaningOf z) (stopped n at (meaningOf z))) where
+    (stops-here : Runs (g .given .sheet) part (not ended-now) at (length lent - put) (meaningOf z) (stopped-at n at (meaningOf z))) where
   abbrev a : Sheet
   a = g .given .sheet
 
@@ -278,9 +278,9 @@ module _ {s : List ℕ} {z₀ : State} {part : List ℕ} (ended-now : Bool) {len
         passed = m .passed;
         fits = m .fits;
         is-open = open-then;
-        answer = after-writing u (stopped n at (meaningOf z));
-        called = subst (λ (c : Option ℕ). CalledBy a part (not ended-now) (length lent) (meaningOf z₀) c (after-writing u (stopped n at (meaningOf z)))) (sym open-then)
-            (g .rest (stopped n at (meaningOf z)) stops-here);
+        answer = after-writing u (stopped-at n at (meaningOf z));
+        called = subst (λ (c : Option ℕ). CalledBy a part (not ended-now) (length lent) (meaningOf z₀) c (after-writing u (stopped-at n at (meaningOf z)))) (sym open-then)
+            (g .rest (stopped-at n at (meaningOf z)) stops-here);
         number = t .number;
         taken = t .taken;
         within = omega (arith, t .taken, g .within);
@@ -293,7 +293,7 @@ module _ {s : List ℕ} {z₀ : State} {part : List ℕ} (ended-now : Bool) {len
       }
 
 -- it is one that a byte holds
-few : {a : Sheet} {part : List ℕ} {more : Bool} {at room n : ℕ} {z : Standing} → Runs a part more at room z (stopped n at z) → n ≤ 30
+few : {a : Sheet} {part : List ℕ} {more : Bool} {at room n : ℕ} {z : Standing} → Runs a part more at room z (stopped-at n at z) → n ≤ 30
 few d = by (run-number d)
   where
     by : {n : ℕ} → InTable n → n ≤ 30
@@ -328,7 +328,7 @@ numbered more left c Long n w h = h
 module _ {s : List ℕ} {z₀ : State} {part : List ℕ} (ended-now : Bool) {lent d : List ℕ} {at put : ℕ} {z : State} (g : Going s z₀ part (not ended-now) lent d at put z)
     (x : Answer) (n : ℕ) (means : Means (front part at) at x) (w : (e : Event) (next : Cursor) → x ≡ Token e next → ⊥)
     (h : NumberedAs (not ended-now) (length part - at) (meaningOf z .control) x n) where
-  without : Runs (g .given .sheet) part (not ended-now) at (length lent - put) (meaningOf z) (stopped n at (meaningOf z))
+  without : Runs (g .given .sheet) part (not ended-now) at (length lent - put) (meaningOf z) (stopped-at n at (meaningOf z))
   without =
       run-halts
       (no-token x n means

@@ -18,7 +18,7 @@ use Rattle.notation.specs.Tokens.{TagName}
 use Rattle.notation.specs.RuleText.{RuleText}
 use Rattle.notation.proofs.Sizes.{size-in-every-sheet, nesting-in-every-sheet}
 use Rattle.encoding.specs.Mentions.{Mention, a-tag, a-string, a-program, inStatement, inProgram, inBraces, inTree, inForm, inContent, inRule, inRules, tagsIn, stringsIn}
-use Rattle.encoding.specs.Distinct.{has, added, distinct, placeOf, offsetOf, joined}
+use Rattle.encoding.specs.Distinct.{has, added, distinct, placeOf, offsetOf, run-together}
 use Rattle.encoding.specs.Encoded.{tagsOf, stringsOf, programOf, maybe, bothOf, each, ruleOf, rulesOf, sheetOf}
 use Rattle.encoding.specs.Keeps.{AllNames, ProgramKeeps, VisitsKeep, AllKeep, RuleKeeps, EachKeeps, SheetKeeps}
 use Rattle.encoding.specs.Promises.{SheetsKeep}
@@ -53,7 +53,7 @@ had-back names strs (a-program p ∷ ms) ns h = had-back names strs ms ns h
 module _ (names strs : List (List ℕ)) (v : Visit) where
   mutual
     statement-fits : (t : Statement) → SoundStatement v t → Had names strs (inStatement t)
-        → StatementFits (length names) (joined strs) (statementIn (placeOf names) (offsetOf strs) t) × (statementAllowed v (statementIn (placeOf names) (offsetOf strs) t) ≡ true)
+        → StatementFits (length names) (run-together strs) (statementIn (placeOf names) (offsetOf strs) t) × (statementAllowed v (statementIn (placeOf names) (offsetOf strs) t) ≡ true)
     statement-fits (become a x) s h = (s, refl)
     statement-fits (copy a b) s h = (s, refl)
     statement-fits (recall a b) s h = (s .0, s .1)
@@ -68,7 +68,7 @@ module _ (names strs : List (List ℕ)) (v : Visit) where
         ((s .0 .0, a .0, b .0), and-true _ _ (s .0 .1) (and-true _ _ (a .1) (b .1)))
 
     program-fits : (p : Program) → Sound v p → Had names strs (inProgram p)
-        → StatementsFit (length names) (joined strs) (programIn (placeOf names) (offsetOf strs) p) × (allowed v (programIn (placeOf names) (offsetOf strs) p) ≡ true)
+        → StatementsFit (length names) (run-together strs) (programIn (placeOf names) (offsetOf strs) p) × (allowed v (programIn (placeOf names) (offsetOf strs) p) ≡ true)
     program-fits done s h = (tt, refl)
     program-fits (step t p) s h =
         let a = statement-fits t (s .0) (had-front names strs (inStatement t) (inProgram p) h) in

@@ -11,7 +11,7 @@ use lib.Seq.{take-append-seam, drop-append-add}
 use borrow.Author.Tests.{eqb-true, eq-eqb}
 use Rattle.text.specs.Characters.{WholeCharacters}
 use Rattle.programs.specs.Limits.{Printable}
-use Rattle.encoding.specs.Distinct.{equal, has, added, distinct, AllDifferent, placeOf, offsetOf, joined}
+use Rattle.encoding.specs.Distinct.{equal, has, added, distinct, AllDifferent, placeOf, offsetOf, run-together}
 
 true-or-false : (b : Bool) → (b ≡ true) ⊎ (b ≡ false)
 true-or-false true = inl refl
@@ -107,8 +107,8 @@ place-below (y ∷ l) x e = on (equal x y) refl (λ f. place-below l x (or-parts
 
 -- its bytes at its offset
 pub record Lies (l : List (List ℕ)) (x : List ℕ) (o : ℕ) : Type 0 where
-  pub inside : o + length x ≤ length (joined l)
-  pub there : take (length x) (drop o (joined l)) ≡ x
+  pub inside : o + length x ≤ length (run-together l)
+  pub there : take (length x) (drop o (run-together l)) ≡ x
 
 pub lies : (l : List (List ℕ)) (x : List ℕ) → has l x ≡ true → Lies l x (offsetOf l x)
 lies [] x e = absurd (let z : _≡_ {A = ℕ} 0 1 = cc in omega arith)
@@ -117,10 +117,10 @@ lies (y ∷ l) x e = on (equal x y) refl (λ f. lies l x (or-parts (equal x y) (
     on : (b : Bool) → equal x y ≡ b → (equal x y ≡ false → Lies l x (offsetOf l x)) → Lies (y ∷ l) x (cond b 0 (length y + offsetOf l x))
     on true f ih =
         let same : x ≡ y = equal-true x y f in
-        record { inside = simp length-append (omega (arith, ap length same)); there = subst (λ z. take (length x) (z ++ joined l) ≡ x) same (take-append-seam x (joined l)) }
+        record { inside = simp length-append (omega (arith, ap length same)); there = subst (λ z. take (length x) (z ++ run-together l) ≡ x) same (take-append-seam x (run-together l)) }
     on false f ih =
         let h = ih f in
-        record { inside = simp length-append (omega (arith, h .inside)); there = ap (take (length x)) (drop-append-add y (joined l) (offsetOf l x)) ∙ h .there }
+        record { inside = simp length-append (omega (arith, h .inside)); there = ap (take (length x)) (drop-append-add y (run-together l) (offsetOf l x)) ∙ h .there }
 
-pub printable : (l : List (List ℕ)) (x : List ℕ) → has l x ≡ true → WholeCharacters x → Printable (joined l) (offsetOf l x) (length x)
+pub printable : (l : List (List ℕ)) (x : List ℕ) → has l x ≡ true → WholeCharacters x → Printable (run-together l) (offsetOf l x) (length x)
 printable l x e w = let h = lies l x e in record { inside = h .inside; whole = subst WholeCharacters (sym (h .there)) w }

@@ -38,6 +38,6 @@ abbrev pub offsetOf : List (List ℕ) → List ℕ → ℕ
 offsetOf [] x = 0
 offsetOf (y ∷ l) x = cond (equal x y) 0 (length y + offsetOf l x)
 
-abbrev pub joined : List (List ℕ) → List ℕ
-joined [] = []
-joined (x ∷ l) = x ++ joined l
+abbrev pub run-together : List (List ℕ) → List ℕ
+run-together [] = []
+run-together (x ∷ l) = x ++ run-together l

@@ -9,7 +9,7 @@ use Rattle.sheet.specs.Sheet.{Rule as SheetRule, Sheet}
 use Rattle.notation.specs.Program.{Program, programIn}
 use Rattle.notation.specs.Rules.{Visits, contentOf, visitsIn, Rule, Rules}
 use Rattle.encoding.specs.Mentions.{inRules, tagsIn, stringsIn, programsIn}
-use Rattle.encoding.specs.Distinct.{distinct, placeOf, offsetOf, joined}
+use Rattle.encoding.specs.Distinct.{distinct, placeOf, offsetOf, run-together}
 
 abbrev pub tagsOf : Rules → List (List ℕ)
 tagsOf r = distinct (tagsIn (inRules (r .productions)))
@@ -32,8 +32,8 @@ programsOf r = distinct (bytesOfEach r (programsIn (inRules (r .productions))))
 -- number 41 is given exactly where a rule text has rules without room
 pub record Room (r : Rules) : Type 0 where
   pub few-tags : length (tagsOf r) ≤ 64
-  pub short-programs : length (joined (programsOf r)) ≤ 16384
-  pub short-strings : length (joined (stringsOf r)) ≤ 8192
+  pub short-programs : length (run-together (programsOf r)) ≤ 16384
+  pub short-strings : length (run-together (stringsOf r)) ≤ 8192
 
 abbrev pub maybe : Rules → Option Program → Option SheetProgram
 maybe r none = none
@@ -58,4 +58,4 @@ rulesOf r [] = []
 rulesOf r (d ∷ ds) = ruleOf r d ∷ rulesOf r ds
 
 abbrev pub sheetOf : Rules → Sheet
-sheetOf r = record { names = tagsOf r; rules = rulesOf r (r .productions); strings = joined (stringsOf r); start-nonterminal = r .start }
+sheetOf r = record { names = tagsOf r; rules = rulesOf r (r .productions); strings = run-together (stringsOf r); start-nonterminal = r .start }

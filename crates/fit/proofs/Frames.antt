@@ -34,7 +34,7 @@ use Rattle.fit.specs.declared.Spot.{Spot}
 use Rattle.fit.specs.declared.Walked.{Walked}
 use Rattle.fit.specs.declared.Fitted.{Fitted}
 use Rattle.fit.specs.Fit.{childAt, SetFits, FrameFits, FramesFit, ClosingFits}
-use Rattle.fit.specs.Tests.{numberOf, SpotOf, here, nowhere, WalkedAs, SpotIs, FrameTold, FramesTold}
+use Rattle.fit.specs.Tests.{childNumber, SpotOf, here, nowhere, WalkedAs, SpotIs, FrameTold, FramesTold}
 
 -- where a production is of a nonterminal, it is there
 produces-below : (g : List Production) (n q : ℕ) → T (produces g n q) → q < length g
@@ -123,7 +123,7 @@ module _ (n : ℕ) (not-open : n ≡ 255 → ⊥) (not-0 : n ≡ 0 → ⊥) (not
 
 -- what was found at a place that is there
 spot-inv : {r : Spot} {o : Option (List ℕ)} {child : Option ℕ} → SpotOf r o child → r .there ≡ true →
-    (ns : List ℕ) × (o ≡ some ns) × (r .«open» ≡ length ns) × (r .child ≡ numberOf child)
+    (ns : List ℕ) × (o ≡ some ns) × (r .«open» ≡ length ns) × (r .child ≡ childNumber child)
 spot-inv (here {ns} t o c) e = (ns, refl, o, c)
 spot-inv (nowhere t) e = absurd (true≢false (sym e ∙ t))
 
@@ -132,7 +132,7 @@ spot-there (here {ns = ms} t o c) ns e = let z : ms ≡ ns = cc in (t, o ∙ ap 
 spot-there (nowhere t) ns e = absurd (none-some ns e)
 
 module _ (s : List ℕ) (may : ℕ) (f : Frame) (r : Fitted) where
-  no-frame : r .ok ≡ false → ((g : List Production) → GrammarIs s g → (child : Option ℕ) → may ≡ numberOf child → FrameFits g child f → ⊥) → FrameTold s may f r
+  no-frame : r .ok ≡ false → ((g : List Production) → GrammarIs s g → (child : Option ℕ) → may ≡ childNumber child → FrameFits g child f → ⊥) → FrameTold s may f r
   no-frame e n =
       record {
         tells = λ g γ child z. subst (Tells (FrameFits g child f)) (sym e) (fails (n g γ child z));
@@ -147,7 +147,7 @@ module _ (s : List ℕ) (may : ℕ) (f : Frame) (r : Fitted) where
       no-frame e
       (λ g γ child z k.
       let i = produces-inv s g γ (f .production) (k .nonterm) (k .production) in
-      n (a ∙ sym (i .1) ∙ sym (z ∙ ap numberOf (k .allowed))))
+      n (a ∙ sym (i .1) ∙ sym (z ∙ ap childNumber (k .allowed))))
 
   module _ (spot : Spot) (found : SpotIs s (f .production) (f .place) spot) where
     pub no-place : r .ok ≡ false → spot .there ≡ false → FrameTold s may f r
@@ -167,11 +167,11 @@ module _ (s : List ℕ) (may : ℕ) (f : Frame) (r : Fitted) where
           then = λ _ g γ. c ∙ spot-inv (found .is g γ) t .3;
         }
       where
-        some-child : (child : Option ℕ) → may ≡ numberOf child → child ≡ some m
+        some-child : (child : Option ℕ) → may ≡ childNumber child → child ≡ some m
         some-child none z = absurd (omega arith)
         some-child (some n) z = ap some (sym (same ∙ z))
 
-        fits : (g : List Production) → GrammarIs s g → (child : Option ℕ) → may ≡ numberOf child → FrameFits g child f
+        fits : (g : List Production) → GrammarIs s g → (child : Option ℕ) → may ≡ childNumber child → FrameFits g child f
         fits g γ child z =
             let i = spot-inv (found .is g γ) t in
             record {
@@ -187,7 +187,7 @@ module _ (s : List ℕ) (may : ℕ) (f : Frame) (r : Fitted) where
 -- the frames that are left from number i on, where the child numbered `may` can be
 pub record Left (s : List ℕ) (frames : List Frame) (may i : ℕ) : Type 0 where
   pub each : (g : List Production) → GrammarIs s g →
-      (child : Option ℕ) × (may ≡ numberOf child) × (FramesFit g (some (start s)) frames → FramesFit g child (drop i frames)) × (FramesFit g child (drop i frames) → FramesFit g (some (start s)) frames)
+      (child : Option ℕ) × (may ≡ childNumber child) × (FramesFit g (some (start s)) frames → FramesFit g child (drop i frames)) × (FramesFit g child (drop i frames) → FramesFit g (some (start s)) frames)
 
 -- of n frames of a stack
 module _ (s : List ℕ) (stack : List Frame) (n : ℕ) (within : n ≤ length stack) where

@@ -22,9 +22,9 @@ use Rattle.runs.specs.Nodes.{one-of, inside-node, nodesAt}
 use Rattle.fit.specs.declared.Spot.{Spot}
 use Rattle.fit.specs.declared.Walked.{Walked}
 use Rattle.fit.specs.Fit.{atomIn, childOf}
-use Rattle.fit.specs.Tests.{numberOf, SpotOf, here, nowhere, LeafOf, AroundOf, WalkedAs}
+use Rattle.fit.specs.Tests.{childNumber, SpotOf, here, nowhere, LeafOf, AroundOf, WalkedAs}
 
-leaf-spot : (b : Bool) (k : Atom) (i : ℕ) (r : Spot) → r .there ≡ b → r .«open» ≡ 1 → r .child ≡ numberOf (childOf (some k)) →
+leaf-spot : (b : Bool) (k : Atom) (i : ℕ) (r : Spot) → r .there ≡ b → r .«open» ≡ 1 → r .child ≡ childNumber (childOf (some k)) →
     SpotOf r (whenTrue b (i ∷ [])) (childOf (whenTrue b k))
 leaf-spot true k i r t o c = here t o c
 leaf-spot false k i r t o c = nowhere t
@@ -38,7 +38,7 @@ module _ (s : List ℕ) (p at j : ℕ) where
   abbrev Finds : Spot → Exp → Type 0
   Finds r e = (i : ℕ) → SpotOf r (nodesAt e i j p) (childOf (atomIn e j p))
 
-  leaf-walked : (k : Atom) (r : Walked) (n : ℕ) → LeafOf (eqb p j) n (at + 1) (j + 1) r → n ≡ numberOf (childOf (some k)) → ((e : Exp) → TreeAt s at e → e ≡ atom k) →
+  leaf-walked : (k : Atom) (r : Walked) (n : ℕ) → LeafOf (eqb p j) n (at + 1) (j + 1) r → n ≡ childNumber (childOf (some k)) → ((e : Exp) → TreeAt s at e → e ≡ atom k) →
       at < nodeCount s → WalkedAs s p at j r
   leaf-walked k r n q c only i =
       record {

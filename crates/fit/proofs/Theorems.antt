@@ -32,7 +32,7 @@ use Rattle.state.specs.declared.Frame.{Frame}
 use Rattle.state.specs.declared.State.{State}
 use Rattle.fit.specs.Fit.{childAt, SetFits, FrameFits, FramesFit, Fit}
 use Rattle.fit.specs.Tests.{FitTold}
-use Rattle.fit.specs.InUse.{SameFrame, SameFrames, neither, both, SameUse}
+use Rattle.fit.specs.InUse.{FrameInUse, FramesInUse, neither, both, SameUse}
 use Rattle.fit.proofs.Lists.{all-take}
 use Rattle.fit.proofs.Frames.{deep, produces-inv}
 
@@ -80,7 +80,7 @@ fresh-fit g n =
     }
 
 module _ (g : List Production) where
-  same-frame : (may : Option ℕ) (f h : Frame) → SameFrame f h → FrameFits g may f → FrameFits g may h
+  same-frame : (may : Option ℕ) (f h : Frame) → FrameInUse f h → FrameFits g may f → FrameFits g may h
   same-frame may f h e k =
       record {
         nonterm = k .nonterm;
@@ -92,7 +92,7 @@ module _ (g : List Production) where
         values = subst (All SetFits) (e .sets) (k .values);
       }
 
-  same-frames : (may : Option ℕ) (fs hs : List Frame) → SameFrames fs hs → FramesFit g may fs → FramesFit g may hs
+  same-frames : (may : Option ℕ) (fs hs : List Frame) → FramesInUse fs hs → FramesFit g may fs → FramesFit g may hs
   same-frames may [] [] neither k = tt
   same-frames may (f ∷ fs) (h ∷ hs) (both e r) k =
       let c : childAt (contentOf g (f .production)) (f .place) ≡ childAt (contentOf g (h .production)) (h .place) =

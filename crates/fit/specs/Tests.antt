@@ -21,13 +21,13 @@ use Rattle.fit.specs.declared.Fitted.{Fitted}
 use Rattle.fit.specs.Fit.{atomIn, childOf, childAt, FrameFits, FramesFit, Fit}
 
 -- a child as a number: 256, which no byte is, for none
-abbrev pub numberOf : Option ℕ → ℕ
-numberOf none = 256
-numberOf (some n) = n
+abbrev pub childNumber : Option ℕ → ℕ
+childNumber none = 256
+childNumber (some n) = n
 
 -- r says whether the expression has the place, and if so how many nodes are open there and which child it can have
 pub data SpotOf (r : Spot) : Option (List ℕ) → Option ℕ → Type 0 where
-  here : {ns : List ℕ} {child : Option ℕ} → r .there ≡ true → r .«open» ≡ length ns → r .child ≡ numberOf child → SpotOf r (some ns) child
+  here : {ns : List ℕ} {child : Option ℕ} → r .there ≡ true → r .«open» ≡ length ns → r .child ≡ childNumber child → SpotOf r (some ns) child
   nowhere : {child : Option ℕ} → r .there ≡ false → SpotOf r none child
 
 -- what a walk over the tree at node `at`, whose first atom is j, answers of atom p; the node past the tree, and the atom past its atoms
@@ -45,8 +45,8 @@ pub record SpotIs (s : List ℕ) (q p : ℕ) (r : Spot) : Type 0 where
 
 -- whether an open element fits where the child numbered `may` can be; and the child that its own place can have
 pub record FrameTold (s : List ℕ) (may : ℕ) (f : Frame) (r : Fitted) : Type 0 where
-  pub tells : (g : List Production) → GrammarIs s g → (child : Option ℕ) → may ≡ numberOf child → Tells (FrameFits g child f) (r .ok)
-  pub then : r .ok ≡ true → (g : List Production) → GrammarIs s g → r .child ≡ numberOf (childAt (contentOf g (f .production)) (f .place))
+  pub tells : (g : List Production) → GrammarIs s g → (child : Option ℕ) → may ≡ childNumber child → Tells (FrameFits g child f) (r .ok)
+  pub then : r .ok ≡ true → (g : List Production) → GrammarIs s g → r .child ≡ childNumber (childAt (contentOf g (f .production)) (f .place))
 
 pub record FramesTold (s : List ℕ) (frames : List Frame) (r : Bool) : Type 0 where
   pub tells : (g : List Production) → GrammarIs s g → Tells (FramesFit g (some (start s)) frames) r

@@ -13,7 +13,7 @@ use Rattle.language.specs.Language.{Language}
 use Rattle.sheet.specs.Sheet.{Sheet}
 use Rattle.runs.specs.Visits.{grammar, Env}
 use Rattle.runs.specs.Events.{Event}
-use Rattle.runs.specs.Taken.{Passed, Parsed}
+use Rattle.runs.specs.Taken.{Passed, ParsedTo}
 use Rattle.calls.specs.Accepted.{Accepted}
 use Rattle.grouping.specs.Regrouped.{concatenations, concatenations-and-unions, Regrouped, RegroupedGrammar}
 
@@ -57,7 +57,7 @@ pub record RegroupedSheet (a a′ : Sheet) : Type 0 where
 -- the count over a tree's events
 abbrev pub CountStays : Type 0
 CountStays =
-    (a a′ : Sheet) → Passed a → RegroupedSheet a a′ → (xs : List Event) (v v′ : Env) → Parsed a xs v → Parsed a′ xs v′ → v .count ≡ v′ .count
+    (a a′ : Sheet) → Passed a → RegroupedSheet a a′ → (xs : List Event) (v v′ : Env) → ParsedTo a xs v → ParsedTo a′ xs v′ → v .count ≡ v′ .count
 
 -- and over bytes
 abbrev pub AcceptedCountStays : Type 0

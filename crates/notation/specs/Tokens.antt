@@ -69,17 +69,17 @@ unfoldable pub decimal : ℕ → List ℕ
 decimal n = pick (ltb n 10) ((48 + n) ∷ []) ((48 + n / 10) ∷ (48 + n % 10) ∷ [])
 
 -- a character of a string: " and \ and tab, LF, CR as \" \\ \t \n \r, any other as itself
-unfoldable pub escaped : ℕ → List ℕ
-escaped c =
+unfoldable pub in-quotes : ℕ → List ℕ
+in-quotes c =
     pick (eqb c 34) (92 ∷ 34 ∷ [])
     (pick (eqb c 92) (92 ∷ 92 ∷ [])
     (pick (eqb c 9) (92 ∷ 116 ∷ [])
     (pick (eqb c 10) (92 ∷ 110 ∷ [])
     (pick (eqb c 13) (92 ∷ 114 ∷ []) (utf8 c)))))
 
-abbrev pub escapedAll : List ℕ → List ℕ
-escapedAll [] = []
-escapedAll (c ∷ cs) = escaped c ++ escapedAll cs
+abbrev pub all-in-quotes : List ℕ → List ℕ
+all-in-quotes [] = []
+all-in-quotes (c ∷ cs) = in-quotes c ++ all-in-quotes cs
 
 abbrev pub bytesOf : Token → List ℕ
 bytesOf (nonterminal n) = 110 ∷ decimal n
@@ -89,7 +89,7 @@ bytesOf (name n) = n
 bytesOf (start-tag n) = 60 ∷ (n ++ 62 ∷ [])
 bytesOf (end-tag n) = 60 ∷ 47 ∷ (n ++ 62 ∷ [])
 bytesOf (empty-tag n) = 60 ∷ (n ++ 47 ∷ 62 ∷ [])
-bytesOf (string cs) = 34 ∷ (escapedAll cs ++ 34 ∷ [])
+bytesOf (string cs) = 34 ∷ (all-in-quotes cs ++ 34 ∷ [])
 bytesOf (word w) = wordBytes w
 bytesOf (sign s) = signBytes s
 

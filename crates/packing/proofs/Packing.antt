@@ -26,7 +26,7 @@ use Rattle.notation.specs.Tokens.{Token, TagName}
 use Rattle.notation.specs.Productions.{ProductionsAre, one, more, RulesAre, start-alone, start-first}
 use Rattle.notation.specs.RuleText.{RuleText}
 use Rattle.encoding.specs.Mentions.{inBraces, inTree, inForm, inContent, inRule, inRules}
-use Rattle.encoding.specs.Distinct.{equal, has, AllDifferent, joined}
+use Rattle.encoding.specs.Distinct.{equal, has, AllDifferent, run-together}
 use Rattle.encoding.specs.Encoded.{tagsOf, stringsOf, programsOf, Room, each, rulesOf, sheetOf}
 use Rattle.encoding.specs.Keeps.{AllNames, AllKeep, RuleKeeps, EachKeeps, SheetKeeps}
 use Rattle.encoding.proofs.Sound.{AllSound, rules-sound}
@@ -134,30 +134,30 @@ tags-are s ns h d = record {
 
 -- where each section lies
 module _ (r : Rules) (room : Room r) (keeps : SheetKeeps (sheetOf r)) (sound : AllSound (r .productions)) (s : List ℕ)
-    (is : s ≡ tagsSection (tagsOf r) ++ (productionsSection r 0 (r .productions) ++ (nodesSection r (r .productions) ++ (joined (programsOf r) ++ (joined (stringsOf r) ++ trailerOf r))))) where
-  tags-there : Here s 0 (tagsSection (tagsOf r) ++ (productionsSection r 0 (r .productions) ++ (nodesSection r (r .productions) ++ (joined (programsOf r) ++ (joined (stringsOf r) ++ trailerOf r)))))
-  tags-there = record { front = []; back = []; are = is ∙ sym (append-nil (tagsSection (tagsOf r) ++ (productionsSection r 0 (r .productions) ++ (nodesSection r (r .productions) ++ (joined (programsOf r) ++ (joined (stringsOf r) ++ trailerOf r)))))); placed = refl }
+    (is : s ≡ tagsSection (tagsOf r) ++ (productionsSection r 0 (r .productions) ++ (nodesSection r (r .productions) ++ (run-together (programsOf r) ++ (run-together (stringsOf r) ++ trailerOf r))))) where
+  tags-there : Here s 0 (tagsSection (tagsOf r) ++ (productionsSection r 0 (r .productions) ++ (nodesSection r (r .productions) ++ (run-together (programsOf r) ++ (run-together (stringsOf r) ++ trailerOf r)))))
+  tags-there = record { front = []; back = []; are = is ∙ sym (append-nil (tagsSection (tagsOf r) ++ (productionsSection r 0 (r .productions) ++ (nodesSection r (r .productions) ++ (run-together (programsOf r) ++ (run-together (stringsOf r) ++ trailerOf r)))))); placed = refl }
 
-  productions-there : Here s (16 * length (tagsOf r)) (productionsSection r 0 (r .productions) ++ (nodesSection r (r .productions) ++ (joined (programsOf r) ++ (joined (stringsOf r) ++ trailerOf r))))
-  productions-there = here-at s (0 + 16 * length (tagsOf r)) (16 * length (tagsOf r)) (productionsSection r 0 (r .productions) ++ (nodesSection r (r .productions) ++ (joined (programsOf r) ++ (joined (stringsOf r) ++ trailerOf r)))) (from-zero 0 (16 * length (tagsOf r)) refl) (here-behind s 0 (16 * length (tagsOf r)) (tagsSection (tagsOf r)) (productionsSection r 0 (r .productions) ++ (nodesSection r (r .productions) ++ (joined (programsOf r) ++ (joined (stringsOf r) ++ trailerOf r)))) (tags-length (tagsOf r) (keeps .names)) tags-there)
+  productions-there : Here s (16 * length (tagsOf r)) (productionsSection r 0 (r .productions) ++ (nodesSection r (r .productions) ++ (run-together (programsOf r) ++ (run-together (stringsOf r) ++ trailerOf r))))
+  productions-there = here-at s (0 + 16 * length (tagsOf r)) (16 * length (tagsOf r)) (productionsSection r 0 (r .productions) ++ (nodesSection r (r .productions) ++ (run-together (programsOf r) ++ (run-together (stringsOf r) ++ trailerOf r)))) (from-zero 0 (16 * length (tagsOf r)) refl) (here-behind s 0 (16 * length (tagsOf r)) (tagsSection (tagsOf r)) (productionsSection r 0 (r .productions) ++ (nodesSection r (r .productions) ++ (run-together (programsOf r) ++ (run-together (stringsOf r) ++ trailerOf r)))) (tags-length (tagsOf r) (keeps .names)) tags-there)
 
-  nodes-there : Here s (16 * length (tagsOf r) + 12 * length (r .productions)) (nodesSection r (r .productions) ++ (joined (programsOf r) ++ (joined (stringsOf r) ++ trailerOf r)))
-  nodes-there = here-behind s (16 * length (tagsOf r)) (12 * length (r .productions)) (productionsSection r 0 (r .productions)) (nodesSection r (r .productions) ++ (joined (programsOf r) ++ (joined (stringsOf r) ++ trailerOf r))) (productions-length r 0 (r .productions)) productions-there
+  nodes-there : Here s (16 * length (tagsOf r) + 12 * length (r .productions)) (nodesSection r (r .productions) ++ (run-together (programsOf r) ++ (run-together (stringsOf r) ++ trailerOf r)))
+  nodes-there = here-behind s (16 * length (tagsOf r)) (12 * length (r .productions)) (productionsSection r 0 (r .productions)) (nodesSection r (r .productions) ++ (run-together (programsOf r) ++ (run-together (stringsOf r) ++ trailerOf r))) (productions-length r 0 (r .productions)) productions-there
 
-  programs-there : Here s (16 * length (tagsOf r) + 12 * length (r .productions) + 6 * nodesInAll (r .productions)) (joined (programsOf r) ++ (joined (stringsOf r) ++ trailerOf r))
-  programs-there = here-behind s (16 * length (tagsOf r) + 12 * length (r .productions)) (6 * nodesInAll (r .productions)) (nodesSection r (r .productions)) (joined (programsOf r) ++ (joined (stringsOf r) ++ trailerOf r)) (nodes-length r (r .productions)) nodes-there
+  programs-there : Here s (16 * length (tagsOf r) + 12 * length (r .productions) + 6 * nodesInAll (r .productions)) (run-together (programsOf r) ++ (run-together (stringsOf r) ++ trailerOf r))
+  programs-there = here-behind s (16 * length (tagsOf r) + 12 * length (r .productions)) (6 * nodesInAll (r .productions)) (nodesSection r (r .productions)) (run-together (programsOf r) ++ (run-together (stringsOf r) ++ trailerOf r)) (nodes-length r (r .productions)) nodes-there
 
-  strings-there : Here s (16 * length (tagsOf r) + 12 * length (r .productions) + 6 * nodesInAll (r .productions) + length (joined (programsOf r))) (joined (stringsOf r) ++ trailerOf r)
-  strings-there = here-behind s (16 * length (tagsOf r) + 12 * length (r .productions) + 6 * nodesInAll (r .productions)) (length (joined (programsOf r))) (joined (programsOf r)) (joined (stringsOf r) ++ trailerOf r) refl programs-there
+  strings-there : Here s (16 * length (tagsOf r) + 12 * length (r .productions) + 6 * nodesInAll (r .productions) + length (run-together (programsOf r))) (run-together (stringsOf r) ++ trailerOf r)
+  strings-there = here-behind s (16 * length (tagsOf r) + 12 * length (r .productions) + 6 * nodesInAll (r .productions)) (length (run-together (programsOf r))) (run-together (programsOf r)) (run-together (stringsOf r) ++ trailerOf r) refl programs-there
 
-  trailer-there : Here s (16 * length (tagsOf r) + 12 * length (r .productions) + 6 * nodesInAll (r .productions) + length (joined (programsOf r)) + length (joined (stringsOf r))) (trailerOf r)
-  trailer-there = here-behind s (16 * length (tagsOf r) + 12 * length (r .productions) + 6 * nodesInAll (r .productions) + length (joined (programsOf r))) (length (joined (stringsOf r))) (joined (stringsOf r)) (trailerOf r) refl strings-there
+  trailer-there : Here s (16 * length (tagsOf r) + 12 * length (r .productions) + 6 * nodesInAll (r .productions) + length (run-together (programsOf r)) + length (run-together (stringsOf r))) (trailerOf r)
+  trailer-there = here-behind s (16 * length (tagsOf r) + 12 * length (r .productions) + 6 * nodesInAll (r .productions) + length (run-together (programsOf r))) (length (run-together (stringsOf r))) (run-together (stringsOf r)) (trailerOf r) refl strings-there
 
-  counted : length s ≡ 16 * length (tagsOf r) + 12 * length (r .productions) + 6 * nodesInAll (r .productions) + length (joined (programsOf r)) + length (joined (stringsOf r)) + 24
+  counted : length s ≡ 16 * length (tagsOf r) + 12 * length (r .productions) + 6 * nodesInAll (r .productions) + length (run-together (programsOf r)) + length (run-together (stringsOf r)) + 24
   counted = ap length is ∙ simp length-append (omega (arith, tags-length (tagsOf r) (keeps .names), productions-length r 0 (r .productions), nodes-length r (r .productions)))
 
   trailer-at : Here s (length s - 24) (trailerOf r)
-  trailer-at = here-at s (16 * length (tagsOf r) + 12 * length (r .productions) + 6 * nodesInAll (r .productions) + length (joined (programsOf r)) + length (joined (stringsOf r))) (length s - 24) (trailerOf r) (omega (arith, counted)) trailer-there
+  trailer-at = here-at s (16 * length (tagsOf r) + 12 * length (r .productions) + 6 * nodesInAll (r .productions) + length (run-together (programsOf r)) + length (run-together (stringsOf r))) (length s - 24) (trailerOf r) (omega (arith, counted)) trailer-there
 
   tag-offset-is : tagOffset s ≡ 0
   tag-offset-is = here-word s (length s - 24) (trailerOf r) trailer-at 0 (omega arith) ∙ two-bytes (0)
@@ -180,14 +180,14 @@ module _ (r : Rules) (room : Room r) (keeps : SheetKeeps (sheetOf r)) (sound : A
   program-offset-is : programOffset s ≡ 16 * length (tagsOf r) + 12 * length (r .productions) + 6 * nodesInAll (r .productions)
   program-offset-is = here-word s (length s - 24) (trailerOf r) trailer-at 12 (omega arith) ∙ two-bytes (16 * length (tagsOf r) + 12 * length (r .productions) + 6 * nodesInAll (r .productions))
 
-  program-length-is : programLength s ≡ length (joined (programsOf r))
-  program-length-is = here-word s (length s - 24) (trailerOf r) trailer-at 14 (omega arith) ∙ two-bytes (length (joined (programsOf r)))
+  program-length-is : programLength s ≡ length (run-together (programsOf r))
+  program-length-is = here-word s (length s - 24) (trailerOf r) trailer-at 14 (omega arith) ∙ two-bytes (length (run-together (programsOf r)))
 
-  string-offset-is : stringOffset s ≡ 16 * length (tagsOf r) + 12 * length (r .productions) + 6 * nodesInAll (r .productions) + length (joined (programsOf r))
-  string-offset-is = here-word s (length s - 24) (trailerOf r) trailer-at 16 (omega arith) ∙ two-bytes (16 * length (tagsOf r) + 12 * length (r .productions) + 6 * nodesInAll (r .productions) + length (joined (programsOf r)))
+  string-offset-is : stringOffset s ≡ 16 * length (tagsOf r) + 12 * length (r .productions) + 6 * nodesInAll (r .productions) + length (run-together (programsOf r))
+  string-offset-is = here-word s (length s - 24) (trailerOf r) trailer-at 16 (omega arith) ∙ two-bytes (16 * length (tagsOf r) + 12 * length (r .productions) + 6 * nodesInAll (r .productions) + length (run-together (programsOf r)))
 
-  string-length-is : stringLength s ≡ length (joined (stringsOf r))
-  string-length-is = here-word s (length s - 24) (trailerOf r) trailer-at 18 (omega arith) ∙ two-bytes (length (joined (stringsOf r)))
+  string-length-is : stringLength s ≡ length (run-together (stringsOf r))
+  string-length-is = here-word s (length s - 24) (trailerOf r) trailer-at 18 (omega arith) ∙ two-bytes (length (run-together (stringsOf r)))
 
   start-is : start s ≡ r .start
   start-is = here-word s (length s - 24) (trailerOf r) trailer-at 20 (omega arith) ∙ two-bytes (r .start)
@@ -208,15 +208,15 @@ module _ (r : Rules) (room : Room r) (keeps : SheetKeeps (sheetOf r)) (sound : A
   noded : From (NodeIs s (storedPrograms r)) 0 (nodeCount s) (allVisits r (r .productions))
   noded = from-to (NodeIs s (storedPrograms r)) 0 (0 + nodesInAll (r .productions)) (nodeCount s) (allVisits r (r .productions)) (omega (arith, node-count-is)) (all-laid .2)
 
-  strings-are : joined (stringsOf r) ≡ stringsIn s
+  strings-are : run-together (stringsOf r) ≡ stringsIn s
   strings-are =
       sym (ap₂ (λ n o. take n (drop o s)) string-length-is string-offset-is
-      ∙ here-cut s (16 * length (tagsOf r) + 12 * length (r .productions) + 6 * nodesInAll (r .productions) + length (joined (programsOf r))) (length (joined (stringsOf r))) (joined (stringsOf r)) refl (here-front s _ (joined (stringsOf r)) (trailerOf r) strings-there))
+      ∙ here-cut s (16 * length (tagsOf r) + 12 * length (r .productions) + 6 * nodesInAll (r .productions) + length (run-together (programsOf r))) (length (run-together (stringsOf r))) (run-together (stringsOf r)) refl (here-front s _ (run-together (stringsOf r)) (trailerOf r) strings-there))
 
-  programs-fill : programsIn s ≡ joined (programsOf r)
+  programs-fill : programsIn s ≡ run-together (programsOf r)
   programs-fill =
       ap₂ (λ n o. take n (drop o s)) program-length-is program-offset-is
-      ∙ here-cut s (16 * length (tagsOf r) + 12 * length (r .productions) + 6 * nodesInAll (r .productions)) (length (joined (programsOf r))) (joined (programsOf r)) refl (here-front s _ (joined (programsOf r)) (joined (stringsOf r) ++ trailerOf r) programs-there)
+      ∙ here-cut s (16 * length (tagsOf r) + 12 * length (r .productions) + 6 * nodesInAll (r .productions)) (length (run-together (programsOf r))) (run-together (programsOf r)) refl (here-front s _ (run-together (programsOf r)) (run-together (stringsOf r) ++ trailerOf r) programs-there)
 
   named : From (TagAt s) 0 (tagCount s) (tagsOf r)
   named = from-to (TagAt s) 0 (0 + length (tagsOf r)) (tagCount s) (tagsOf r) (omega (arith, tag-count-is)) (tags-at s tag-offset-is 0 (tagsOf r) (keeps .names) (here-front s 0 (tagsSection (tagsOf r)) _ tags-there))

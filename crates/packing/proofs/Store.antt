@@ -13,7 +13,7 @@ use Rattle.programs.proofs.Agree.{program-agree}
 use Rattle.notation.specs.Program.{Statement, become, copy, recall, reject, print-start, print-end, print-text, echo, branch, Program, done, step}
 use Rattle.notation.specs.Rules.{Rules}
 use Rattle.encoding.specs.Mentions.{Mention, a-tag, a-string, a-program, inStatement, inProgram, inBraces, inRules, programsIn}
-use Rattle.encoding.specs.Distinct.{equal, has, added, distinct, offsetOf, joined}
+use Rattle.encoding.specs.Distinct.{equal, has, added, distinct, offsetOf, run-together}
 use Rattle.encoding.specs.Encoded.{programOf, bytesOfEach, programsOf, Room, maybe, sheetOf}
 use Rattle.encoding.specs.Keeps.{ProgramKeeps}
 use Rattle.encoding.proofs.Stored.{equal-true, or-parts, AllHad, distinct-all, Lies, lies}
@@ -45,7 +45,7 @@ chosen-all tags strings seen (p ∷ ps) h = on (has seen (programBytes p)) (chos
     on true i k = i
     on false i k = (h .0, k)
 
-joined-each : (ps : List SheetProgram) → backToBack ps ≡ joined (eachBytes ps)
+joined-each : (ps : List SheetProgram) → backToBack ps ≡ run-together (eachBytes ps)
 joined-each [] = refl
 joined-each (p ∷ ps) = ap (λ l. programBytes p ++ l) (joined-each ps)
 
@@ -80,8 +80,8 @@ pub stored-bytes : (r : Rules) → eachBytes (storedPrograms r) ≡ programsOf r
 unfolding storedPrograms
 stored-bytes r = chosen-bytes [] (sheetPrograms r (programsIn (inRules (r .productions)))) ∙ ap (added []) (each-bytes r (programsIn (inRules (r .productions))))
 
-pub stored-fill : (r : Rules) → backToBack (storedPrograms r) ≡ joined (programsOf r)
-stored-fill r = joined-each (storedPrograms r) ∙ ap joined (stored-bytes r)
+pub stored-fill : (r : Rules) → backToBack (storedPrograms r) ≡ run-together (programsOf r)
+stored-fill r = joined-each (storedPrograms r) ∙ ap run-together (stored-bytes r)
 
 -- what is mentioned is stored
 abbrev pub Holds : Rules → List Mention → Type 0

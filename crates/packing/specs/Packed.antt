@@ -9,7 +9,7 @@ use Rattle.sheet.specs.Tags.{tagRecord}
 use Rattle.notation.specs.Program.{Program}
 use Rattle.notation.specs.Rules.{Visits, Tree, node, Form, atom, cat, alt, star, contentOf, Rule, Rules}
 use Rattle.notation.specs.Limits.{nodesInAll}
-use Rattle.encoding.specs.Distinct.{placeOf, offsetOf, joined}
+use Rattle.encoding.specs.Distinct.{placeOf, offsetOf, run-together}
 use Rattle.encoding.specs.Encoded.{tagsOf, stringsOf, programsOf, programOf}
 
 -- a number of two bytes, little-endian, in front of others
@@ -87,8 +87,8 @@ trailer tags productions nodes programs strings start =
     (word start (word 0x5358 [])))))))))))
 
 abbrev pub trailerOf : Rules → List ℕ
-trailerOf r = trailer (length (tagsOf r)) (length (r .productions)) (nodesInAll (r .productions)) (length (joined (programsOf r))) (length (joined (stringsOf r))) (r .start)
+trailerOf r = trailer (length (tagsOf r)) (length (r .productions)) (nodesInAll (r .productions)) (length (run-together (programsOf r))) (length (run-together (stringsOf r))) (r .start)
 
 -- the sheet
 unfoldable pub sheetBytes : Rules → List ℕ
-sheetBytes r = tagsSection (tagsOf r) ++ (productionsSection r 0 (r .productions) ++ (nodesSection r (r .productions) ++ (joined (programsOf r) ++ (joined (stringsOf r) ++ trailerOf r))))
+sheetBytes r = tagsSection (tagsOf r) ++ (productionsSection r 0 (r .productions) ++ (nodesSection r (r .productions) ++ (run-together (programsOf r) ++ (run-together (stringsOf r) ++ trailerOf r))))

@@ -10,7 +10,7 @@ use Rattle.programs.specs.Limits.{Visit}
 use Rattle.notation.specs.Tokens.{Token}
 use Rattle.notation.specs.Conditions.{ConditionIs}
 use Rattle.reading.specs.Machine.{andThen, walk}
-use Rattle.reading.specs.Reads.{Ends, Reads}
+use Rattle.reading.specs.Reads.{Ends, ReadBy}
 use Rattle.reading.specs.Conditions.{partOf, fresh, disjoined, Reading, wants, compares, wants-other, after, stepPart, stepCondition, valueOf, finishedOf, conditions}
 use Rattle.reading.specs.Promises.{ConditionFits, ReadsConditions}
 use Rattle.reading.proofs.Telling.{none≢some, held-after}

@@ -10,7 +10,7 @@ use Rattle.notation.specs.Limits.{ContentWithin}
 use Rattle.notation.specs.Tokens.{Token}
 use Rattle.notation.specs.Productions.{ContentIs}
 use Rattle.reading.specs.Machine.{andThen, walk}
-use Rattle.reading.specs.Reads.{Ends, Reads}
+use Rattle.reading.specs.Reads.{Ends, ReadBy}
 use Rattle.reading.specs.Expressions.{Level, fresh, whole, fronted, sealed, around, Parsing, wants, in-front, after, behind, over, stepExpression, wholeValue, emptyValue, valueOfContent, shortestAt, finishedContent, contents}
 use Rattle.reading.specs.Promises.{ReadsContents}
 use Rattle.reading.proofs.Telling.{none≢some, held-after}

@@ -7,7 +7,7 @@ use native.Mathlib.Omega.{arith}
 use Rattle.notation.specs.Rules.{Rules}
 use Rattle.notation.specs.Tokens.{Token}
 use Rattle.reading.specs.Machine.{andThen, walk}
-use Rattle.reading.specs.Reads.{Reads}
+use Rattle.reading.specs.Reads.{ReadBy}
 use Rattle.reading.specs.Rules.{Progress, beginning, first-word, named, defined, own-front, wants-tag, tagged, within, closed, own-back, complete, stepRules, valueOfRules, finishedRules}
 use Rattle.reading.specs.Promises.{ReadsRules}
 use Rattle.reading.proofs.Telling.{none≢some, held-after}

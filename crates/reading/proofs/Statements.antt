@@ -10,7 +10,7 @@ use Rattle.notation.specs.Limits.{ProgramWithin}
 use Rattle.notation.specs.Tokens.{Token}
 use Rattle.notation.specs.Statements.{ListIs}
 use Rattle.reading.specs.Machine.{andThen, walk}
-use Rattle.reading.specs.Reads.{Ends, Reads}
+use Rattle.reading.specs.Reads.{Ends, ReadBy}
 use Rattle.reading.specs.Statements.{level, Level, Place, opening, separated, branching, Listing, wants, target, assigning, printing, testing, after, listed, around, stepStatements, emptyValue, wholeValue, valueOfList, shortestAt, finishedList, listStart, statements}
 use Rattle.reading.specs.Promises.{ReadsStatements}
 use Rattle.reading.proofs.Telling.{none≢some, held-after}

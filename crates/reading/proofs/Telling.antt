@@ -11,7 +11,7 @@ use lib.ListN.{length, take, drop, length-append}
 use lib.Seq.{take-at, take-length}
 use Rattle.notation.specs.Refusal.{GoesOn, RefusedAt, Told, written, refused}
 use Rattle.reading.specs.Machine.{Machine, andThen, walk, onlyWhere, next}
-use Rattle.reading.specs.Reads.{Limited, Ends, Reads}
+use Rattle.reading.specs.Reads.{Limited, Ends, ReadBy}
 use Rattle.reading.specs.Promises.{TellsAll, TakesWhatGoesOn, WritesOne}
 
 -- a step that was taken and one that was not differ
@@ -63,7 +63,7 @@ module _ {A S : Type 0} (step : S → A → Option S) (Held : S → List A → T
   pub held-after : (s z : S) (row : List A) → Held s [] → walk step s row ≡ some z → Held z row
   held-after s z row h e = subst (IfSome (λ y. Held y row)) e (held-walk s [] row h)
 
-module _ {A R : Type 0} (m : Machine A R) (Phrase : List A → R → Type 0) (Fits : R → Type 0) (fits : (r : R) → Dec (Fits r)) (reads : Reads m Phrase Fits) where
+module _ {A R : Type 0} (m : Machine A R) (Phrase : List A → R → Type 0) (Fits : R → Type 0) (fits : (r : R) → Dec (Fits r)) (reads : ReadBy m Phrase Fits) where
   -- a step with the limits
   pub next-is : (s s′ : m .State) (a : A) → m .step s a ≡ some s′ → Fits (m .finished s′) → next m fits s a ≡ some s′
   next-is s s′ a e f = ap (λ o. andThen o (λ s″. onlyWhere (fits (m .finished s″)) s″)) e ∙ go (fits (m .finished s′))

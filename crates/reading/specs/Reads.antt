@@ -16,7 +16,7 @@ pub record Ends {A R : Type 0} (m : Machine A R) (row : List A) (v : R) : Type 0
   pub walked : walk (m .step) (m .start) row ≡ some last
   pub told : m .value last ≡ some v
 
-pub record Reads {A R : Type 0} (m : Machine A R) (Phrase : List A → R → Type 0) (Fits : R → Type 0) : Type 0 where
+pub record ReadBy {A R : Type 0} (m : Machine A R) (Phrase : List A → R → Type 0) (Fits : R → Type 0) : Type 0 where
   pub complete : (row : List A) (v : R) → Phrase row v → Ends m row v
   pub sound : (row : List A) (s : m .State) (v : R) → walk (m .step) (m .start) row ≡ some s → m .value s ≡ some v → Phrase row v
   pub shortest : (row : List A) (s : m .State) → walk (m .step) (m .start) row ≡ some s → (rest : List A) × Phrase (row ++ rest) (m .finished s)

@@ -16,7 +16,7 @@ use Rattle.runs.specs.Parse.{Element, yield, size, depth, eval}
 use Rattle.runs.specs.Acts.{Act, visitsIn, Store, fresh-store, acts}
 use Rattle.runs.specs.Machine.{Control, before, after, State, acted, fresh-state, finished, stopped, answered, run, most}
 use Rattle.runs.specs.Line.{line}
-use Rattle.runs.specs.Taken.{Passed, Parsed, closed-with, Reached}
+use Rattle.runs.specs.Taken.{Passed, ParsedTo, closed-with, Reached}
 use Rattle.runs.proofs.Rules.{no-T, no-S}
 use Rattle.runs.proofs.Line.{line-eval}
 use Rattle.runs.proofs.Moves.{Moves, run-moves, run-through, run-stops, moves-run}
@@ -40,7 +40,7 @@ pub rejected : (s : Sheet) → Passed s → (t : Element (grammar s) (s .start-n
     (z : State) × (left : List Event) × (run s fresh-state (yield t) ≡ stopped 25 z left)
 rejected s ok t d e = run-stops (run s fresh-state (yield t)) 25 (run-tree s ok t d ∙ ap (λ (o : Option Env). acted after (kept-nothing o)) e)
 
-from-tree : (s : Sheet) → Passed s → (xs : List Event) (v : Env) → Parsed s xs v → run s fresh-state xs ≡ finished (closed-with v)
+from-tree : (s : Sheet) → Passed s → (xs : List Event) (v : Env) → ParsedTo s xs v → run s fresh-state xs ≡ finished (closed-with v)
 from-tree s ok xs v p =
     run-through (run s fresh-state xs) (closed-with v)
     (ap (λ (ys : List Event). answered (run s fresh-state ys)) (sym (p .are-events)) ∙ run-tree s ok (p .root) (p .fits)
@@ -52,7 +52,7 @@ kept-inv (some v) m e = (v, refl, (cc))
 
 -- a run that ends with the root closed has a tree. This needs neither rule
 pub to-tree : (s : Sheet) (xs : List Event) (z : State) → run s fresh-state xs ≡ finished z → z .control ≡ after →
-    (v : Env) × Parsed s xs v × (z ≡ closed-with v)
+    (v : Env) × ParsedTo s xs v × (z ≡ closed-with v)
 to-tree s xs z e c =
     let t = moves-run s before fresh-store xs z e in
     let o = sound (grammar s) (s .start-nonterminal) most (omega arith) xs (t .row)
@@ -67,12 +67,12 @@ env-of : (v v′ : Env) → closed-with v ≡ closed-with v′ → v ≡ v′
 env-of v v′ e = ap (λ (z : State). z .store .env) e
 
 -- demand 2
-pub taken-iff : (s : Sheet) → Passed s → (xs : List Event) (v : Env) → (run s fresh-state xs ≡ finished (closed-with v)) ↔ Parsed s xs v
+pub taken-iff : (s : Sheet) → Passed s → (xs : List Event) (v : Env) → (run s fresh-state xs ≡ finished (closed-with v)) ↔ ParsedTo s xs v
 taken-iff s ok xs v =
-    ((λ e. let t = to-tree s xs (closed-with v) e refl in subst (Parsed s xs) (sym (env-of v (t .0) (t .2))) (t .1)), from-tree s ok xs v)
+    ((λ e. let t = to-tree s xs (closed-with v) e refl in subst (ParsedTo s xs) (sym (env-of v (t .0) (t .2))) (t .1)), from-tree s ok xs v)
 
 -- the tree of a stream is one, and so is what it comes to
-pub parsed-one : (s : Sheet) → Passed s → (xs : List Event) (v v′ : Env) (p : Parsed s xs v) (p′ : Parsed s xs v′) → (p .root ≡ p′ .root) × (v ≡ v′)
+pub parsed-one : (s : Sheet) → Passed s → (xs : List Event) (v v′ : Env) (p : ParsedTo s xs v) (p′ : ParsedTo s xs v′) → (p .root ≡ p′ .root) × (v ≡ v′)
 parsed-one s ok xs v v′ p p′ =
     let t : p .root ≡ p′ .root =
     tree-one (grammar s) (s .start-nonterminal) (no-T (grammar s) (ok .keeps-T)) (no-S (grammar s) (ok .keeps-S)) (p .root) (p′ .root) (p .are-events ∙ sym (p′ .are-events)) in
@@ -80,7 +80,7 @@ parsed-one s ok xs v v′ p p′ =
     (t, (cc))
 
 -- the count of a stream that is taken is twice the number of nodes of its tree
-pub parsed-count : (s : Sheet) (xs : List Event) (v : Env) (p : Parsed s xs v) → v .count ≡ 2 * size (p .root)
+pub parsed-count : (s : Sheet) (xs : List Event) (v : Env) (p : ParsedTo s xs v) → v .count ≡ 2 * size (p .root)
 parsed-count s xs v p =
     let a : acts s (line (p .root)) fresh-store ≡ some (record { kept = []; env = v }) = line-eval (p .root) s [] fresh ∙ ap kept-nothing (p .value) in
     let h = acts-count s (line (p .root)) fresh-store (record { kept = []; env = v }) a in

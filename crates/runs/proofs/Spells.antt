@@ -20,7 +20,7 @@ use Rattle.runs.specs.Parse.{Element, element, Children, childless, chil
 use Rattle.runs.specs.Acts.{Act, node-first, node-second, start-tag, end-tag, letter-read, bracket-acts, Store, fresh-store, acts}
 use Rattle.runs.specs.Machine.{Open, Control, before, inside, after, Turn, refuse, go, outer, root-by, move, most, State, fresh-state, Answer, took, refused, acted, turned, step, Outcome, finished, stopped, onward, answered, run}
 use Rattle.runs.specs.Line.{line, lineC, lineP, linePs}
-use Rattle.runs.specs.Taken.{Passed, Parsed, closed-with, Allowed}
+use Rattle.runs.specs.Taken.{Passed, ParsedTo, closed-with, Allowed}
 use Rattle.runs.specs.Spells.{Token, start-token, end-token, empty-token, literal, reference, eventsOfToken, isBlank, blanksPass, Mark, mark, eventsOfMarks, marks, marksC, marksP, marksPs, Spells, all-read, blank-after, blank-between, one-event, empty-tag, Spelled, passesAt, unless-blank, stepToken, through, onward-token, runTokens}
 use Rattle.runs.specs.SoFar.{passing, rowMarks, rowPasses, SpelledSoFar, eventsSoFar, TokenRefused}
 use Rattle.runs.proofs.Rules.{no-T, no-S}
@@ -355,7 +355,7 @@ module _ (s : Sheet) where
       (spell-tokens h (f′ .next-state) z′ (f′ .later) p)
 
 -- the marks of a run over a tree's events are the tree's
-walks-marks : (s : Sheet) → Passed s → (v : Env) (ms : List Mark) → Walks s fresh-state ms (closed-with v) → (p : Parsed s (eventsOfMarks ms) v) → ms ≡ marks (p .root) true
+walks-marks : (s : Sheet) → Passed s → (v : Env) (ms : List Mark) → Walks s fresh-state ms (closed-with v) → (p : ParsedTo s (eventsOfMarks ms) v) → ms ≡ marks (p .root) true
 walks-marks s ok v ms w p =
     let t = walks-flags s w in
     let g : List Production = grammar s in
@@ -380,9 +380,9 @@ spelled-iff s ok ts v = (to, from)
 
     from : Spelled s ts v → runTokens s fresh-state ts ≡ through (closed-with v)
     from d =
-        let p : Parsed s (yield (d .root)) v = record { root = d .root; are-events = refl; fits = d .fits; value = d .value } in
+        let p : ParsedTo s (yield (d .root)) v = record { root = d .root; are-events = refl; fits = d .fits; value = d .value } in
         let w = run-walks s fresh-state (yield (d .root)) (closed-with v) (taken-iff s ok (yield (d .root)) v .1 p) in
-        let q : Parsed s (eventsOfMarks (w .0)) v = record { root = d .root; are-events = sym (w .2); fits = d .fits; value = d .value } in
+        let q : ParsedTo s (eventsOfMarks (w .0)) v = record { root = d .root; are-events = sym (w .2); fits = d .fits; value = d .value } in
         spell-tokens s (subst (λ (ms : List Mark). Spells true ms ts) (sym (walks-marks s ok v (w .0) (w .1) q)) (d .spells)) fresh-state (closed-with v) (w .1) refl
 
 -- tokens that are taken spell events that are taken, whether or not the root is closed

@@ -23,7 +23,7 @@ pub record Passed (s : Sheet) : Type 0 where
   pub keeps-S : KeepsS (grammar s)
 
 -- the events have a parse tree, no deeper than the limit, no step in it rejects, and v is what its attributes, echo, output and count come to
-pub record Parsed (s : Sheet) (xs : List Event) (v : Env) : Type 0 where
+pub record ParsedTo (s : Sheet) (xs : List Event) (v : Env) : Type 0 where
   pub root : Element (grammar s) (s .start-nonterminal)
   pub are-events : yield root ≡ xs
   pub fits : depth root ≤ most

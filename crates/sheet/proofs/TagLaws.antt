@@ -13,7 +13,7 @@ use Rattle.layout.specs.Layout.{tagCount}
 use Rattle.layout.specs.LaidOut.{LaidOut}
 use Rattle.layout.specs.declared.Layout.{Layout}
 use Rattle.sheet.specs.Tags.{tagBytes, TagAt, Tags}
-use Rattle.sheet.specs.TagTests.{Spells, New}
+use Rattle.sheet.specs.TagTests.{TagSpelled, New}
 use Rattle.tells.proofs.Laws.{as-told, both-told, bool-tells}
 
 -- every byte passes, by index
@@ -59,7 +59,7 @@ module _ (x y : ℕ) (r : List ℕ) (m : ℕ) (counted : x ≡ suc m) (inside : 
   fill-length : length (drop m r) ≡ 14 - m
   fill-length = simp length-drop (omega arith)
 
-  spells : Parts → (n : List ℕ) × Spells (x ∷ (y ∷ r)) n
+  spells : Parts → (n : List ℕ) × TagSpelled (x ∷ (y ∷ r)) n
   spells p = (
     y ∷ take m r,
     record {
@@ -74,7 +74,7 @@ module _ (x y : ℕ) (r : List ℕ) (m : ℕ) (counted : x ≡ suc m) (inside : 
     },
   )
 
-  parts : (n : List ℕ) → Spells (x ∷ (y ∷ r)) n → Parts
+  parts : (n : List ℕ) → TagSpelled (x ∷ (y ∷ r)) n → Parts
   parts [] s = absurd (s .a-name)
   parts (v ∷ n) s =
       let fill = zeros (15 - suc (length n)) in
@@ -91,7 +91,7 @@ module _ (x y : ℕ) (r : List ℕ) (m : ℕ) (counted : x ≡ suc m) (inside : 
         filled = ed ∙ ap zeros (sym (ap length ed ∙ length-replicate (15 - suc (length n)) 0));
       }
 
-  spells-told : {a z : Bool} → Tells (All nameByte (take m r)) a → Tells (drop m r ≡ replicate (length (drop m r)) 0) z → Tells ((n : List ℕ) × Spells (x ∷ (y ∷ r)) n) (nameFirst y && (a && z))
+  spells-told : {a z : Bool} → Tells (All nameByte (take m r)) a → Tells (drop m r ≡ replicate (length (drop m r)) 0) z → Tells ((n : List ℕ) × TagSpelled (x ∷ (y ∷ r)) n) (nameFirst y && (a && z))
   spells-told ta tz =
       as-told (λ p. spells (record { begins = p .0; goes-on = p .1 .0; filled = p .1 .1 })) (λ z. let p = parts (z .0) (z .1) in (p .begins, (p .goes-on, p .filled)))
       (both-told (bool-tells (nameFirst y)) (both-told ta tz))
@@ -101,7 +101,7 @@ pub tag-told :
     (b : List ℕ) → length b ≡ 16 → (n : ℕ) → n ≡ getD b 0 0 → 1 ≤ n → n ≤ 15 → {a z : Bool} →
     Tells (All nameByte (take (n + 1 - 2) (drop 2 b))) a →
     Tells (take (length b - (n + 1)) (drop (n + 1) b) ≡ replicate (length (take (length b - (n + 1)) (drop (n + 1) b))) 0) z →
-    Tells ((m : List ℕ) × Spells b m) (nameFirst (getD b 1 0) && (a && z))
+    Tells ((m : List ℕ) × TagSpelled b m) (nameFirst (getD b 1 0) && (a && z))
 tag-told [] l n e lo hi ta tz = absurd (omega arith)
 tag-told (x ∷ []) l n e lo hi ta tz = absurd (omega arith)
 tag-told (x ∷ (y ∷ r)) l n e lo hi ta tz =
@@ -114,16 +114,16 @@ tag-told (x ∷ (y ∷ r)) l n e lo hi ta tz =
     spells-told x y r m (omega arith) (omega arith) (omega arith) (rw j at ta) (rw w at tz)
 
 -- the first byte of a tag is the length of its name
-pub too-short : (b n : List ℕ) → Spells b n → getD b 0 0 < 1 → ⊥
+pub too-short : (b n : List ℕ) → TagSpelled b n → getD b 0 0 < 1 → ⊥
 too-short b [] s h = s .a-name
 too-short b (v ∷ n) s h = omega (arith, ap (λ (l : List ℕ). getD l 0 0) (s .spelled))
 
-pub too-long : (b n : List ℕ) → Spells b n → 15 < getD b 0 0 → ⊥
+pub too-long : (b n : List ℕ) → TagSpelled b n → 15 < getD b 0 0 → ⊥
 too-long b n s h = omega (arith, s .short, ap (λ (l : List ℕ). getD l 0 0) (s .spelled))
 
 -- number 3, tag by tag
 abbrev pub TagFits : List ℕ → ℕ → Type 0
-TagFits s t = ((n : List ℕ) × Spells (tagBytes s t) n) × New s t
+TagFits s t = ((n : List ℕ) × TagSpelled (tagBytes s t) n) × New s t
 
 pub tags-from : (s : List ℕ) → ((t : ℕ) → t < tagCount s → TagFits s t) → Tags s
 tags-from s h =

@@ -7,7 +7,7 @@ use Rattle.text.specs.Names.{Name}
 use Rattle.sheet.specs.Tags.{tagRecord, tagBytes}
 
 -- these are the bytes of a tag of that name
-pub record Spells (b n : List ℕ) : Type 0 where
+pub record TagSpelled (b n : List ℕ) : Type 0 where
   pub a-name : Name n
   pub short : length n ≤ 15
   pub spelled : b ≡ tagRecord n

@@ -8,7 +8,7 @@ ghost use Rattle.text.specs.Names.{All, nameByte};
 ghost use Rattle.tells.specs.Tells.{Tells};
 ghost use Rattle.layout.specs.LaidOut.{LaidOut};
 ghost use Rattle.sheet.specs.Tags.{Tags};
-ghost use Rattle.sheet.specs.TagTests.{Spells, New};
+ghost use Rattle.sheet.specs.TagTests.{TagSpelled, New};
 
 // The name after its first byte.
 fn all_name(f: &[u8]) -> bool
@@ -41,7 +41,7 @@ fn all_zero(f: &[u8]) -> bool
 // Whether 16 bytes are a tag's record.
 fn is_tag(b: &[u8]) -> bool
     requires { ⌜ length (now b) ≡ 16 ⌝ }
-    ensures { λ r. ⌜ Tells ((n : List ℕ) × Spells (now (b .entry)) n) r ⌝ }
+    ensures { λ r. ⌜ Tells ((n : List ℕ) × TagSpelled (now (b .entry)) n) r ⌝ }
 {
     let n = layout::byte_at(b, 0);
     if n < 1 {

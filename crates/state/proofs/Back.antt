@@ -16,7 +16,7 @@ use Rattle.state.specs.declared.Saved.{Saved}
 use Rattle.state.specs.declared.Frame.{Frame}
 use Rattle.state.specs.declared.State.{State}
 use Rattle.state.specs.Meaning.{All, none, more}
-use Rattle.state.specs.Bytes.{flag, numberBytes, number, joined, savedBytes, frameBytes, bytesOf}
+use Rattle.state.specs.Bytes.{flag, numberBytes, number, eachBytes, savedBytes, frameBytes, bytesOf}
 use Rattle.state.proofs.Written.{number-wide}
 use Rattle.layout.specs.Layout.{byteAt}
 use Rattle.state.specs.Bytes.{onAt, gathered, bytesAt, savedAt, frameAt, stateFrom, SizedSet, SizedFrame, Sized}
@@ -30,16 +30,16 @@ longer : (pre xs : List ℕ) (at w : ℕ) → length pre ≡ at → length xs �
 longer pre xs at w p q = length-append pre xs ∙ (cc)
 
 gathered-back : {X : Type 0} (f : X → List ℕ) (g : List ℕ → ℕ → X) (w : ℕ) (l : List X) → All (Back f g w) l →
-    (pre post : List ℕ) (at n : ℕ) → length pre ≡ at → length l ≡ n → gathered (g (pre ++ (joined f l ++ post))) w at n ≡ l
-unfolding gathered joined
+    (pre post : List ℕ) (at n : ℕ) → length pre ≡ at → length l ≡ n → gathered (g (pre ++ (eachBytes f l ++ post))) w at n ≡ l
+unfolding gathered eachBytes
 gathered-back f g w [] a pre post at zero p q = refl
 gathered-back f g w [] a pre post at (suc n) p q = absurd (omega arith)
 gathered-back f g w (x ∷ l) a pre post at zero p q = absurd (omega arith)
 gathered-back f g w (x ∷ l) (more b a) pre post at (suc n) p q =
-    let e : pre ++ ((f x ++ joined f l) ++ post) ≡ pre ++ (f x ++ (joined f l ++ post)) = ap (λ (r : List ℕ). pre ++ r) (append-assoc (f x) (joined f l) post) in
-    let h : g (pre ++ ((f x ++ joined f l) ++ post)) at ≡ x = rw e (b .same pre (joined f l ++ post) at p) in
-    let e′ : pre ++ ((f x ++ joined f l) ++ post) ≡ (pre ++ f x) ++ (joined f l ++ post) = e ∙ sym (append-assoc pre (f x) (joined f l ++ post)) in
-    let t : gathered (g (pre ++ ((f x ++ joined f l) ++ post))) w (at + w) n ≡ l =
+    let e : pre ++ ((f x ++ eachBytes f l) ++ post) ≡ pre ++ (f x ++ (eachBytes f l ++ post)) = ap (λ (r : List ℕ). pre ++ r) (append-assoc (f x) (eachBytes f l) post) in
+    let h : g (pre ++ ((f x ++ eachBytes f l) ++ post)) at ≡ x = rw e (b .same pre (eachBytes f l ++ post) at p) in
+    let e′ : pre ++ ((f x ++ eachBytes f l) ++ post) ≡ (pre ++ f x) ++ (eachBytes f l ++ post) = e ∙ sym (append-assoc pre (f x) (eachBytes f l ++ post)) in
+    let t : gathered (g (pre ++ ((f x ++ eachBytes f l) ++ post))) w (at + w) n ≡ l =
     rw e′ (gathered-back f g w l a (pre ++ f x) post (at + w) n (longer pre (f x) at w p (b .wide)) (omega arith)) in
     (cc)
 
@@ -51,8 +51,8 @@ byte-first : (pre ys : List ℕ) (at : ℕ) → length pre ≡ at → byteAt (pr
 byte-first pre ys at p = let e : at ≡ at + 0 = omega arith in rw e (byte-past pre ys at 0 p)
 
 -- bytes, a flag, a number
-joined-bytes : (l : List ℕ) → joined (λ (b : ℕ). b ∷ []) l ≡ l
-unfolding joined
+joined-bytes : (l : List ℕ) → eachBytes (λ (b : ℕ). b ∷ []) l ≡ l
+unfolding eachBytes
 joined-bytes [] = refl
 joined-bytes (b ∷ l) = ap (λ (r : List ℕ). b ∷ r) (joined-bytes l)
 
@@ -94,25 +94,25 @@ each-saved : {l : List Saved} → All SizedSet l → All (Back savedBytes savedA
 each-saved none = none
 each-saved (more h a) = more (saved-back _ h) (each-saved a)
 
-joined-wide : {X : Type 0} (f : X → List ℕ) (g : List ℕ → ℕ → X) (w : ℕ) (l : List X) → All (Back f g w) l → length (joined f l) ≡ w * length l
-unfolding joined
+joined-wide : {X : Type 0} (f : X → List ℕ) (g : List ℕ → ℕ → X) (w : ℕ) (l : List X) → All (Back f g w) l → length (eachBytes f l) ≡ w * length l
+unfolding eachBytes
 joined-wide f g w [] a = omega arith
-joined-wide f g w (x ∷ l) (more b a) = length-append (f x) (joined f l) ∙ rw (b .wide, joined-wide f g w l a, mul-suc) (omega arith)
+joined-wide f g w (x ∷ l) (more b a) = length-append (f x) (eachBytes f l) ∙ rw (b .wide, joined-wide f g w l a, mul-suc) (omega arith)
 
 pub frame-back : (f : Frame) → SizedFrame f → Back frameBytes frameAt frameWidth f
 unfolding frameBytes frameAt
 frame-back f h =
-    let w : length (joined savedBytes (f .saved)) ≡ setWidth * mostSets = joined-wide savedBytes savedAt setWidth (f .saved) (each-saved (h .sets)) ∙ rw (h .saved) in
+    let w : length (eachBytes savedBytes (f .saved)) ≡ setWidth * mostSets = joined-wide savedBytes savedAt setWidth (f .saved) (each-saved (h .sets)) ∙ rw (h .saved) in
     record {
       wide = rw w;
       same = λ pre post at p.
-          let b = pre ++ f .production ∷ f .place ∷ f .«open» ∷ (joined savedBytes (f .saved) ++ post) in
-          let ys = f .production ∷ f .place ∷ f .«open» ∷ (joined savedBytes (f .saved) ++ post) in
+          let b = pre ++ f .production ∷ f .place ∷ f .«open» ∷ (eachBytes savedBytes (f .saved) ++ post) in
+          let ys = f .production ∷ f .place ∷ f .«open» ∷ (eachBytes savedBytes (f .saved) ++ post) in
           let q : byteAt b at ≡ f .production = byte-first pre ys at p in
           let r : byteAt b (at + 1) ≡ f .place = byte-past pre ys at 1 p in
           let o : byteAt b (at + 2) ≡ f .«open» = byte-past pre ys at 2 p in
-          let e : b ≡ (pre ++ f .production ∷ f .place ∷ f .«open» ∷ []) ++ (joined savedBytes (f .saved) ++ post) =
-          sym (append-assoc pre (f .production ∷ f .place ∷ f .«open» ∷ []) (joined savedBytes (f .saved) ++ post)) in
+          let e : b ≡ (pre ++ f .production ∷ f .place ∷ f .«open» ∷ []) ++ (eachBytes savedBytes (f .saved) ++ post) =
+          sym (append-assoc pre (f .production ∷ f .place ∷ f .«open» ∷ []) (eachBytes savedBytes (f .saved) ++ post)) in
           let k : gathered (savedAt b) setWidth (at + 3) mostSets ≡ f .saved =
           rw e
           (gathered-back savedBytes savedAt setWidth (f .saved) (each-saved (h .sets)) (pre ++ f .production ∷ f .place ∷ f .«open» ∷ []) post (at + 3) mostSets
@@ -190,7 +190,7 @@ state-back s h =
     let v = s .values in
     let c = numberBytes 8 (s .count) in
     let d = numberBytes 8 (s .depth) in
-    let stack = joined frameBytes (s .frames) in
+    let stack = eachBytes frameBytes (s .frames) in
     let e = flag (s .echo) in
     let r = flag (s .rooted) in
     let n = s .closed in

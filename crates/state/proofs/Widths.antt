@@ -12,7 +12,7 @@ use Rattle.state.specs.declared.Frame.{Frame}
 use Rattle.state.specs.declared.State.{State}
 use Rattle.state.specs.Bounds.{mostSets, setWidth, frameWidth, headWidth, stackWidth, stateWidth}
 use Rattle.layout.specs.Layout.{byteAt}
-use Rattle.state.specs.Bytes.{flag, numberBytes, joined, frameBytes, bytesOf, bytesAt, gathered, savedAt, frameAt, stateFrom, SizedSet, SizedFrame}
+use Rattle.state.specs.Bytes.{flag, numberBytes, eachBytes, frameBytes, bytesOf, bytesAt, gathered, savedAt, frameAt, stateFrom, SizedSet, SizedFrame}
 use Rattle.state.specs.Changes.{freshState}
 use Rattle.state.specs.Meaning.{All, none, more}
 use Rattle.state.proofs.Written.{number-wide}
@@ -33,11 +33,11 @@ pub frame-read : (b : List ℕ) (at : ℕ) → SizedFrame (frameAt b at)
 unfolding frameAt
 frame-read b at = record { saved = length-gathered (savedAt b) setWidth (at + 3) mostSets; sets = all-read SizedSet (savedAt b) setWidth (set-read b) (at + 3) mostSets }
 
-frames-wide : (l : List Frame) → All SizedFrame l → length (joined frameBytes l) ≡ frameWidth * length l
-unfolding joined
+frames-wide : (l : List Frame) → All SizedFrame l → length (eachBytes frameBytes l) ≡ frameWidth * length l
+unfolding eachBytes
 frames-wide [] a = omega arith
 frames-wide (f ∷ l) (more h a) =
-    length-append (frameBytes f) (joined frameBytes l) ∙ rw (frame-back f h .wide, frames-wide l a, mul-suc) (omega arith)
+    length-append (frameBytes f) (eachBytes frameBytes l) ∙ rw (frame-back f h .wide, frames-wide l a, mul-suc) (omega arith)
 
 pub state-wide : (b : List ℕ) → length (bytesOf (stateFrom b)) ≡ stateWidth
 unfolding bytesOf stateFrom
@@ -46,7 +46,7 @@ state-wide b =
     let v : List ℕ = bytesAt b 0 attributes in
     let c : List ℕ = numberBytes 8 (stateFrom b .count) in
     let d : List ℕ = numberBytes 8 (stateFrom b .depth) in
-    let stack : List ℕ = joined frameBytes fs in
+    let stack : List ℕ = eachBytes frameBytes fs in
     let n : length stack ≡ stackWidth =
     frames-wide fs (all-read SizedFrame (frameAt b) frameWidth (frame-read b) headWidth most) ∙ ap (λ (m : ℕ). frameWidth * m) (length-gathered (frameAt b) frameWidth headWidth most) in
     let e : ℕ = flag (stateFrom b .echo) in

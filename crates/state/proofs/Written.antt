@@ -11,7 +11,7 @@ use lib.ListN.{length, length-append, getD, take}
 use lib.Seq.{take-suc, take-all}
 use Rattle.lent.specs.Put.{put, PutAs}
 use Rattle.lent.proofs.Laws.{put-append, put-none}
-use Rattle.state.specs.Bytes.{numberBytes, joined, Wrote}
+use Rattle.state.specs.Bytes.{numberBytes, eachBytes, Wrote}
 
 pub wrote-none : (d : List ℕ) (at : ℕ) → Wrote 0 d at [] d at
 wrote-none d at = record { next = omega arith; wide = refl; left = sym (put-none true d at) }
@@ -29,23 +29,23 @@ wrote-then {d = d} {at = at} {xs = xs} {ys = ys} {n = n} p q =
 pub wrote-put : {d : List ℕ} {at : ℕ} {xs d₁ : List ℕ} {n : ℕ} (w : ℕ) → length xs ≡ w → PutAs true d at xs d₁ n → Wrote w d at xs d₁ n
 wrote-put w e p = record { next = omega arith; wide = e; left = p .left }
 
-joined-snoc : {X : Type 0} (f : X → List ℕ) (l : List X) (x : X) → joined f (l ++ (x ∷ [])) ≡ joined f l ++ f x
-unfolding joined
+joined-snoc : {X : Type 0} (f : X → List ℕ) (l : List X) (x : X) → eachBytes f (l ++ (x ∷ [])) ≡ eachBytes f l ++ f x
+unfolding eachBytes
 joined-snoc f [] x = append-nil (f x)
-joined-snoc f (y ∷ l) x = ap (λ (r : List ℕ). f y ++ r) (joined-snoc f l x) ∙ sym (append-assoc (f y) (joined f l) (f x))
+joined-snoc f (y ∷ l) x = ap (λ (r : List ℕ). f y ++ r) (joined-snoc f l x) ∙ sym (append-assoc (f y) (eachBytes f l) (f x))
 
 -- one more of a list
 pub wrote-more : {X : Type 0} (f : X → List ℕ) (w : ℕ) (l : List X) (i : ℕ) (z : X) → i < length l → {d : List ℕ} {at : ℕ} {d₁ d₂ : List ℕ} {n m : ℕ} →
-    Wrote (w * i) d at (joined f (take i l)) d₁ n → Wrote w d₁ n (f (getD l i z)) d₂ m → Wrote (w * (i + 1)) d at (joined f (take (i + 1) l)) d₂ m
+    Wrote (w * i) d at (eachBytes f (take i l)) d₁ n → Wrote w d₁ n (f (getD l i z)) d₂ m → Wrote (w * (i + 1)) d at (eachBytes f (take (i + 1) l)) d₂ m
 wrote-more f w l i z h p q =
     rw (add-one, take-suc l i z h, joined-snoc f (take i l) (getD l i z), mul-suc) (wrote-then p q)
 
-pub wrote-start : {X : Type 0} (f : X → List ℕ) (w : ℕ) (l : List X) (d : List ℕ) (at : ℕ) → Wrote (w * 0) d at (joined f (take 0 l)) d at
-unfolding joined
+pub wrote-start : {X : Type 0} (f : X → List ℕ) (w : ℕ) (l : List X) (d : List ℕ) (at : ℕ) → Wrote (w * 0) d at (eachBytes f (take 0 l)) d at
+unfolding eachBytes
 wrote-start f w l d at = rw mul-zero (wrote-none d at)
 
 pub wrote-all : {X : Type 0} (f : X → List ℕ) (w : ℕ) (l : List X) (n i : ℕ) → length l ≡ n → i ≡ n → {d : List ℕ} {at : ℕ} {d₁ : List ℕ} {m : ℕ} →
-    Wrote (w * i) d at (joined f (take i l)) d₁ m → Wrote (w * n) d at (joined f l) d₁ m
+    Wrote (w * i) d at (eachBytes f (take i l)) d₁ m → Wrote (w * n) d at (eachBytes f l) d₁ m
 wrote-all f w l n i e g p = let h : take i l ≡ l = take-all i l (omega arith) in rw (← g, ← h) p
 
 -- one more byte of a number

@@ -42,22 +42,22 @@ number [] = 0
 number (b ∷ bs) = b + 256 * number bs
 
 -- one after another
-unfoldable pub joined : {X : Type 0} → (X → List ℕ) → List X → List ℕ
-joined f [] = []
-joined f (x ∷ xs) = f x ++ joined f xs
+unfoldable pub eachBytes : {X : Type 0} → (X → List ℕ) → List X → List ℕ
+eachBytes f [] = []
+eachBytes f (x ∷ xs) = f x ++ eachBytes f xs
 
 unfoldable pub savedBytes : Saved → List ℕ
 savedBytes k = k .values ++ flag (k .echo) ∷ []
 
 unfoldable pub frameBytes : Frame → List ℕ
-frameBytes f = f .production ∷ f .place ∷ f .«open» ∷ joined savedBytes (f .saved)
+frameBytes f = f .production ∷ f .place ∷ f .«open» ∷ eachBytes savedBytes (f .saved)
 
 unfoldable pub bytesOf : State → List ℕ
 bytesOf s =
     s .values ++
     flag (s .echo) ∷
     (numberBytes 8 (s .count) ++
-    flag (s .rooted) ∷ s .closed ∷ (numberBytes 8 (s .depth) ++ joined frameBytes (s .frames)))
+    flag (s .rooted) ∷ s .closed ∷ (numberBytes 8 (s .depth) ++ eachBytes frameBytes (s .frames)))
 
 -- what a function that writes `new`, of so many bytes, leaves of the memory, and answers: where the next byte goes
 pub record Wrote (width : ℕ) (memory : List ℕ) (at : ℕ) (new after : List ℕ) (r : ℕ) : Type 0 where
@@ -76,8 +76,8 @@ gathered f width at (suc n) = f at ∷ gathered f width (at + width) n
 abbrev pub bytesAt : List ℕ → ℕ → ℕ → List ℕ
 bytesAt b at n = gathered (byteAt b) 1 at n
 
-abbrev pub numberAt : List ℕ → ℕ → ℕ
-numberAt b at = number (bytesAt b at 8)
+abbrev pub longAt : List ℕ → ℕ → ℕ
+longAt b at = number (bytesAt b at 8)
 
 unfoldable pub savedAt : List ℕ → ℕ → Saved
 savedAt b at = record { values = bytesAt b at attributes; echo = onAt b (at + attributes) }
@@ -96,10 +96,10 @@ stateFrom b =
     record {
       values = bytesAt b 0 attributes;
       echo = onAt b attributes;
-      count = numberAt b countAt;
+      count = longAt b countAt;
       rooted = onAt b rootedAt;
       closed = byteAt b closedAt;
-      depth = numberAt b depthAt;
+      depth = longAt b depthAt;
       frames = gathered (frameAt b) frameWidth headWidth most;
     }
 

@@ -8,9 +8,9 @@ ghost use Prim.Native.Nat.{_+_, _*_, _<_, _^_};
 ghost use Rattle.runs.specs.Visits.{attributes};
 ghost use Rattle.runs.specs.Machine.{most};
 ghost use Rattle.state.specs.Bounds.{mostSets, setWidth, frameWidth, stackWidth, stateWidth};
-ghost use Rattle.state.specs.Bytes.{flag, numberBytes, savedBytes, joined, frameBytes, bytesOf, Wrote};
+ghost use Rattle.state.specs.Bytes.{flag, numberBytes, savedBytes, eachBytes, frameBytes, bytesOf, Wrote};
 ghost use Rattle.layout.specs.Layout.{byteAt};
-ghost use Rattle.state.specs.Bytes.{onAt, bytesAt, numberAt, savedAt, frameAt, gathered, stateFrom};
+ghost use Rattle.state.specs.Bytes.{onAt, bytesAt, longAt, savedAt, frameAt, gathered, stateFrom};
 
 // Where the parts of a state's head stand: echo follows the attributes.
 const COUNT: usize = State::ATTRIBUTES + 1;
@@ -72,7 +72,7 @@ fn put_saved(memory: &mut [u8], at: usize, kept: Saved) -> usize
 
 fn put_sets(memory: &mut [u8], at: usize, sets: [Saved; Frame::SETS]) -> usize
     requires { ⌜ at + setWidth * mostSets < 2 ^ 64 ⌝ }
-    ensures { λ r. ⌜ Wrote (setWidth * mostSets) (now (memory .entry)) at (joined savedBytes sets) (now (memory .exit)) r ⌝ }
+    ensures { λ r. ⌜ Wrote (setWidth * mostSets) (now (memory .entry)) at (eachBytes savedBytes sets) (now (memory .exit)) r ⌝ }
 {
     let mut next = at;
     let mut i = 0;
@@ -96,7 +96,7 @@ pub fn put_frame(memory: &mut [u8], at: usize, f: Frame) -> usize
 
 fn put_frames(memory: &mut [u8], at: usize, frames: [Frame; State::DEPTH]) -> usize
     requires { ⌜ at + stackWidth < 2 ^ 64 ⌝ }
-    ensures { λ r. ⌜ Wrote stackWidth (now (memory .entry)) at (joined frameBytes frames) (now (memory .exit)) r ⌝ }
+    ensures { λ r. ⌜ Wrote stackWidth (now (memory .entry)) at (eachBytes frameBytes frames) (now (memory .exit)) r ⌝ }
 {
     let mut next = at;
     let mut i = 0;
@@ -145,7 +145,7 @@ fn wide(b: u8) -> u64
 
 fn number_at(bytes: &[u8], at: usize) -> u64
     requires { ⌜ at + 8 < 2 ^ 64 ⌝ }
-    ensures { λ r. ⌜ r ≡ numberAt (now (bytes .entry)) at ⌝ }
+    ensures { λ r. ⌜ r ≡ longAt (now (bytes .entry)) at ⌝ }
 {
     let mut n: u64 = 0;
     let mut i: usize = 8;

@@ -15,7 +15,7 @@ use Rattle.text.specs.Names.{nameFirst, nameByte, blank, All, Name}
 use Rattle.text.proofs.Shapes.{cons≢[], shape1}
 use Rattle.text.proofs.Unique.{char-one}
 use Rattle.text.proofs.NameLaws.{name-all, blank-stops}
-use Rattle.notation.specs.Tokens.{Mark, plain, left, right, Token, nonterminal, value, attribute, name, start-tag, end-tag, empty-tag, string, word, Word, CHAR, ECHO, ECHO-OFF, REJECT, PRINT, IF, THEN, ELSE, BEGIN, END, AND, OR, NOT, sign, Sign, DEFINED, ASSIGNED, OPEN, CLOSE, BRACE, UNBRACE, DOT, BAR, STAR, SEMICOLON, EQUALS, decimal, escaped, escapedAll, bytesOf, TagName, StringOf}
+use Rattle.notation.specs.Tokens.{Mark, plain, left, right, Token, nonterminal, value, attribute, name, start-tag, end-tag, empty-tag, string, word, Word, CHAR, ECHO, ECHO-OFF, REJECT, PRINT, IF, THEN, ELSE, BEGIN, END, AND, OR, NOT, sign, Sign, DEFINED, ASSIGNED, OPEN, CLOSE, BRACE, UNBRACE, DOT, BAR, STAR, SEMICOLON, EQUALS, decimal, in-quotes, all-in-quotes, bytesOf, TagName, StringOf}
 use Rattle.notation.specs.Spelled.{wordByte, joins, MayFollow}
 use Rattle.telling.proofs.Acceptable.{Proper}
 
@@ -242,11 +242,11 @@ abbrev unescaped : ℕ → ℕ
 unescaped k = cond (eqb k 116) 9 (cond (eqb k 110) 10 (cond (eqb k 114) 13 k))
 
 data Form (c : ℕ) : Type 0 where
-  by-escape : (k : ℕ) → escaped c ≡ 92 ∷ k ∷ [] → c ≡ unescaped k → Form c
-  as-itself : escaped c ≡ utf8 c → (c ≡ 92 → ⊥) → (c ≡ 34 → ⊥) → Form c
+  by-escape : (k : ℕ) → in-quotes c ≡ 92 ∷ k ∷ [] → c ≡ unescaped k → Form c
+  as-itself : in-quotes c ≡ utf8 c → (c ≡ 92 → ⊥) → (c ≡ 34 → ⊥) → Form c
 
 form : (c : ℕ) → Form c
-unfolding escaped
+unfolding in-quotes
 form c = on (ℕ-discrete c 34) (ℕ-discrete c 92) (ℕ-discrete c 9) (ℕ-discrete c 10) (ℕ-discrete c 13)
   where
     on : Dec (c ≡ 34) → Dec (c ≡ 92) → Dec (c ≡ 9) → Dec (c ≡ 10) → Dec (c ≡ 13) → Form c
@@ -260,7 +260,7 @@ form c = on (ℕ-discrete c 34) (ℕ-discrete c 92) (ℕ-discrete c 9) (ℕ-disc
 escape-apart : (c k : ℕ) (u v : List ℕ) → (c ≡ 92 → ⊥) → 92 ∷ k ∷ u ≡ utf8 c ++ v → ⊥
 escape-apart c k u v n e = n (sym (char-one 92 c (k ∷ u) v (ap (λ l. l ++ k ∷ u) (shape1 92 (omega arith)) ∙ e)))
 
-escaped-one : (c d : ℕ) (u v : List ℕ) → escaped c ++ u ≡ escaped d ++ v → c ≡ d
+escaped-one : (c d : ℕ) (u v : List ℕ) → in-quotes c ++ u ≡ in-quotes d ++ v → c ≡ d
 escaped-one c d u v e = on (form c) (form d)
   where
     on : Form c → Form d → c ≡ d
@@ -271,23 +271,23 @@ escaped-one c d u v e = on (form c) (form d)
     on (as-itself i n m) (by-escape l i′ j′) = absurd (escape-apart c l v u n (sym (ap (λ x. x ++ v) i′) ∙ sym e ∙ ap (λ x. x ++ u) i))
     on (as-itself i n m) (as-itself i′ n′ m′) = char-one c d u v (sym (ap (λ x. x ++ u) i) ∙ e ∙ ap (λ x. x ++ v) i′)
 
-no-quote : (c : ℕ) (u v : List ℕ) → escaped c ++ u ≡ 34 ∷ v → ⊥
+no-quote : (c : ℕ) (u v : List ℕ) → in-quotes c ++ u ≡ 34 ∷ v → ⊥
 no-quote c u v e = on (form c)
   where
     on : Form c → ⊥
     on (by-escape k i j) = let z : _≡_ {A = ℕ} 92 34 = head-eq-of-cons-eq (sym (ap (λ x. x ++ u) i) ∙ e) in omega arith
     on (as-itself i n m) = m (char-one c 34 u v (sym (ap (λ x. x ++ u) i) ∙ e ∙ sym (ap (λ l. l ++ v) (shape1 34 (omega arith)))))
 
-pub same-string : (cs ds r q : List ℕ) → (escapedAll cs ++ 34 ∷ []) ++ r ≡ (escapedAll ds ++ 34 ∷ []) ++ q → cs ≡ ds
+pub same-string : (cs ds r q : List ℕ) → (all-in-quotes cs ++ 34 ∷ []) ++ r ≡ (all-in-quotes ds ++ 34 ∷ []) ++ q → cs ≡ ds
 same-string [] [] r q e = refl
-same-string [] (d ∷ ds) r q e = absurd (no-quote d ((escapedAll ds ++ 34 ∷ []) ++ q) r (sym (e ∙ ap (λ l. l ++ q) (append-assoc (escaped d) (escapedAll ds) (34 ∷ [])) ∙ append-assoc (escaped d) (escapedAll ds ++ 34 ∷ []) q)))
-same-string (c ∷ cs) [] r q e = absurd (no-quote c ((escapedAll cs ++ 34 ∷ []) ++ r) q (sym (ap (λ l. l ++ r) (append-assoc (escaped c) (escapedAll cs) (34 ∷ [])) ∙ append-assoc (escaped c) (escapedAll cs ++ 34 ∷ []) r) ∙ e))
+same-string [] (d ∷ ds) r q e = absurd (no-quote d ((all-in-quotes ds ++ 34 ∷ []) ++ q) r (sym (e ∙ ap (λ l. l ++ q) (append-assoc (in-quotes d) (all-in-quotes ds) (34 ∷ [])) ∙ append-assoc (in-quotes d) (all-in-quotes ds ++ 34 ∷ []) q)))
+same-string (c ∷ cs) [] r q e = absurd (no-quote c ((all-in-quotes cs ++ 34 ∷ []) ++ r) q (sym (ap (λ l. l ++ r) (append-assoc (in-quotes c) (all-in-quotes cs) (34 ∷ [])) ∙ append-assoc (in-quotes c) (all-in-quotes cs ++ 34 ∷ []) r) ∙ e))
 same-string (c ∷ cs) (d ∷ ds) r q e =
-    let f : escaped c ++ ((escapedAll cs ++ 34 ∷ []) ++ r) ≡ escaped d ++ ((escapedAll ds ++ 34 ∷ []) ++ q) =
-    sym (ap (λ l. l ++ r) (append-assoc (escaped c) (escapedAll cs) (34 ∷ [])) ∙ append-assoc (escaped c) (escapedAll cs ++ 34 ∷ []) r) ∙ e
-    ∙ (ap (λ l. l ++ q) (append-assoc (escaped d) (escapedAll ds) (34 ∷ [])) ∙ append-assoc (escaped d) (escapedAll ds ++ 34 ∷ []) q) in
-    let same : c ≡ d = escaped-one c d ((escapedAll cs ++ 34 ∷ []) ++ r) ((escapedAll ds ++ 34 ∷ []) ++ q) f in
-    let g = append-cancel-left (escaped d) ((escapedAll cs ++ 34 ∷ []) ++ r) ((escapedAll ds ++ 34 ∷ []) ++ q) (ap (λ x. escaped x ++ ((escapedAll cs ++ 34 ∷ []) ++ r)) (sym same) ∙ f) in
+    let f : in-quotes c ++ ((all-in-quotes cs ++ 34 ∷ []) ++ r) ≡ in-quotes d ++ ((all-in-quotes ds ++ 34 ∷ []) ++ q) =
+    sym (ap (λ l. l ++ r) (append-assoc (in-quotes c) (all-in-quotes cs) (34 ∷ [])) ∙ append-assoc (in-quotes c) (all-in-quotes cs ++ 34 ∷ []) r) ∙ e
+    ∙ (ap (λ l. l ++ q) (append-assoc (in-quotes d) (all-in-quotes ds) (34 ∷ [])) ∙ append-assoc (in-quotes d) (all-in-quotes ds ++ 34 ∷ []) q) in
+    let same : c ≡ d = escaped-one c d ((all-in-quotes cs ++ 34 ∷ []) ++ r) ((all-in-quotes ds ++ 34 ∷ []) ++ q) f in
+    let g = append-cancel-left (in-quotes d) ((all-in-quotes cs ++ 34 ∷ []) ++ r) ((all-in-quotes ds ++ 34 ∷ []) ++ q) (ap (λ x. in-quotes x ++ ((all-in-quotes cs ++ 34 ∷ []) ++ r)) (sym same) ∙ f) in
     let more = same-string cs ds r q g in
     cc
 
@@ -385,6 +385,6 @@ solid (name n) h = name-solid n (h .a-name)
 solid (start-tag n) h = solid-at 60 (n ++ 62 ∷ []) refl (λ e. omega arith)
 solid (end-tag n) h = solid-at 60 (47 ∷ (n ++ 62 ∷ [])) refl (λ e. omega arith)
 solid (empty-tag n) h = solid-at 60 (n ++ 47 ∷ 62 ∷ []) refl (λ e. omega arith)
-solid (string cs) h = solid-at 34 (escapedAll cs ++ 34 ∷ []) refl (λ e. omega arith)
+solid (string cs) h = solid-at 34 (all-in-quotes cs ++ 34 ∷ []) refl (λ e. omega arith)
 solid (word w) h = word-solid w
 solid (sign s) h = sign-solid s

@@ -15,7 +15,7 @@ use Rattle.runs.specs.Machine.{Control, State}
 use Rattle.calls.specs.Names.{tokenOf}
 use Rattle.calls.specs.Limits.{Taking, taken, refuses, no-room, oneToken}
 use Rattle.calls.specs.Held.{Held, handed}
-use Rattle.calls.specs.Call.{Result, stopped, after-writing, roomLeft, numberAt, Stop, stops, full, no-token, Runs, takes, halts, again, CalledBy, Called}
+use Rattle.calls.specs.Call.{Result, stopped-at, after-writing, roomLeft, numberAt, Stop, stops, full, no-token, Runs, takes, halts, again, CalledBy, Called}
 use Rattle.widening.specs.CallByCall.{Asked, Heard, heard, CallByCall, no-call, call, fresh-in}
 use Rattle.widening.proofs.Alike.{zeros-alike, no-row}
 use Rattle.widening.proofs.Acts.{AllFitIn}
@@ -71,7 +71,7 @@ module _ (a : Sheet) (b : Bounds) (keeps : AllFitIn b a) where
           record { number = i .2 .number; taken = i .2 .taken; output = ap (λ (l : List ℕ). w ++ l) (i .2 .output); held = i .2 .held },
         )
     runs-alike z′ h (halts {at = at} {z = z} {n = n} s) =
-        (stopped n at z′, halts (stop-alike z′ h s), record { number = refl; taken = refl; output = refl; held = record { run = h; closing = refl } })
+        (stopped-at n at z′, halts (stop-alike z′ h s), record { number = refl; taken = refl; output = refl; held = record { run = h; closing = refl } })
 
     called-by : (room : ℕ) (z z′ : State) → States top z z′ → (c : Option ℕ) (r : Result) → CalledBy a part more room z c r →
         (r′ : Result) × CalledBy a part more room z′ c r′ × Results top r r′

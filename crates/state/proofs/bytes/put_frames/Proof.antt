@@ -6,7 +6,7 @@ use Rattle.state.proofs.Written.{wrote-start, wrote-more, wrote-all}
 use Prim.Native.Nat.{_*_, _-_, _≤_}
 use native.Mathlib.Omega.{arith}
 use lib.ListN.{length, take}
-use Rattle.state.specs.Bytes.{Wrote, joined, frameBytes}
+use Rattle.state.specs.Bytes.{Wrote, eachBytes, frameBytes}
 use Rattle.state.proofs.Laws.{length-mapped}
 use borrow.Author.Needs.{needs}
 use Rattle.state.proofs.bytes.put_frames.Statement.{statement}
@@ -16,7 +16,7 @@ use Rattle.state.proofs.bytes.put_frames.Lts as lts
 use Rattle.state.proofs.bytes.put_frame.Reads as put-frame-reads
 
 abbrev Inv-loop : tie.InvT-loop
-Inv-loop memory₀ at frames next₀ i₀ memory next i = (i ≤ most) × (length memory ≡ length memory₀) × Wrote (frameWidth * i) memory₀ at (joined frameBytes (take i frames)) memory next
+Inv-loop memory₀ at frames next₀ i₀ memory next i = (i ≤ most) × (length memory ≡ length memory₀) × Wrote (frameWidth * i) memory₀ at (eachBytes frameBytes (take i frames)) memory next
 
 abbrev μ-loop : tie.MeasureT-loop
 μ-loop memory₀ at frames next₀ i₀ memory next i = most - i

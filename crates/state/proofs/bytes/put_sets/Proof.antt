@@ -5,7 +5,7 @@ use Rattle.state.proofs.Written.{wrote-start, wrote-more, wrote-all}
 use Prim.Native.Nat.{_*_, _-_, _≤_}
 use native.Mathlib.Omega.{arith}
 use lib.ListN.{length, take}
-use Rattle.state.specs.Bytes.{Wrote, joined, savedBytes}
+use Rattle.state.specs.Bytes.{Wrote, eachBytes, savedBytes}
 use Rattle.state.proofs.Laws.{length-mapped}
 use borrow.Author.Needs.{needs}
 use Rattle.state.proofs.bytes.put_sets.Statement.{statement}
@@ -15,7 +15,7 @@ use Rattle.state.proofs.bytes.put_sets.Lts as lts
 use Rattle.state.proofs.bytes.put_saved.Reads as put-saved-reads
 
 abbrev Inv-loop : tie.InvT-loop
-Inv-loop memory₀ at sets next₀ i₀ memory next i = (i ≤ mostSets) × (length memory ≡ length memory₀) × Wrote (setWidth * i) memory₀ at (joined savedBytes (take i sets)) memory next
+Inv-loop memory₀ at sets next₀ i₀ memory next i = (i ≤ mostSets) × (length memory ≡ length memory₀) × Wrote (setWidth * i) memory₀ at (eachBytes savedBytes (take i sets)) memory next
 
 abbrev μ-loop : tie.MeasureT-loop
 μ-loop memory₀ at sets next₀ i₀ memory next i = mostSets - i
