@@ -1,5 +1,6 @@
 pub mod Strings
 pub mod Holds
+pub mod Passes
 pub mod Spots
 pub mod Atoms
 pub mod Throughs

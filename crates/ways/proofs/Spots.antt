@@ -8,14 +8,15 @@ use native.Mathlib.Numerals.{add-one}
 use Rattle.expressions.specs.Expr.{Atom, Exp, atom, cat, alt, star, empty, nonterminal, anychar, nodes, atoms}
 use Rattle.layout.specs.Layout.{nodeCount}
 use Rattle.layout.specs.Records.{kindOf}
-use Rattle.trees.specs.declared.Tally.{Tally}
 use Rattle.trees.specs.Trees.{TreeAt}
-use Rattle.trees.specs.Tally.{TreeIn, Tallied}
+use Rattle.trees.specs.Tally.{TreeIn}
 use Rattle.trees.proofs.Tallies.{few-atoms}
 use Rattle.trees.proofs.Unique.{nodes-pos}
 use Rattle.ways.specs.declared.Spot.{Spot}
 use Rattle.ways.specs.declared.Parts.{Parts}
+use Rattle.ways.specs.declared.Passing.{Passing}
 use Rattle.ways.specs.Spot.{At, SpotIn, PartOf, PartsOf}
+use Rattle.ways.specs.Past.{PassedBy}
 
 -- for a concatenation, or a union, of any two parts that stand behind the first node
 abbrev Two : List ℕ → Spot → (Exp → Type 0) → (Exp → Exp → Exp) → Type 0
@@ -100,19 +101,19 @@ module _ (s : List ℕ) (t : Spot) (low : 3 ≤ kindOf s (t .node)) (high : kind
   two-in h = two-of (h .expression) (h .stands) (h .nodes-are)
 
   -- what the walk over the first asks
-  pub first-tree : SpotIn s t → TreeIn s (t .node + 1) (t .nodes - 1) 0
-  first-tree h =
+  pub first-tree : SpotIn s t → nodeCount s ≤ 256 → TreeIn s (t .node + 1) 256 0
+  first-tree h small =
       let v = two-in h in
-      record { expression = v .left; stands = rw add-one (v .left-stands); few = omega (arith, v .all); inside = omega (arith, v .all); number = omega arith }
+      record { expression = v .left; stands = rw add-one (v .left-stands); few = omega (arith, v .all, h .inside); inside = omega (arith, v .all, h .inside); number = omega arith }
 
-  module _ (h : SpotIn s t) (p : ℕ) (w : Tally) (passed : Tallied s p (t .node + 1) 0 w) where
+  module _ (h : SpotIn s t) (w : Passing) (passed : PassedBy s (t .node + 1) w) where
     -- and what it tells
     pub record Passed : Type 0 where
-      pub next-is : w .next ≡ suc (t .node) + nodes (two-in h .left)
-      pub atom-is : w .atom ≡ atoms (two-in h .left)
-      pub room : w .next + 1 ≤ t .node + t .nodes
-      pub past : t .node + 2 ≤ w .next
-      pub few : w .atom + t .node + 1 ≤ w .next
+      pub next-is : w .node ≡ suc (t .node) + nodes (two-in h .left)
+      pub atom-is : w .atoms ≡ atoms (two-in h .left)
+      pub room : w .node + 1 ≤ t .node + t .nodes
+      pub past : t .node + 2 ≤ w .node
+      pub few : w .atoms + t .node + 1 ≤ w .node
 
     pub passed-by : Passed
     passed-by =
@@ -126,9 +127,9 @@ module _ (s : List ℕ) (t : Spot) (low : 3 ≤ kindOf s (t .node)) (high : kind
           few = omega (arith, m, few-atoms (v .left));
         }
 
-    module _ (r : Parts) (nodes-1 : r .first .nodes ≡ w .next - (t .node + 1)) (node-1 : r .first .node ≡ t .node + 1) (bracket-1 : r .first .bracket ≡ t .bracket + 1)
-        (atom-1 : r .first .atom ≡ t .atom) (nodes-2 : r .second .nodes ≡ t .nodes - 1 - (w .next - (t .node + 1))) (node-2 : r .second .node ≡ w .next)
-        (bracket-2 : r .second .bracket ≡ t .bracket + 1 + (w .next - (t .node + 1))) (atom-2 : r .second .atom ≡ t .atom + w .atom) where
+    module _ (r : Parts) (nodes-1 : r .first .nodes ≡ w .node - (t .node + 1)) (node-1 : r .first .node ≡ t .node + 1) (bracket-1 : r .first .bracket ≡ t .bracket + 1)
+        (atom-1 : r .first .atom ≡ t .atom) (nodes-2 : r .second .nodes ≡ t .nodes - 1 - (w .node - (t .node + 1))) (node-2 : r .second .node ≡ w .node)
+        (bracket-2 : r .second .bracket ≡ t .bracket + 1 + (w .node - (t .node + 1))) (atom-2 : r .second .atom ≡ t .atom + w .atoms) where
       first-in : SpotIn s (r .first)
       first-in =
           let v = two-in h in

@@ -1,4 +1,5 @@
 pub mod Held
 pub mod Spot
+pub mod Past
 pub mod Walks
 pub mod Answers

@@ -9,7 +9,9 @@ ghost use Rattle.layout.specs.Records.{kindOf, nodeCountOf};
 ghost use Rattle.trees.specs.Trees.{Trees};
 ghost use Rattle.trees.specs.Parsed.{RunsInside};
 ghost use Rattle.ways.specs.Held.{lineIn, wayIn, Missing, MissingWay, Pushed, Bracketed};
+ghost use Rattle.trees.specs.Tally.{TreeIn};
 ghost use Rattle.ways.specs.Spot.{SpotIn, PartOf, PartsOf};
+ghost use Rattle.ways.specs.Past.{OneOn, PassedBy};
 ghost use Rattle.ways.specs.Walks.{CanIs, AtomWay, Through, Into, IfJoined, OutOf, Across};
 ghost use Rattle.few.specs.Strings.{mostBrackets};
 ghost use Rattle.ways.specs.Answers.{mostTried, FollowsS, EndWayIs, AtomWayIs, Told, WayAs};
@@ -21,7 +23,6 @@ use layout::node_count_of;
 use trees::Symbol;
 use trees::can_be;
 use trees::is_character;
-use trees::walk_tree;
 
 // The most brackets of a way in a sheet that passes: two for each of a production's nodes.
 pub const MOST: usize = 64;
@@ -53,6 +54,13 @@ pub struct Spot {
 pub struct Parts {
     pub first: Spot,
     pub second: Spot,
+}
+
+// On the way past a tree: the next node, the atoms so far, and how many trees are left to pass.
+pub struct Passing {
+    pub node: usize,
+    pub atoms: usize,
+    pub left: usize,
 }
 
 // No string: what stands in the lent bytes stays.
@@ -129,7 +137,54 @@ fn part(t: Spot) -> Spot
     }
 }
 
-// The trees behind a concatenation or a union: a walk over the first tells where the second stands.
+// One node further: an atom is the last of a tree, a concatenation or a union has one tree more.
+fn one_on(w: Passing, kind: usize) -> Passing
+    requires { ⌜ 1 ≤ w .left ⌝ }
+    requires { ⌜ w .node + w .left ≤ 256 ⌝ }
+    requires { ⌜ w .atoms ≤ w .node ⌝ }
+    ensures { λ r. ⌜ OneOn kind w r ⌝ }
+{
+    let next = w.node + 1;
+    if kind < 3 {
+        return Passing {
+            node: next,
+            atoms: w.atoms + 1,
+            left: w.left - 1,
+        };
+    }
+    if kind > 4 {
+        return Passing {
+            node: next,
+            atoms: w.atoms,
+            left: w.left,
+        };
+    }
+    Passing {
+        node: next,
+        atoms: w.atoms,
+        left: w.left + 1,
+    }
+}
+
+// Past the tree at node `at`, node by node until none is left of it.
+fn pass_tree(s: &[u8], l: Layout, at: usize) -> Passing
+    requires { ⌜ LaidOut (now s) l ⌝ }
+    requires { ⌜ TreeIn (now s) at 256 0 ⌝ }
+    ensures { λ r. ⌜ PassedBy (now (s .entry)) at r ⌝ }
+{
+    let mut w = Passing {
+        node: at,
+        atoms: 0,
+        left: 1,
+    };
+    while w.left > 0 {
+        let kind = kind_of(s, l, w.node);
+        w = one_on(w, kind);
+    }
+    w
+}
+
+// The trees behind a concatenation or a union: passing the first tells where the second stands.
 fn parts_of(s: &[u8], l: Layout, t: Spot) -> Parts
     requires { ⌜ LaidOut (now s) l ⌝ }
     requires { ⌜ SpotIn (now s) t ⌝ }
@@ -138,8 +193,8 @@ fn parts_of(s: &[u8], l: Layout, t: Spot) -> Parts
     ensures { λ r. ⌜ PartsOf (now (s .entry)) t r ⌝ }
 {
     let at = t.node + 1;
-    let passed = walk_tree(s, l, 0, at, t.nodes - 1, 0);
-    let past = passed.next;
+    let passed = pass_tree(s, l, at);
+    let past = passed.node;
     let nodes = past - at;
     let first = Spot {
         node: at,
@@ -151,7 +206,7 @@ fn parts_of(s: &[u8], l: Layout, t: Spot) -> Parts
         node: past,
         nodes: t.nodes - 1 - nodes,
         bracket: t.bracket + 1 + nodes,
-        atom: t.atom + passed.atom,
+        atom: t.atom + passed.atoms,
     };
     Parts {
         first: first,
