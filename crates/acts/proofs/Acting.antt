@@ -8,7 +8,7 @@ use mathlib.Core.Option.{Option, none, some}
 use Prim.Native.Nat.{ℕ, suc, _+_, _≤_, _<_}
 use native.Mathlib.Omega.{arith}
 use native.Mathlib.Numerals.{add-one}
-use lib.Dec.{eqb, ltb}
+use lib.Dec.{eqb}
 use Rattle.lent.specs.Put.{PutAs}
 use Rattle.programs.specs.Limits.{second}
 use Rattle.sheet.specs.Sheet.{Sheet, IsSheet}
@@ -21,13 +21,12 @@ use Rattle.runs.specs.Visits.{programsOf, performed, tagName, whileOn, Env as R
 use Rattle.runs.specs.Acts.{letter-read, Store, innermost, without-node, without-element, act}
 use Rattle.runs.specs.Machine.{Open, inside, outer, at-start, State as Run}
 use Rattle.calls.specs.Limits.{silent}
-use Rattle.state.specs.Changes.{topOf, started, pushed, popped, restored, withEnv}
-use Rattle.state.specs.Meaning.{meaningOf, opensOf, Shaped}
+use Rattle.state.specs.Changes.{topOf, started, pushed, popped, Restored, restored, withEnv}
+use Rattle.state.specs.Meaning.{meaningOf, opensOf, Fits, Shaped}
 use Rattle.state.specs.declared.Saved.{Saved}
 use Rattle.state.specs.declared.Frame.{Frame}
-use Rattle.state.specs.declared.Restored.{Restored}
 use Rattle.state.specs.declared.State.{State}
-use Rattle.state.proofs.Meant.{inside-open, meaning-pushed, meaning-popped, meaning-restored, shaped-pushed, fits-started, shaped-env, shaped-popped, shaped-restored}
+use Rattle.state.proofs.Meant.{inside-open, meaning-pushed, meaning-popped, meaning-restored, fits-started, shaped-env, shaped-popped, shaped-restored}
 use Rattle.visits.specs.Written.{Pen}
 use Rattle.visits.specs.Ran.{Comes as Came}
 use Rattle.visits.specs.Performed.{PerformedAs}
@@ -72,23 +71,6 @@ pub out-empty : (z : State) (x : Effect) (o : List Piece) (p : Pen) (d : List �
 unfolding meaningOf
 out-empty z x o p d r P = P
 
--- what a push leaves
-pushed-count : (z : State) (f : Frame) → pushed z f .state .count ≡ z .count
-unfolding pushed
-pushed-count z f = by (ltb (z .depth) 32) refl
-  where
-    by : (b : Bool) → ltb (z .depth) 32 ≡ b → pushed z f .state .count ≡ z .count
-    by true e = rw e refl
-    by false e = rw e refl
-
-pushed-closed : (z : State) (f : Frame) → pushed z f .state .closed ≡ z .closed
-unfolding pushed
-pushed-closed z f = by (ltb (z .depth) 32) refl
-  where
-    by : (b : Bool) → ltb (z .depth) 32 ≡ b → pushed z f .state .closed ≡ z .closed
-    by true e = rw e refl
-    by false e = rw e refl
-
 -- ---- a start tag
 entered-means : (z : State) (x : Effect) (q : ℕ) (o : Piece) → Shaped z → z .depth < 32 →
     meaningOf (pushed (after z x) (started q (record { values = x .values; echo = z .echo })) .state) ≡
@@ -114,23 +96,30 @@ module _ (s : List ℕ) (q : ℕ) (kept : List ℕ) (z : State) (p : Pen) (v : A
       go a (some x) c = absurd (true≢false (sym (c .0) ∙ e))
 
   module _ (r : Acted) (d₂ : List ℕ) (E : EchoedAs s q false (v .state .echo) (pen-at p d (v .at)) (r .at) d₂) where
-    pub entered : v .ok ≡ true → r .ok ≡ true → r .state ≡ pushed (v .state) (started q (record { values = v .state .values; echo = z .echo })) .state → EntersAs s q z p r d₂
+    abbrev new : Frame
+    new = started q (record { values = v .state .values; echo = z .echo })
+
+    pub entered : v .ok ≡ true → r .ok ≡ true → r .state .count ≡ v .state .count → r .state .closed ≡ v .state .closed →
+        (Shaped (v .state) → meaningOf (r .state) ≡ meaningOf (pushed (v .state) new .state)) → (Shaped (v .state) → Fits new → Shaped (r .state)) → EntersAs s q z p r d₂
     unfolding meaningOf
-    entered on ok st = record { reach = omega (arith, G .reach, E .reach); count = few; dry = λ u. E .dry u ∙ G .dry u; right = λ a y h deep. go a y h deep (performed a [] (programsOf (a .rules) q 0 .first-visit) (z .values) (z .echo)) (G .right a y) }
+    entered on ok same-count same-closed means shaped = record { reach = omega (arith, G .reach, E .reach); count = few; dry = λ u. E .dry u ∙ G .dry u; right = λ a y h deep. go a y h deep (performed a [] (programsOf (a .rules) q 0 .first-visit) (z .values) (z .echo)) (G .right a y) }
       where
         few : r .state .count ≤ z .count + 1
-        few = omega (arith, ap (λ (k : State). k .count) st, pushed-count (v .state) (started q (record { values = v .state .values; echo = z .echo })), G .count)
+        few = omega (arith, same-count, G .count)
 
         done : (a : Sheet) → IsSheet s a → Shaped z → z .depth < 32 → (x : Effect) → v .state .values ≡ x .values → v .state .echo ≡ x .echo → PutAs (p .write) (p .lent) (p .at) (render (x .printed)) d (v .at) →
             Done (inside (at-start q) (opensOf (meaningOf z .control))) (record { kept = (saved (meaningOf z .store .env) (echoed (start (tagName a q)) (visited (meaningOf z .store .env) x)) ∷ []) ∷ meaningOf z .store .kept; env = echoed (start (tagName a q)) (visited (meaningOf z .store .env) x) }) z p r d₂
         done a y h deep x e f P =
             let k : Saved = record { values = x .values; echo = z .echo } in
-            let same : r .state ≡ pushed (after z x) (started q k) .state = st ∙ ap₂ (λ (u : State) (vs : List ℕ). pushed u (started q (record { values = vs; echo = z .echo })) .state) (state-after s q 0 false kept z p v d G x e f) e in
+            let visited-is = state-after s q 0 false kept z p v d G x e f in
+            let same : pushed (v .state) new .state ≡ pushed (after z x) (started q k) .state =
+            ap₂ (λ (u : State) (vs : List ℕ). pushed u (started q (record { values = vs; echo = z .echo })) .state) visited-is e in
+            let visited-shaped : Shaped (v .state) = subst Shaped (sym visited-is) (shaped-env z (x .values) (x .echo) (suc (z .count)) h) in
             record {
               ok = ok;
-              means = ap meaningOf same ∙ entered-means z x q (start (tagName a q)) h deep;
-              shaped = subst Shaped (sym same) (shaped-pushed (after z x) (started q k) (shaped-env z (x .values) (x .echo) (suc (z .count)) h) (fits-started q k));
-              closed = ap (λ (u : State). u .closed) same ∙ pushed-closed (after z x) (started q k);
+              means = means visited-shaped ∙ ap meaningOf same ∙ entered-means z x q (start (tagName a q)) h deep;
+              shaped = shaped visited-shaped (fits-started q (record { values = v .state .values; echo = z .echo }));
+              closed = same-closed ∙ ap (λ (u : State). u .closed) visited-is;
               written = out-empty z x (whileOn (x .echo) (start (tagName a q))) p d₂ (r .at) (put-both p x (whileOn (x .echo) (start (tagName a q))) d d₂ (v .at) (r .at) P (subst (λ (b : Bool). PutAs (p .write) d (v .at) (render (whileOn b (start (tagName a q)))) d₂ (r .at)) f (E .right a y)));
             }
 

@@ -1,4 +1,4 @@
--- Laws of taking a state apart by pushing its elements one after another (`up-next`, `apart-all`), and of putting the frames that lie in the stack together
+-- Laws of taking a state apart by pushing its elements one after another (`up-next`), and of putting the frames that lie in the stack together
 -- (`stack-built`).
 -- Assumes nothing.
 use mathlib.Core.Path.{_≡_, refl, sym, ap, ap₂, _∙_, subst}
@@ -9,67 +9,78 @@ use native.Mathlib.Omega.{arith}
 use lib.ListN.{length, take, drop, set, getD, replicate, length-append, length-map, length-replicate}
 use lib.Seq.{sets, sets-eq, set-at, take-suc, take-append-seam, length-take-le}
 use borrow.Author.Tests.{lt-ltb}
-use Rattle.runs.specs.Machine.{most}
+use Rattle.runs.specs.Machine.{inside, most, State as Run}
 use Rattle.state.specs.declared.Frame.{Frame}
 use Rattle.state.specs.declared.State.{State}
-use Rattle.state.specs.Bytes.{gathered, frameAt}
+use Rattle.state.specs.Bytes.{gathered, frameAt, usedAt}
 use Rattle.state.specs.Bounds.{frameWidth}
-use Rattle.state.specs.Changes.{bareFrame, putLast, pushed, bareFrom, tidyFrame}
-use Rattle.state.specs.Meaning.{All, Fits, meaningOf, Shaped}
+use Rattle.state.specs.Changes.{bareSaved, bareFrame, putLast, pushed, withStack, bareFrom, tidyFrame}
+use Rattle.state.specs.Meaning.{setsOf, openOf, opensOf, All, none, more, Fits, meaningOf, Shaped}
 use Rattle.state.proofs.Gathered.{length-gathered, fill-none}
-use Rattle.state.proofs.Tidy.{bare-is}
+use Rattle.state.proofs.Meant.{meaning-put-on}
+use Rattle.state.proofs.Tidy.{bare-is, bare-twice}
 use Rattle.live.specs.declared.Live.{Live}
-use Rattle.live.specs.Live.{stackAt, full}
-use Rattle.apart.specs.Apart.{upTo, ApartAs}
+use Rattle.live.specs.Live.{stackAt, full, topIn, PushedAs}
+use Rattle.apart.specs.Apart.{ApartAs}
 
--- one more of a list's first, the others bare
-one-more : (l : List Frame) (i : ℕ) (z : Frame) → i < most → length l ≡ most →
-    set (take i l ++ replicate (most - i) bareFrame) i (getD l i z) ≡ take (i + 1) l ++ replicate (most - (i + 1)) bareFrame
-one-more l i z h n =
-    let ys : List Frame = replicate (most - (i + 1)) bareFrame in
-    let r : most - i ≡ suc (most - (i + 1)) = omega arith in
-    let k : length (take i l) ≡ i = length-take-le i l (omega arith) in
-    let t : take (i + 1) l ≡ take i l ++ getD l i z ∷ [] = rw add-one (take-suc l i z (omega arith)) in
-    ap (λ (m : ℕ). set (take i l ++ replicate m bareFrame) i (getD l i z)) r
-    ∙ set-at (take i l) bareFrame ys (getD l i z) i k
-    ∙ sym (append-assoc (take i l) (getD l i z ∷ []) ys)
-    ∙ ap (λ (x : List Frame). x ++ ys) (sym t)
+-- the state with the first i of its elements, the root's first
+abbrev pub upTo : State → ℕ → State
+upTo z i = withStack z (z .rooted) i (z .frames)
 
-push-up : (z : State) (i : ℕ) (x : Frame) → i < most → length (z .frames) ≡ most → pushed (upTo z i) (getD (z .frames) i x) .state ≡ upTo z (i + 1)
+set-same : {X : Type 0} (l : List X) (i : ℕ) (x : X) → set l i (getD l i x) ≡ l
+set-same [] i x = refl
+set-same (y ∷ l) zero x = refl
+set-same {X} (y ∷ l) (suc i) x = ap (λ (r : List X). y ∷ r) (set-same l i x)
+
+push-up : (z : State) (i : ℕ) (x : Frame) → i < most → pushed (upTo z i) (getD (z .frames) i x) .state ≡ upTo z (i + 1)
 unfolding pushed
-push-up z i x h n = rw (lt-ltb i most h, one-more (z .frames) i x h n)
+push-up z i x h = rw (lt-ltb i most h, set-same (z .frames) i x)
 
-pub up-next : (z y w : State) (i : ℕ) (f x : Frame) → i < most → Shaped z → y ≡ upTo z i → f ≡ getD (z .frames) i x → w ≡ pushed y f .state → w ≡ upTo z (i + 1)
-up-next z y w i f x h s e g p = p ∙ ap₂ (λ (u : State) (v : Frame). pushed u v .state) e g ∙ push-up z i x h (s .frames)
+all-first : {P : Frame → Type 0} (l : List Frame) (i d : ℕ) → i ≤ d → All P (take d l) → All P (take i l)
+all-first [] zero d h a = none
+all-first [] (suc i) d h a = none
+all-first (x ∷ l) zero d h a = none
+all-first (x ∷ l) (suc i) zero h a = absurd (omega arith)
+all-first (x ∷ l) (suc i) (suc d) h (more p a) = more p (all-first l i d (omega arith) a)
 
--- with all of its elements a state stands for the same run
-up-all : (z : State) → Shaped z → take (z .depth) (upTo z (z .depth) .frames) ≡ take (z .depth) (z .frames)
-up-all z s =
-    let l : List Frame = take (z .depth) (z .frames) in
-    let k : length l ≡ z .depth = length-take-le (z .depth) (z .frames) (omega (arith, s .deep, s .frames)) in
-    ap (λ (m : ℕ). take m (l ++ replicate (most - z .depth) bareFrame)) (sym k) ∙ take-append-seam l (replicate (most - z .depth) bareFrame)
+up-shaped : (z : State) (i : ℕ) → i ≤ z .depth → Shaped z → Shaped (upTo z i)
+up-shaped z i h s = record { deep = omega (arith, s .deep); frames = s .frames; fits = all-first (z .frames) i (z .depth) h (s .fits) }
 
-up-shaped : (z : State) → Shaped z → Shaped (upTo z (z .depth))
-up-shaped z s =
+all-at : {P : Frame → Type 0} (l : List Frame) (i d : ℕ) (x : Frame) → i < d → i < length l → All P (take d l) → P (getD l i x)
+all-at [] i d x h k a = absurd (omega arith)
+all-at (y ∷ l) i zero x h k a = absurd (omega arith)
+all-at (y ∷ l) zero (suc d) x h k (more p a) = p
+all-at (y ∷ l) (suc i) (suc d) x h k (more p a) = all-at l i d x (omega arith) (omega arith) a
+
+-- none of its elements yet
+pub up-none : (z : State) (b : List ℕ) (h : Live) → h ≡ topIn h (z .rooted) 0 (h .top) → h .values ≡ z .values → h .echo ≡ z .echo → h .count ≡ z .count → h .closed ≡ z .closed →
+    Shaped z → ApartAs (upTo z 0) b h b
+unfolding meaningOf
+up-none z b h e v o n c s =
     record {
-      deep = s .deep;
-      frames = length-append (take (z .depth) (z .frames)) (replicate (most - z .depth) bareFrame)
-          ∙ omega (arith, length-take-le (z .depth) (z .frames) (omega (arith, s .deep, s .frames)), length-replicate (most - z .depth) bareFrame, s .deep);
-      fits = subst (All Fits) (sym (up-all z s)) (s .fits);
+      closed = c;
+      count = n;
+      shaped = rw e (record { deep = omega arith; frames = length-replicate most bareFrame; fits = none });
+      means = rw (e, v, o, n);
+      long = refl;
     }
 
-up-means : (z : State) → Shaped z → meaningOf (upTo z (z .depth)) ≡ meaningOf z
-unfolding meaningOf
-up-means z s = rw (up-all z s)
-
-pub apart-all : (z : State) (b : List ℕ) (h : Live) (b′ : List ℕ) → Shaped z → full h b′ ≡ upTo z (z .depth) → length b′ ≡ length b → ApartAs z b h b′
-apart-all z b h b′ s e l =
+-- one more
+pub up-next : (z : State) (b : List ℕ) (h : Live) (b′ : List ℕ) (i : ℕ) (f x : Frame) (r : Live) (b″ : List ℕ) → i < z .depth → h .depth ≡ i → Shaped z → f ≡ getD (z .frames) i x →
+    ApartAs (upTo z i) b h b′ → PushedAs 0 h f b′ r b″ → ApartAs (upTo z (i + 1)) b r b″
+up-next z b h b′ i f x r b″ k d s g a p =
+    let deep : i < most = omega (arith, k, s .deep) in
+    let fits : Fits f = subst Fits (sym g) (all-at (z .frames) i (z .depth) x k (omega (arith, k, s .deep, s .frames)) (s .fits)) in
+    let up : pushed (upTo z i) f .state ≡ upTo z (i + 1) = ap (λ (y : Frame). pushed (upTo z i) y .state) g ∙ push-up z i x deep in
     record {
-      closed = ap (λ (y : State). y .closed) e;
-      count = ap (λ (y : State). y .count) e;
-      shaped = subst Shaped (sym e) (up-shaped z s);
-      means = ap meaningOf e ∙ up-means z s;
-      long = l;
+      closed = ap (λ (l : Live). l .closed) (p .is) ∙ a .closed;
+      count = ap (λ (l : Live). l .count) (p .is) ∙ a .count;
+      shaped = p .shaped (a .shaped) fits;
+      means =
+          p .means (a .shaped) ∙ meaning-put-on (full h b′) f (a .shaped) (omega (arith, d, deep))
+          ∙ ap (λ (m : Run). record { control = inside (openOf f) (opensOf (m .control)); store = record { kept = setsOf f ∷ m .store .kept; env = m .store .env } }) (a .means)
+          ∙ sym (meaning-put-on (upTo z i) f (up-shaped z i (omega (arith, k)) s) deep) ∙ ap meaningOf up;
+      long = p .long ∙ a .long;
     }
 
 -- the frames in the stack, and the innermost one after them
@@ -99,14 +110,14 @@ unfolding gathered
 stack-built read zero f h = refl
 stack-built read (suc n) f h = let e : suc n - 1 ≡ n = omega arith in rw e (built-more read n f h)
 
--- a frame as it is read from the stack, tidied
-abbrev pub tidyAt : List ℕ → ℕ → Frame
-tidyAt b at = tidyFrame (frameAt b at)
+-- frames as they are read from the stack are tidy
+tidy-twice : (f : Frame) → tidyFrame (tidyFrame f) ≡ tidyFrame f
+tidy-twice f = rw (bare-twice bareSaved (f .«open») (f .saved))
 
-map-gathered : (b : List ℕ) (at n : ℕ) → map tidyFrame (gathered (frameAt b) frameWidth at n) ≡ gathered (tidyAt b) frameWidth at n
+map-gathered : (b : List ℕ) (at n : ℕ) → map tidyFrame (gathered (usedAt b) frameWidth at n) ≡ gathered (usedAt b) frameWidth at n
 unfolding gathered
 map-gathered b at zero = refl
-map-gathered b at (suc n) = ap (λ (l : List Frame). tidyAt b at ∷ l) (map-gathered b (at + frameWidth) n)
+map-gathered b at (suc n) = ap₂ (λ (f : Frame) (l : List Frame). f ∷ l) (tidy-twice (frameAt b at)) (map-gathered b (at + frameWidth) n)
 
 map-append : (f : Frame → Frame) (xs ys : List Frame) → map f (xs ++ ys) ≡ map f xs ++ map f ys
 map-append f [] ys = refl
@@ -118,16 +129,16 @@ bare-past xs ys =
     bare-is bareFrame (length xs) (xs ++ ys) ∙ ap₂ (λ (l : List Frame) (m : ℕ). l ++ replicate m bareFrame) (take-append-seam xs ys) n
 
 -- the same frames are those of the state that the live part and the stack are, tidied
-stack-tidied : (d : ℕ) (f : Frame) (b : List ℕ) → stackBy (tidyAt b) d (tidyFrame f) ≡ bareFrom bareFrame d (map tidyFrame (stackAt 0 d f b))
+stack-tidied : (d : ℕ) (f : Frame) (b : List ℕ) → stackBy (usedAt b) d (tidyFrame f) ≡ bareFrom bareFrame d (map tidyFrame (stackAt 0 d f b))
 stack-tidied zero f b =
     let ys : List Frame = replicate most bareFrame in
     sym (bare-past [] (map tidyFrame ys) ∙ ap (λ (m : ℕ). replicate m bareFrame) (length-map ys tidyFrame ∙ length-replicate most bareFrame))
 stack-tidied (suc n) f b =
-    let xs : List Frame = gathered (tidyAt b) frameWidth 0 n in
+    let xs : List Frame = gathered (usedAt b) frameWidth 0 n in
     let ys : List Frame = replicate (most - suc n) bareFrame in
-    let l : length (xs ++ tidyFrame f ∷ []) ≡ suc n = length-append xs (tidyFrame f ∷ []) ∙ omega (arith, length-gathered (tidyAt b) frameWidth 0 n) in
+    let l : length (xs ++ tidyFrame f ∷ []) ≡ suc n = length-append xs (tidyFrame f ∷ []) ∙ omega (arith, length-gathered (usedAt b) frameWidth 0 n) in
     let m : map tidyFrame (stackAt 0 (suc n) f b) ≡ (xs ++ tidyFrame f ∷ []) ++ map tidyFrame ys =
-    map-append tidyFrame (gathered (frameAt b) frameWidth 0 n) (f ∷ ys) ∙ ap (λ (z : List Frame). z ++ tidyFrame f ∷ map tidyFrame ys) (map-gathered b 0 n)
+    map-append tidyFrame (gathered (usedAt b) frameWidth 0 n) (f ∷ ys) ∙ ap (λ (z : List Frame). z ++ tidyFrame f ∷ map tidyFrame ys) (map-gathered b 0 n)
     ∙ sym (append-assoc xs (tidyFrame f ∷ []) (map tidyFrame ys)) in
     sym
     (ap₂ (λ (k : ℕ) (z : List Frame). bareFrom bareFrame k z) (sym l) m ∙ bare-past (xs ++ tidyFrame f ∷ []) (map tidyFrame ys)
@@ -136,12 +147,12 @@ stack-tidied (suc n) f b =
 
 -- nothing is filled in yet, and all is
 pub all-bare : (x : Frame) (d : ℕ) (b : List ℕ) → x ≡ bareFrame →
-    sets (replicate most x) 0 (gathered (tidyAt b) frameWidth 0 (d - 1 - 0)) ≡ sets (replicate most bareFrame) 0 (gathered (tidyAt b) frameWidth 0 (d - 1))
+    sets (replicate most x) 0 (gathered (usedAt b) frameWidth 0 (d - 1 - 0)) ≡ sets (replicate most bareFrame) 0 (gathered (usedAt b) frameWidth 0 (d - 1))
 all-bare x d b e = let q : d - 1 - 0 ≡ d - 1 = omega arith in rw (e, q)
 
 pub all-read : (d i next : ℕ) (f : Frame) (b : List ℕ) (frames : List Frame) → d ≤ most → d ≤ i + 1 →
-    sets frames i (gathered (tidyAt b) frameWidth next (d - 1 - i)) ≡ sets (replicate most bareFrame) 0 (gathered (tidyAt b) frameWidth 0 (d - 1)) →
+    sets frames i (gathered (usedAt b) frameWidth next (d - 1 - i)) ≡ sets (replicate most bareFrame) 0 (gathered (usedAt b) frameWidth 0 (d - 1)) →
     putLast frames d (tidyFrame f) ≡ bareFrom bareFrame d (map tidyFrame (stackAt 0 d f b))
 all-read d i next f b frames h k e =
-    ap (λ (l : List Frame). putLast l d (tidyFrame f)) (sym (fill-none (tidyAt b) frameWidth next (d - 1) i frames (omega arith)) ∙ e)
-    ∙ stack-built (tidyAt b) d (tidyFrame f) h ∙ stack-tidied d f b
+    ap (λ (l : List Frame). putLast l d (tidyFrame f)) (sym (fill-none (usedAt b) frameWidth next (d - 1) i frames (omega arith)) ∙ e)
+    ∙ stack-built (usedAt b) d (tidyFrame f) h ∙ stack-tidied d f b

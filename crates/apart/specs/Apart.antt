@@ -1,20 +1,14 @@
--- What taking a state apart comes to: the live part and the stack's bytes are a state that stands for the same run. What stood in frames that are not in
--- use is not kept.
+-- What taking a state apart comes to: the live part and the stack's bytes are a state that stands for the same run. What stood in frames
+-- and sets that are not in use is not kept.
 -- Assumes nothing.
 use mathlib.Core.Path.{_≡_}
-use mathlib.Core.List.{List, _++_}
-use Prim.Native.Nat.{ℕ, _-_}
-use lib.ListN.{length, take, replicate}
-use Rattle.runs.specs.Machine.{most}
+use mathlib.Core.List.{List}
+use Prim.Native.Nat.{ℕ}
+use lib.ListN.{length}
 use Rattle.state.specs.declared.State.{State}
-use Rattle.state.specs.Changes.{bareFrame, withStack}
 use Rattle.state.specs.Meaning.{meaningOf, Shaped}
 use Rattle.live.specs.declared.Live.{Live}
 use Rattle.live.specs.Live.{full}
-
--- the state with the first i of its elements, the root's first; none past them is in use
-abbrev pub upTo : State → ℕ → State
-upTo z i = withStack z (z .rooted) i (take i (z .frames) ++ replicate (most - i) bareFrame)
 
 pub record ApartAs (z : State) (b : List ℕ) (h : Live) (b′ : List ℕ) : Type 0 where
   pub closed : h .closed ≡ z .closed

@@ -13,7 +13,7 @@ ghost use Rattle.apart.specs.Apart.{ApartAs};
 use live::Live;
 use state::Frame;
 use state::State;
-use state::bytes::frame_at;
+use state::bytes::used_at;
 
 // The live part of a state. The elements around the innermost one are put into the stack.
 pub fn apart(state: State, stack: &mut [u8]) -> Live
@@ -59,8 +59,7 @@ pub fn together(live: Live, stack: &[u8]) -> State
     let mut next = 0;
     let mut i = 0;
     while i + 1 < live.depth {
-        let f = frame_at(stack, next);
-        frames[i] = f.tidy();
+        frames[i] = used_at(stack, next);
         next = next + Frame::BYTES;
         i = i + 1;
     }

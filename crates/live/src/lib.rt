@@ -8,8 +8,8 @@ ghost use Rattle.live.specs.Live.{PushedAs, PoppedAs, keptIn, RestoredIn
 use state::Frame;
 use state::Saved;
 use state::State;
-use state::bytes::frame_at;
-use state::bytes::put_frame;
+use state::bytes::put_used;
+use state::bytes::used_at;
 
 // Attributes, echo, the count of visits, whether the root has been closed, the closing number, how many elements are open, and the innermost of them.
 pub struct Live {
@@ -38,7 +38,7 @@ impl Live {
         self.top
     }
 
-    // A new innermost element. The one that it stands in is put where it lies in the stack, whose frames begin at `base`.
+    // A new innermost element. The one that it stands in is put where it lies in the stack, whose frames begin at `base`: no more of it than is in use.
     pub fn push(self, f: Frame, stack: &mut [u8], base: usize) -> Live
         requires { ⌜ self .depth < most ⌝ }
         requires { ⌜ base + stackWidth ≤ length (now stack) ⌝ }
@@ -52,7 +52,7 @@ impl Live {
         if d == 0 {
             return next;
         }
-        put_frame(stack, base + Frame::BYTES * (d - 1), outer);
+        put_used(stack, base + Frame::BYTES * (d - 1), outer);
         next
     }
 
@@ -72,7 +72,7 @@ impl Live {
             next.rooted = true;
             return next;
         }
-        next.top = frame_at(stack, base + Frame::BYTES * (d - 2));
+        next.top = used_at(stack, base + Frame::BYTES * (d - 2));
         next
     }
 

@@ -5,14 +5,9 @@ use mathlib.Core.Bool.{true, false}
 use Prim.Native.Nat.{_≤_, _<_}
 use Rattle.runs.specs.Machine.{most}
 use Rattle.state.specs.declared.Frame.{Frame}
-use Rattle.state.specs.declared.State.{State}
-use Rattle.live.specs.Live.{full, PushedAs, PoppedAs}
+use Rattle.live.specs.Live.{PushedAs, PoppedAs}
 use Rattle.stack.specs.declared.Stack.{Stack}
 use Rattle.stack.specs.declared.Stacked.{Stacked}
-
--- the state that a stack is
-abbrev pub whole : Stack → State
-whole s = full (s .live) (s .bytes)
 
 pub data StackedAs (s : Stack) (f : Frame) (r : Stacked) : Type 0 where
   put : s .live .depth < most → r .ok ≡ true → PushedAs 0 (s .live) f (s .bytes) (r .stack .live) (r .stack .bytes) → StackedAs s f r

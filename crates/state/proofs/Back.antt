@@ -1,13 +1,13 @@
 -- A state's bytes read back as the state. Each part is shown to read back wherever it stands between other bytes (Back), so a list of parts
 -- does too, by its length (gathered-back).
 use mathlib.Core.Bool.{Bool, true, false, not}
-use mathlib.Core.Path.{_≡_, refl, sym, ap, _∙_}
+use mathlib.Core.Path.{_≡_, refl, sym, ap, ap₂, _∙_}
 use mathlib.Core.List.{List, [], _∷_, _++_, append-nil, append-assoc}
-use Prim.Native.Nat.{ℕ, zero, suc, _+_, _*_, _/_, _^_, _<_}
+use Prim.Native.Nat.{ℕ, zero, suc, _+_, _*_, _/_, _-_, _^_, _<_, _≤_}
 use native.Mathlib.Nat.{div-add-mod, div-lt-iff-lt-mul, mul-suc, pow-suc}
 use native.Mathlib.Omega.{arith}
 use lib.Dec.{eqb}
-use lib.ListN.{length, length-append}
+use lib.ListN.{length, take, replicate, length-append, length-take}
 use lib.Seq.{getD-append-add}
 use Rattle.runs.specs.Visits.{attributes}
 use Rattle.runs.specs.Machine.{most}
@@ -16,10 +16,13 @@ use Rattle.state.specs.declared.Saved.{Saved}
 use Rattle.state.specs.declared.Frame.{Frame}
 use Rattle.state.specs.declared.State.{State}
 use Rattle.state.specs.Meaning.{All, none, more}
-use Rattle.state.specs.Bytes.{flag, numberBytes, number, eachBytes, savedBytes, frameBytes, bytesOf}
-use Rattle.state.proofs.Written.{number-wide}
+use Rattle.state.specs.Changes.{bareSaved, bareFrom, tidyFrame}
+use Rattle.state.specs.Bytes.{flag, numberBytes, number, eachBytes, savedBytes, frameBytes, usedBytes, bytesOf}
 use Rattle.layout.specs.Layout.{byteAt}
-use Rattle.state.specs.Bytes.{onAt, gathered, bytesAt, savedAt, frameAt, stateFrom, SizedSet, SizedFrame, Sized}
+use Rattle.state.specs.Bytes.{onAt, gathered, bytesAt, savedAt, frameAt, usedAt, stateFrom, SizedSet, SizedFrame, Sized}
+use Rattle.state.proofs.Written.{number-wide}
+use Rattle.state.proofs.Gathered.{length-gathered}
+use Rattle.state.proofs.Tidy.{bare-is}
 
 -- the bytes f x, w of them, read by g as x wherever they stand
 pub record Back {X : Type 0} (f : X → List ℕ) (g : List ℕ → ℕ → X) (w : ℕ) (x : X) : Type 0 where
@@ -120,6 +123,58 @@ frame-back f h =
           (h .saved)) in
           rw (q, r, o, k);
     }
+
+-- of a list the first n alone were written: they are read back, the others are bare
+some-back : {X : Type 0} (bare : X) (f : X → List ℕ) (g : List ℕ → ℕ → X) (w n : ℕ) (l : List X) → All (Back f g w) l →
+    (pre post : List ℕ) (at m : ℕ) → length pre ≡ at → length l ≡ m → bareFrom bare n (gathered (g (pre ++ (eachBytes f (take n l) ++ post))) w at m) ≡ bareFrom bare n l
+unfolding gathered eachBytes bareFrom
+some-back bare f g w n [] a pre post at zero p q = refl
+some-back bare f g w n [] a pre post at (suc m) p q = absurd (omega arith)
+some-back bare f g w n (x ∷ l) a pre post at zero p q = absurd (omega arith)
+some-back {X} bare f g w zero (x ∷ l) (more b a) pre post at (suc m) p q =
+    let r : List X = gathered (g (pre ++ post)) w (at + w) m in
+    let e : length r ≡ length l = length-gathered (g (pre ++ post)) w (at + w) m ∙ omega arith in
+    ap (λ (t : List X). bare ∷ t) (bare-is bare zero r ∙ ap (λ (k : ℕ). replicate (k - 0) bare) e ∙ sym (bare-is bare zero l))
+some-back {X} bare f g w (suc n) (x ∷ l) (more b a) pre post at (suc m) p q =
+    let e : pre ++ ((f x ++ eachBytes f (take n l)) ++ post) ≡ pre ++ (f x ++ (eachBytes f (take n l) ++ post)) =
+    ap (λ (r : List ℕ). pre ++ r) (append-assoc (f x) (eachBytes f (take n l)) post) in
+    let h : g (pre ++ ((f x ++ eachBytes f (take n l)) ++ post)) at ≡ x = rw e (b .same pre (eachBytes f (take n l) ++ post) at p) in
+    let e′ : pre ++ ((f x ++ eachBytes f (take n l)) ++ post) ≡ (pre ++ f x) ++ (eachBytes f (take n l) ++ post) =
+    e ∙ sym (append-assoc pre (f x) (eachBytes f (take n l) ++ post)) in
+    ap₂ (λ (y : X) (t : List X). y ∷ t) h
+    (ap (λ (d : List ℕ). bareFrom bare n (gathered (g d) w (at + w) m)) e′
+    ∙ some-back bare f g w n l a (pre ++ f x) post (at + w) m (longer pre (f x) at w p (b .wide)) (omega arith))
+
+-- a frame of which the head and the sets in use alone were written
+pub used-back : (f : Frame) → SizedFrame f → (pre post : List ℕ) (at : ℕ) → length pre ≡ at → usedAt (pre ++ (usedBytes f ++ post)) at ≡ tidyFrame f
+unfolding usedBytes frameAt
+used-back f h pre post at p =
+    let sets : List ℕ = eachBytes savedBytes (take (f .«open») (f .saved)) in
+    let ys = f .production ∷ f .place ∷ f .«open» ∷ (sets ++ post) in
+    let b = pre ++ ys in
+    let q : byteAt b at ≡ f .production = byte-first pre ys at p in
+    let r : byteAt b (at + 1) ≡ f .place = byte-past pre ys at 1 p in
+    let o : byteAt b (at + 2) ≡ f .«open» = byte-past pre ys at 2 p in
+    let head : List ℕ = pre ++ f .production ∷ f .place ∷ f .«open» ∷ [] in
+    let e : b ≡ head ++ (sets ++ post) = sym (append-assoc pre (f .production ∷ f .place ∷ f .«open» ∷ []) (sets ++ post)) in
+    let k : bareFrom bareSaved (f .«open») (gathered (savedAt b) setWidth (at + 3) mostSets) ≡ bareFrom bareSaved (f .«open») (f .saved) =
+    rw e
+    (some-back bareSaved savedBytes savedAt setWidth (f .«open») (f .saved) (each-saved (h .sets)) head post (at + 3) mostSets
+    (longer pre (f .production ∷ f .place ∷ f .«open» ∷ []) at 3 p refl)
+    (h .saved)) in
+    rw (q, r, o, k)
+
+all-take : {X : Type 0} {P : X → Type 0} (n : ℕ) (l : List X) → All P l → All P (take n l)
+all-take zero l a = none
+all-take (suc n) [] a = none
+all-take (suc n) (x ∷ l) (more p a) = more p (all-take n l a)
+
+pub used-wide : (f : Frame) → SizedFrame f → length (usedBytes f) ≤ frameWidth
+unfolding usedBytes
+used-wide f h =
+    let l : List Saved = take (f .«open») (f .saved) in
+    let w : length (eachBytes savedBytes l) ≡ setWidth * length l = joined-wide savedBytes savedAt setWidth l (all-take (f .«open») (f .saved) (each-saved (h .sets))) in
+    omega (arith, w, length-take (f .«open») (f .saved), h .saved)
 
 each-frame : {l : List Frame} → All SizedFrame l → All (Back frameBytes frameAt frameWidth) l
 each-frame none = none

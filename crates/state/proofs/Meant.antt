@@ -46,17 +46,26 @@ pub inside-open : (s : State) (o : Open) (os : List Open) → meaningOf s .contr
 unfolding meaningOf
 inside-open s o os e = open-where o os (s .rooted) (s .frames) (s .depth) e
 
--- a push opens an element at the start, with its production's set
+-- a push opens an element: any one, and one at the start with its production's set
+pub meaning-put-on : (s : State) (f : Frame) → Shaped s → s .depth < most →
+    meaningOf (pushed s f .state) ≡
+    record {
+      control = inside (openOf f) (opensOf (meaningOf s .control));
+      store = record { kept = setsOf f ∷ meaningOf s .store .kept; env = meaningOf s .store .env };
+    }
+unfolding meaningOf pushed
+meaning-put-on s f h p =
+    let e : reverse (take (s .depth + 1) (set (s .frames) (s .depth) f)) ≡ f ∷ elements s = first-push (s .frames) (s .depth) f (omega arith) in
+    rw (lt-ltb (s .depth) most p, e, standing-opens (s .rooted) (elements s))
+
 pub meaning-pushed : (s : State) (q : ℕ) (k : Saved) → Shaped s → s .depth < most →
     meaningOf (pushed s (started q k) .state) ≡
     record {
       control = inside (at-start q) (opensOf (meaningOf s .control));
       store = record { kept = (keptOf k ∷ []) ∷ meaningOf s .store .kept; env = meaningOf s .store .env };
     }
-unfolding meaningOf pushed started
-meaning-pushed s q k h p =
-    let e : reverse (take (s .depth + 1) (set (s .frames) (s .depth) (started q k))) ≡ started q k ∷ elements s = first-push (s .frames) (s .depth) (started q k) (omega arith) in
-    rw (lt-ltb (s .depth) most p, e, standing-opens (s .rooted) (elements s))
+unfolding started
+meaning-pushed s q k h p = meaning-put-on s (started q k) h p
 
 -- a pop ends the innermost element
 standing-popped : (rooted : Bool) (frames : List Frame) (d : ℕ) → 0 < d → d ≤ length frames →
@@ -114,6 +123,11 @@ meaning-top s h p = rw (elements-top s h p)
 meaning-put : (s : State) (f : Frame) → Shaped s → 0 < s .depth → meaningOf (withTop s f) ≡ at-top s f
 unfolding meaningOf at-top around
 meaning-put s f h p = rw (elements-put s f h p)
+
+-- another innermost element of the same meaning
+pub meaning-same : (s : State) (f : Frame) → Shaped s → 0 < s .depth → openOf f ≡ openOf (topOf s) → setsOf f ≡ setsOf (topOf s) → meaningOf (withTop s f) ≡ meaningOf s
+unfolding at-top
+meaning-same s f h p o k = meaning-put s f h p ∙ rw (meaning-top s h p, o, k)
 
 -- one more set, for a node that has been opened
 sets-kept : (f : Frame) (k : Saved) → Fits f → f .«open» < mostSets → setsOf (keeping f k) ≡ keptOf k ∷ setsOf f

@@ -7,7 +7,7 @@ use mathlib.Core.List.{List, [], _∷_, _++_, map, reverse, reverseAux, reverse-
 use Prim.Native.Nat.{ℕ, zero, suc, _+_, _-_, _≤_, _<_}
 use native.Mathlib.Omega.{arith}
 use lib.Dec.{eqb}
-use lib.ListN.{length, take, set, replicate, length-map, length-reverse, length-replicate}
+use lib.ListN.{length, take, getD, set, replicate, length-map, length-reverse, length-replicate}
 use lib.Seq.{length-take-le}
 use borrow.Author.Tests.{ne-eqb}
 use Rattle.runs.specs.Visits.{Saved as Kept}
@@ -16,12 +16,12 @@ use Rattle.state.specs.declared.Saved.{Saved}
 use Rattle.state.specs.declared.Frame.{Frame}
 use Rattle.state.specs.declared.State.{State}
 use Rattle.state.specs.Bounds.{mostSets}
-use Rattle.state.specs.Changes.{bareSaved, bareFrame, notClosed, freshState, closedWith, bareFrom, tidyFrame, tidied}
+use Rattle.state.specs.Changes.{bareSaved, bareFrame, notClosed, freshState, putLast, topOf, withTop, closedWith, bareFrom, tidyFrame, tidied}
 use Rattle.state.specs.Meaning.{keptOf, setsOf, openOf, elements, standing, opensOf, meaningOf, All, none, more, Fits, Shaped}
 use Rattle.state.specs.Bytes.{SizedSet, SizedFrame, Sized}
 use Rattle.state.specs.Canonical.{savedFor, frameFor, framesFor, rootClosed, stateFor}
 use Rattle.state.proofs.Laws.{first-last}
-use Rattle.state.proofs.Meant.{standing-opens}
+use Rattle.state.proofs.Meant.{standing-opens, meaning-same, shaped-put, fits-top}
 
 -- the first n of a list, the others bare: one more of them made bare; none left to make bare
 pub bare-more : {X : Type 0} (bare : X) (i : ℕ) (l : List X) → bareFrom bare (suc i) (set l i bare) ≡ bareFrom bare i l
@@ -60,6 +60,19 @@ bare-is {X} bare zero (x ∷ l) =
 bare-is {X} bare (suc n) (x ∷ l) =
     let e : length (x ∷ l) - suc n ≡ length l - n = omega arith in
     rw e (ap (λ (r : List X). x ∷ r) (bare-is bare n l))
+
+-- one more of them in its place; made bare again
+pub bare-next : {X : Type 0} (bare z : X) (i : ℕ) (l : List X) → i < length l → set (bareFrom bare i l) i (getD l i z) ≡ bareFrom bare (suc i) l
+unfolding bareFrom
+bare-next bare z i [] h = absurd (omega arith)
+bare-next bare z zero (x ∷ l) h = refl
+bare-next {X} bare z (suc i) (x ∷ l) h = ap (λ (r : List X). x ∷ r) (bare-next bare z i l (omega arith))
+
+pub bare-twice : {X : Type 0} (bare : X) (n : ℕ) (l : List X) → bareFrom bare n (bareFrom bare n l) ≡ bareFrom bare n l
+unfolding bareFrom
+bare-twice bare n [] = refl
+bare-twice {X} bare zero (x ∷ l) = ap (λ (r : List X). bare ∷ r) (bare-twice bare zero l)
+bare-twice {X} bare (suc n) (x ∷ l) = ap (λ (r : List X). x ∷ r) (bare-twice bare n l)
 
 -- a list's elements changed one by one
 take-map : {X Y : Type 0} (f : X → Y) (n : ℕ) (l : List X) → take n (map f l) ≡ map f (take n l)
@@ -104,10 +117,35 @@ sets-tidied [] = refl
 sets-tidied (f ∷ fs) =
     ap₂ (λ (l : List Saved) (kss : List (List Kept)). map keptOf (reverse l) ∷ kss) (take-bare bareSaved (f .«open») (f .saved)) (sets-tidied fs)
 
+pub fits-tidy : (f : Frame) → Fits f → Fits (tidyFrame f)
+fits-tidy f h = record { room = h .room; sets = length-bare bareSaved (f .«open») (f .saved) ∙ h .sets }
+
 fits-tidied : {fs : List Frame} → All Fits fs → All Fits (map tidyFrame fs)
 fits-tidied none = none
-fits-tidied (more {x = f} h a) =
-    more (record { room = h .room; sets = length-bare bareSaved (f .«open») (f .saved) ∙ h .sets }) (fits-tidied a)
+fits-tidied (more {x = f} h a) = more (fits-tidy f h) (fits-tidied a)
+
+-- a state with the innermost element tidied
+abbrev pub tidyTop : State → State
+tidyTop s = withTop s (tidyFrame (topOf s))
+
+no-top : (s : State) (f : Frame) → s .depth ≡ 0 → withTop s f ≡ s
+no-top s f e = ap (λ (d : ℕ). record { values = s .values; echo = s .echo; count = s .count; rooted = s .rooted; closed = s .closed; depth = s .depth; frames = putLast (s .frames) d f }) e
+
+pub meaning-tidy-top : (s : State) → Shaped s → meaningOf (tidyTop s) ≡ meaningOf s
+meaning-tidy-top s h = by (s .depth) refl
+  where
+    by : (d : ℕ) → s .depth ≡ d → meaningOf (tidyTop s) ≡ meaningOf s
+    by zero e = ap meaningOf (no-top s (tidyFrame (topOf s)) e)
+    by (suc n) e =
+        meaning-same s (tidyFrame (topOf s)) h (omega arith) refl
+        (ap (λ (l : List Saved). map keptOf (reverse l)) (take-bare bareSaved (topOf s .«open») (topOf s .saved)))
+
+pub shaped-tidy-top : (s : State) → Shaped s → Shaped (tidyTop s)
+shaped-tidy-top s h = by (s .depth) refl
+  where
+    by : (d : ℕ) → s .depth ≡ d → Shaped (tidyTop s)
+    by zero e = subst Shaped (sym (no-top s (tidyFrame (topOf s)) e)) h
+    by (suc n) e = shaped-put s (tidyFrame (topOf s)) h (omega arith) (fits-tidy (topOf s) (fits-top s h (omega arith)))
 
 -- whether the root has been closed
 closed-for : (rooted : Bool) (frames : List Frame) (d : ℕ) → d ≤ length frames →

@@ -1,7 +1,7 @@
--- Laws of writing a state. What is written goes on where it stopped (wrote-then), so each function's answer is its parts' joined; a loop over
+-- Laws of writing a state. What is written goes on where it stopped (wrote-then), so each function's answer is its parts' eachBytes; a loop over
 -- sets or frames is stated by what it has written (wrote-more), one over a number by what is left (put-number).
 use mathlib.Core.Bool.{true}
-use mathlib.Core.Path.{_≡_, refl, sym, ap, _∙_}
+use mathlib.Core.Path.{_≡_, refl, sym, ap, subst, _∙_}
 use mathlib.Core.List.{List, [], _∷_, _++_, append-nil, append-assoc}
 use Prim.Native.Nat.{ℕ, zero, suc, _+_, _-_, _*_, _/_, _%_, _<_, _≤_}
 use native.Mathlib.Nat.{mul-suc, mul-zero}
@@ -28,6 +28,17 @@ wrote-then {d = d} {at = at} {xs = xs} {ys = ys} {n = n} p q =
 -- what the crate `lent` puts
 pub wrote-put : {d : List ℕ} {at : ℕ} {xs d₁ : List ℕ} {n : ℕ} (w : ℕ) → length xs ≡ w → PutAs true d at xs d₁ n → Wrote w d at xs d₁ n
 wrote-put w e p = record { next = omega arith; wide = e; left = p .left }
+
+pub put-wrote : {w : ℕ} {d : List ℕ} {at : ℕ} {xs d₁ : List ℕ} {n : ℕ} → Wrote w d at xs d₁ n → PutAs true d at xs d₁ n
+put-wrote p = record { next = omega (arith, p .next, p .wide); left = p .left }
+
+-- so many of a list, or all
+pub put-some : {X : Type 0} (f : X → List ℕ) (w : ℕ) (l : List X) (i n : ℕ) {d : List ℕ} {at : ℕ} {d₁ : List ℕ} {m : ℕ} → take i l ≡ take n l →
+    Wrote (w * i) d at (eachBytes f (take i l)) d₁ m → PutAs true d at (eachBytes f (take n l)) d₁ m
+put-some {X} f w l i n {d = d} {at = at} {d₁ = d₁} {m = m} e p = subst (λ (k : List X). PutAs true d at (eachBytes f k) d₁ m) e (put-wrote p)
+
+pub put-after : {d : List ℕ} {at : ℕ} {xs ys d₁ d₂ : List ℕ} {n m : ℕ} → PutAs true d at xs d₁ n → PutAs true d₁ n ys d₂ m → d₂ ≡ put true d at (xs ++ ys)
+put-after {d = d} {at = at} {xs = xs} {ys = ys} p q = q .left ∙ rw (p .left, p .next) (put-append true d at xs ys)
 
 joined-snoc : {X : Type 0} (f : X → List ℕ) (l : List X) (x : X) → eachBytes f (l ++ (x ∷ [])) ≡ eachBytes f l ++ f x
 unfolding eachBytes

@@ -18,8 +18,9 @@ use mathlib.Core.Path.{_≡_}
 use mathlib.Core.List.{List, [], _∷_, _++_}
 use Prim.Native.Nat.{ℕ, zero, suc, _+_, _*_, _/_, _%_, _^_, _<_}
 use lib.Dec.{eqb}
-use lib.ListN.{length}
+use lib.ListN.{length, getD, take}
 use Rattle.state.specs.Meaning.{All}
+use Rattle.state.specs.Changes.{tidyFrame}
 use Rattle.lent.specs.Put.{put}
 use Rattle.layout.specs.Layout.{byteAt}
 use Rattle.runs.specs.Visits.{attributes}
@@ -51,6 +52,10 @@ savedBytes k = k .values ++ flag (k .echo) ∷ []
 
 unfoldable pub frameBytes : Frame → List ℕ
 frameBytes f = f .production ∷ f .place ∷ f .«open» ∷ eachBytes savedBytes (f .saved)
+
+-- of a frame, its head and the sets in use alone
+unfoldable pub usedBytes : Frame → List ℕ
+usedBytes f = f .production ∷ f .place ∷ f .«open» ∷ eachBytes savedBytes (take (f .«open») (f .saved))
 
 unfoldable pub bytesOf : State → List ℕ
 bytesOf s =
@@ -90,6 +95,10 @@ frameAt b at =
       «open» = byteAt b (at + 2);
       saved = gathered (savedAt b) setWidth (at + 3) mostSets;
     }
+
+-- a frame of which the head and the sets in use are read, the others bare
+abbrev pub usedAt : List ℕ → ℕ → Frame
+usedAt b at = tidyFrame (frameAt b at)
 
 unfoldable pub stateFrom : List ℕ → State
 stateFrom b =

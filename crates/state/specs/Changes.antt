@@ -11,8 +11,6 @@ use Rattle.state.specs.Bounds.{mostSets}
 use Rattle.state.specs.declared.Saved.{Saved}
 use Rattle.state.specs.declared.Frame.{Frame}
 use Rattle.state.specs.declared.State.{State}
-use Rattle.state.specs.declared.Pushed.{Pushed}
-use Rattle.state.specs.declared.Restored.{Restored}
 
 -- what stands in a set and in a frame before they are first used
 abbrev pub bareSaved : Saved
@@ -80,7 +78,11 @@ withStack s rooted depth frames =
       frames = frames;
     }
 
--- a new innermost element, or, at 32, the state as it was
+-- a new innermost element, or, where as many are open as may be, the state as it was
+pub record Pushed : Type 0 where
+  pub ok : Bool
+  pub state : State
+
 unfoldable pub pushed : State → Frame → Pushed
 pushed s f =
     cond (ltb (s .depth) most)
@@ -101,6 +103,10 @@ withTop s f = withStack s (s .rooted) (s .depth) (putLast (s .frames) (s .depth)
 -- the innermost element with one more set; with one less, and that set; at another place
 abbrev pub saving : State → Saved → State
 saving s k = withTop s (keeping (topOf s) k)
+
+pub record Restored : Type 0 where
+  pub saved : Saved
+  pub state : State
 
 abbrev pub restored : State → Restored
 restored s = record { saved = lastSet (topOf s); state = withTop s (withoutLast (topOf s)) }

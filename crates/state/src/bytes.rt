@@ -3,14 +3,18 @@ use super::Frame;
 use super::Saved;
 use super::State;
 ghost use mathlib.Core.Path.{_≡_};
+ghost use mathlib.Core.Bool.{true};
 ghost use mathlib.Core.List.{[], _∷_};
 ghost use Prim.Native.Nat.{_+_, _*_, _<_, _^_};
+ghost use lib.ListN.{take};
 ghost use Rattle.runs.specs.Visits.{attributes};
 ghost use Rattle.runs.specs.Machine.{most};
 ghost use Rattle.state.specs.Bounds.{mostSets, setWidth, frameWidth, stackWidth, stateWidth};
-ghost use Rattle.state.specs.Bytes.{flag, numberBytes, savedBytes, eachBytes, frameBytes, bytesOf, Wrote};
+ghost use Rattle.lent.specs.Put.{put, PutAs};
+ghost use Rattle.state.specs.Changes.{bareSaved, bareFrom};
+ghost use Rattle.state.specs.Bytes.{flag, numberBytes, savedBytes, eachBytes, frameBytes, usedBytes, bytesOf, Wrote};
 ghost use Rattle.layout.specs.Layout.{byteAt};
-ghost use Rattle.state.specs.Bytes.{onAt, bytesAt, longAt, savedAt, frameAt, gathered, stateFrom};
+ghost use Rattle.state.specs.Bytes.{onAt, bytesAt, longAt, savedAt, frameAt, usedAt, gathered, stateFrom};
 
 // Where the parts of a state's head stand: echo follows the attributes.
 const COUNT: usize = State::ATTRIBUTES + 1;
@@ -84,7 +88,7 @@ fn put_sets(memory: &mut [u8], at: usize, sets: [Saved; Frame::SETS]) -> usize
     next
 }
 
-pub fn put_frame(memory: &mut [u8], at: usize, f: Frame) -> usize
+fn put_frame(memory: &mut [u8], at: usize, f: Frame) -> usize
     requires { ⌜ at + frameWidth < 2 ^ 64 ⌝ }
     ensures { λ r. ⌜ Wrote frameWidth (now (memory .entry)) at (frameBytes f) (now (memory .exit)) r ⌝ }
 {
@@ -92,6 +96,35 @@ pub fn put_frame(memory: &mut [u8], at: usize, f: Frame) -> usize
     let next = lent::put_bytes(memory, at, &head, true);
     let sets = f.saved;
     put_sets(memory, next, sets)
+}
+
+// The first n sets, or all where there are not so many.
+fn put_sets_in_use(memory: &mut [u8], at: usize, sets: [Saved; Frame::SETS], n: usize) -> usize
+    requires { ⌜ at + setWidth * mostSets < 2 ^ 64 ⌝ }
+    ensures { λ r. ⌜ PutAs true (now (memory .entry)) at (eachBytes savedBytes (take n sets)) (now (memory .exit)) r ⌝ }
+{
+    let mut next = at;
+    let mut i = 0;
+    while i < n {
+        if Frame::SETS <= i {
+            return next;
+        }
+        let kept = sets[i];
+        next = put_saved(memory, next, kept);
+        i = i + 1;
+    }
+    next
+}
+
+// A frame's head and its sets in use. What lies where the other sets would is left as it is.
+pub fn put_used(memory: &mut [u8], at: usize, f: Frame)
+    requires { ⌜ at + frameWidth < 2 ^ 64 ⌝ }
+    ensures { λ _. ⌜ now (memory .exit) ≡ put true (now (memory .entry)) at (usedBytes f) ⌝ }
+{
+    let head = [f.production, f.place, f.open];
+    let next = lent::put_bytes(memory, at, &head, true);
+    let sets = f.saved;
+    put_sets_in_use(memory, next, sets, f.open as usize);
 }
 
 fn put_frames(memory: &mut [u8], at: usize, frames: [Frame; State::DEPTH]) -> usize
@@ -196,7 +229,7 @@ fn sets_at(bytes: &[u8], at: usize) -> [Saved; Frame::SETS]
     sets
 }
 
-pub fn frame_at(bytes: &[u8], at: usize) -> Frame
+fn frame_at(bytes: &[u8], at: usize) -> Frame
     requires { ⌜ at + frameWidth < 2 ^ 64 ⌝ }
     ensures { λ r. ⌜ r ≡ frameAt (now (bytes .entry)) at ⌝ }
 {
@@ -205,6 +238,41 @@ pub fn frame_at(bytes: &[u8], at: usize) -> Frame
         production: byte_at(bytes, at),
         place: byte_at(bytes, at + 1),
         open: byte_at(bytes, at + 2),
+        saved: sets,
+    }
+}
+
+// The first n sets, or all where there are not so many; the others bare.
+fn sets_in_use_at(bytes: &[u8], at: usize, n: usize) -> [Saved; Frame::SETS]
+    requires { ⌜ at + setWidth * mostSets < 2 ^ 64 ⌝ }
+    ensures { λ r. ⌜ r ≡ bareFrom bareSaved n (gathered (savedAt (now (bytes .entry))) setWidth at mostSets) ⌝ }
+{
+    let none = Saved::bare();
+    let mut sets = [none; Frame::SETS];
+    let mut next = at;
+    let mut i = 0;
+    while i < n {
+        if Frame::SETS <= i {
+            return sets;
+        }
+        sets[i] = saved_at(bytes, next);
+        next = next + Saved::BYTES;
+        i = i + 1;
+    }
+    sets
+}
+
+// A frame of which no more is read than is in use.
+pub fn used_at(bytes: &[u8], at: usize) -> Frame
+    requires { ⌜ at + frameWidth < 2 ^ 64 ⌝ }
+    ensures { λ r. ⌜ r ≡ usedAt (now (bytes .entry)) at ⌝ }
+{
+    let open = byte_at(bytes, at + 2);
+    let sets = sets_in_use_at(bytes, at + 3, open as usize);
+    Frame {
+        production: byte_at(bytes, at),
+        place: byte_at(bytes, at + 1),
+        open: open,
         saved: sets,
     }
 }

@@ -2,9 +2,8 @@
 pub mod bytes;
 
 ghost use mathlib.Core.Path.{_≡_};
-ghost use Prim.Native.Nat.{_+_};
 ghost use Rattle.state.specs.Changes.{bareSaved, bareFrame, freshState, started, keeping, lastSet, withoutLast, atPlace};
-ghost use Rattle.state.specs.Changes.{pushed, popped, topOf, withTop, saving, restored, placed, withEnv, closedWith, tidyFrame};
+ghost use Rattle.state.specs.Changes.{topOf, withTop, tidyFrame};
 
 // What is kept of a node from its first visit to its second: the attributes just after the first, echo just before it.
 pub struct Saved {
@@ -31,16 +30,6 @@ pub struct State {
     pub closed: u8,
     pub depth: usize,
     pub frames: [Frame; State::DEPTH],
-}
-
-pub struct Pushed {
-    pub ok: bool,
-    pub state: State,
-}
-
-pub struct Restored {
-    pub saved: Saved,
-    pub state: State,
 }
 
 impl Saved {
@@ -204,44 +193,6 @@ impl State {
         }
     }
 
-    // A new innermost element; a 33rd is refused.
-    pub fn push(self, f: Frame) -> Pushed
-        ensures { λ r. ⌜ r ≡ pushed self f ⌝ }
-    {
-        let d = self.depth;
-        if d < Self::DEPTH {
-            let mut next = self;
-            next.frames[d] = f;
-            next.depth = d + 1;
-            Pushed {
-                ok: true,
-                state: next,
-            }
-        } else {
-            Pushed {
-                ok: false,
-                state: self,
-            }
-        }
-    }
-
-    // The innermost element is closed.
-    pub fn pop(self) -> State
-        ensures { λ r. ⌜ r ≡ popped self ⌝ }
-    {
-        let d = self.depth;
-        if d == 0 {
-            return self;
-        }
-        let mut next = self;
-        next.depth = d - 1;
-        if d == 1 {
-            next.rooted = true;
-            return next;
-        }
-        next
-    }
-
     // The innermost element.
     pub fn top(self) -> Frame
         ensures { λ r. ⌜ r ≡ topOf self ⌝ }
@@ -269,60 +220,6 @@ impl State {
         }
         let mut next = self;
         next.frames[d - 1] = f;
-        next
-    }
-
-    // Keeps one more set for the innermost element: one of its nodes has been opened.
-    pub fn save(self, kept: Saved) -> State
-        ensures { λ r. ⌜ r ≡ saving self kept ⌝ }
-    {
-        let f = self.top();
-        self.with_top(f.keep(kept))
-    }
-
-    // Takes the last set of the innermost element off: its node is to be closed.
-    pub fn restore(self) -> Restored
-        ensures { λ r. ⌜ r ≡ restored self ⌝ }
-    {
-        let f = self.top();
-        let saved = f.last();
-        let state = self.with_top(f.without_last());
-        Restored {
-            saved: saved,
-            state: state,
-        }
-    }
-
-    // The innermost element stands at another place.
-    pub fn at_place(self, place: u8) -> State
-        ensures { λ r. ⌜ r ≡ placed self place ⌝ }
-    {
-        let f = self.top();
-        self.with_top(f.at(place))
-    }
-
-    // What visits change: attributes, echo and count.
-    pub fn with_env(self, values: [u8; State::ATTRIBUTES], echo: bool, count: u64) -> State
-        ensures { λ r. ⌜ r ≡ withEnv self values echo count ⌝ }
-    {
-        let frames = self.frames;
-        State {
-            values: values,
-            echo: echo,
-            count: count,
-            rooted: self.rooted,
-            closed: self.closed,
-            depth: self.depth,
-            frames: frames,
-        }
-    }
-
-    // Later calls repeat the number.
-    pub fn close(self, number: u8) -> State
-        ensures { λ r. ⌜ r ≡ closedWith self number ⌝ }
-    {
-        let mut next = self;
-        next.closed = number;
         next
     }
 }

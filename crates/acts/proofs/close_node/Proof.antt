@@ -5,9 +5,8 @@ use Rattle.live.specs.declared.Live.{Live}
 use Rattle.live.proofs.Stacks.{full-restored}
 use native.Mathlib.Omega.{arith}
 use mathlib.Core.Path.{ap, _∙_}
-use Rattle.state.specs.Changes.{withEnv}
+use Rattle.state.specs.Changes.{Restored, withEnv}
 use Rattle.state.specs.declared.State.{State}
-use Rattle.state.specs.declared.Restored.{Restored}
 use Rattle.visits.proofs.Running.{on, off}
 use Rattle.acts.proofs.Acting.{visited-again}
 use Rattle.acts.proofs.Bracketing.{close-rejected, closed}

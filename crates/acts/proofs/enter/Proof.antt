@@ -1,11 +1,13 @@
 -- The first visit; rejected, or then the echo and the push.
 use borrow.Author.Needs.{needs}
 use native.Mathlib.Omega.{arith}
-use mathlib.Core.Path.{_≡_, refl, ap, _∙_}
+use mathlib.Core.Path.{_≡_, refl, sym, ap, subst, _∙_}
 use Prim.Native.Nat.{ℕ}
 use Rattle.state.specs.Changes.{pushed}
 use Rattle.state.specs.declared.Frame.{Frame}
 use Rattle.state.specs.declared.State.{State}
+use Rattle.state.specs.Meaning.{Fits, meaningOf}
+use Rattle.live.specs.declared.Live.{Live}
 use Rattle.live.specs.Live.{full}
 use Rattle.visits.proofs.Running.{on, off}
 use Rattle.acts.proofs.Acting.{enter-rejected, entered}
@@ -42,9 +44,12 @@ returns-2 c =
     let v = c .before .before .before .before .before .before .before .before .before .before .before .before .before .before .before in
     let a = v .before .before .before .before .before in
     let b = a .args .stack .now in
+    let new = c .before .before .before .before .start .ensures in
     let d = ap (λ (u : State). u .depth) (v .visit .ensures b .state-is) in (
       entered (a .args .s .now) (a .args .q) _ (full (a .args .z) b) (record { write = a .args .write; lent = a .args .out .now; at = a .args .at }) _ _ (v .visit .ensures b) _ _ (e .echo-tag .ensures) (on _ (c .before .before .before .before .before .before .before .before .before .before .before .if1 .left)) refl
-          (p .push .ensures .state ∙ ap (λ (f : Frame). pushed (full (v .visit .result .live) b) f .state) (c .before .before .before .before .start .ensures)),
+          (ap (λ (h : Live). h .count) (p .push .ensures .is)) (ap (λ (h : Live). h .closed) (p .push .ensures .is))
+          (λ s. p .push .ensures .means s ∙ ap (λ (f : Frame). meaningOf (pushed (full (v .visit .result .live) b) f .state)) new)
+          (λ s f. p .push .ensures .shaped s (subst Fits (sym new) f)),
       ((λ i h. p .push .ensures .as-was i (omega (arith, h, d))), p .push .ensures .long),
     )
 

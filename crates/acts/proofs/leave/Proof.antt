@@ -3,9 +3,8 @@ use borrow.Author.Needs.{needs}
 use native.Mathlib.Omega.{arith}
 use mathlib.Core.Path.{_≡_, refl, ap, _∙_}
 use Prim.Native.Nat.{ℕ}
-use Rattle.state.specs.Changes.{withEnv}
+use Rattle.state.specs.Changes.{Restored, withEnv}
 use Rattle.state.specs.declared.State.{State}
-use Rattle.state.specs.declared.Restored.{Restored}
 use Rattle.live.specs.Live.{full}
 use Rattle.live.specs.declared.Live.{Live}
 use Rattle.live.proofs.Stacks.{full-restored}

@@ -11,18 +11,18 @@ use borrow.Author.Needs.{needs}
 use Rattle.state.specs.declared.Frame.{Frame}
 use Rattle.runs.specs.Machine.{most}
 use Rattle.state.specs.Bounds.{frameWidth}
-use Rattle.state.specs.Bytes.{gathered}
+use Rattle.state.specs.Bytes.{gathered, usedAt}
 use Rattle.state.specs.Changes.{bareFrame, withStack}
 use Rattle.state.proofs.Gathered.{fill-more}
 use Rattle.live.specs.Live.{full}
-use Rattle.apart.proofs.Parting.{tidyAt, all-bare, all-read}
+use Rattle.apart.proofs.Parting.{all-bare, all-read}
 use Rattle.apart.proofs.together.Statement.{statement}
 use Rattle.apart.proofs.together.Tie as tie
 
 abbrev Inv-loop : tie.InvT-loop
 Inv-loop live stack frames₀ next₀ i₀ frames next i =
     (i ≤ live .depth) × (next ≡ frameWidth * i) ×
-    (stored frames i (gathered (tidyAt stack) frameWidth next (live .depth - 1 - i)) ≡ stored (replicate most bareFrame) 0 (gathered (tidyAt stack) frameWidth 0 (live .depth - 1)))
+    (stored frames i (gathered (usedAt stack) frameWidth next (live .depth - 1 - i)) ≡ stored (replicate most bareFrame) 0 (gathered (usedAt stack) frameWidth 0 (live .depth - 1)))
 
 abbrev μ-loop : tie.MeasureT-loop
 μ-loop live stack frames₀ next₀ i₀ frames next i = live .depth - i
@@ -32,13 +32,13 @@ loop-holds c = (omega arith, omega arith, all-bare (c .bare .result) (c .before 
 
 loop-again : tie.Need-loop-again Inv-loop μ-loop
 loop-again c =
-    let l = c .before .before .before .before in
+    let l = c .before .before .before in
     let a = l .before .before .before in
     let n = a .args .live .depth - 1 in (
       omega arith,
       omega arith,
-      rw (c .tidy .ensures, c .before .frame-at .ensures)
-          (fill-more (tidyAt (a .args .stack .now)) frameWidth (l .loop .next) n (l .loop .i) (l .loop .frames) (omega (arith, c .before .before .if1 .taken)) ∙ l .loop .inv .2),
+      rw (c .used-at .ensures)
+          (fill-more (usedAt (a .args .stack .now)) frameWidth (l .loop .next) n (l .loop .i) (l .loop .frames) (omega (arith, c .before .if1 .taken)) ∙ l .loop .inv .2),
     )
 
 returns : tie.Need-returns Inv-loop μ-loop
@@ -48,7 +48,7 @@ returns c =
     let h = a .args .live in
     let root = c .before .before .before .root-closed .ensures in
     c .with-top .ensures
-    ∙ rw (c .before .tidy2 .ensures, root)
+    ∙ rw (c .before .tidy .ensures, root)
     (ap (λ (x : List Frame). withStack (full h (a .args .stack .now)) (cond (eqb (h .depth) 0) (h .rooted) false) (h .depth) x)
     (all-read (h .depth) (l .i) (l .next) (h .top) (a .args .stack .now) (l .frames) (a .pre) (omega (arith, c .before .before .before .before .before .if1 .left)) (l .inv .2)))
 
@@ -61,7 +61,6 @@ together-spec =
     (λ c κs. search needs)
     loop-holds
     (λ c. search needs)
-    (λ c κs. search needs)
     (λ c κs. search needs)
     (λ c. search needs)
     (λ c. search needs)

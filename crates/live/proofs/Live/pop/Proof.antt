@@ -6,7 +6,7 @@ use Rattle.live.proofs.Live.pop.Statement.{statement}
 use Rattle.live.proofs.Live.pop.Tie as tie
 use Rattle.live.proofs.Live.pop.Reads as reads
 use Rattle.live.proofs.Live.pop.Lts as lts
-use Rattle.state.proofs.bytes.frame_at.Reads as frame-at-reads
+use Rattle.state.proofs.bytes.used_at.Reads as used-at-reads
 
 -- src/lib.rt:56:13
 returns : tie.Need-returns
@@ -21,25 +21,25 @@ returns-2 : tie.Need-returns-2
 returns-2 c = let b = c .before .before .before in pop-root (b .args .base) (b .args .self) (b .args .stack .now) (c .if2 .taken)
 
 -- src/lib.rt:64:51
-sub-frame-at : tie.Need-sub-frame-at
-sub-frame-at c = search needs
+sub-used-at : tie.Need-sub-used-at
+sub-used-at c = search needs
 
 -- src/lib.rt:64:36
-mul-frame-at : tie.Need-mul-frame-at
-mul-frame-at c = search needs
+mul-used-at : tie.Need-mul-used-at
+mul-used-at c = search needs
 
 -- src/lib.rt:64:9
-add-frame-at : tie.Need-add-frame-at
-add-frame-at c = search needs
+add-used-at : tie.Need-add-used-at
+add-used-at c = search needs
 
-frame-at-requires : tie.Need-frame-at-requires
-frame-at-requires c κs = search needs
+used-at-requires : tie.Need-used-at-requires
+used-at-requires c κs = search needs
 
 -- src/lib.rt:50:5
 returns-3 : tie.Need-returns-3
-returns-3 c = let b = c .before .before .before .before in pop-inner (b .args .base) (b .args .self) (b .args .stack .now) _ (c .before .before .if1 .left) (c .before .if2 .left) (b .pre .0) (c .frame-at .ensures)
+returns-3 c = let b = c .before .before .before .before in pop-inner (b .args .base) (b .args .self) (b .args .stack .now) _ (c .before .before .if1 .left) (c .before .if2 .left) (c .used-at .ensures)
 
 pub pop-spec : {M : Type 1} → statement M
 pop-spec =
     tie.close
-    (tie.spec returns sub-next returns-2 sub-frame-at mul-frame-at add-frame-at frame-at-requires returns-3)
+    (tie.spec returns sub-next returns-2 sub-used-at mul-used-at add-used-at used-at-requires returns-3)

@@ -7,7 +7,7 @@ use Rattle.live.proofs.Live.push.Statement.{statement}
 use Rattle.live.proofs.Live.push.Tie as tie
 use Rattle.live.proofs.Live.push.Reads as reads
 use Rattle.live.proofs.Live.push.Lts as lts
-use Rattle.state.proofs.bytes.put_frame.Reads as put-frame-reads
+use Rattle.state.proofs.bytes.put_used.Reads as put-used-reads
 
 -- src/lib.rt:41:22
 add-next : tie.Need-add-next
@@ -18,19 +18,19 @@ returns : tie.Need-returns
 returns c = let b = c .before .before .before in push-first (b .args .base) (b .args .self) (b .args .f) (b .args .stack .now) (b .pre .0) (c .if1 .taken)
 
 -- src/lib.rt:45:41
-sub-put-frame : tie.Need-sub-put-frame
-sub-put-frame c = search needs
+sub-put-used : tie.Need-sub-put-used
+sub-put-used c = search needs
 
 -- src/lib.rt:45:26
-mul-put-frame : tie.Need-mul-put-frame
-mul-put-frame c = search needs
+mul-put-used : tie.Need-mul-put-used
+mul-put-used c = search needs
 
 -- src/lib.rt:45:9
-add-put-frame : tie.Need-add-put-frame
-add-put-frame c = search needs
+add-put-used : tie.Need-add-put-used
+add-put-used c = search needs
 
-put-frame-requires : tie.Need-put-frame-requires
-put-frame-requires c κs = search needs
+put-used-requires : tie.Need-put-used-requires
+put-used-requires c κs = search needs
 
 -- src/lib.rt:32:5
 same-length : tie.Need-same-length
@@ -41,7 +41,7 @@ returns-2 : tie.Need-returns-2
 returns-2 c =
     let k = c .before .before in
     let b = k .before .before .before .before .before in
-    push-next (b .args .base) (b .args .self) (b .args .f) (b .args .stack .now) _ _ (b .pre .0) (b .pre .1) (frame-sized (b .args .self .top) _ (b .good .0 .1 .1 .1 .1 .1 .1 .1 .1 .0)) (k .put-frame .ensures)
+    push-next (b .args .base) (b .args .self) (b .args .f) (b .args .stack .now) _ (b .pre .0) (k .before .before .if1 .left) (b .pre .1) (frame-sized (b .args .self .top) _ (b .good .0 .1 .1 .1 .1 .1 .1 .1 .1 .0)) (k .put-used .ensures)
 
 pub push-spec : {M : Type 1} → statement M
 push-spec =
@@ -49,9 +49,9 @@ push-spec =
     (tie.spec
     add-next
     returns
-    sub-put-frame
-    mul-put-frame
-    add-put-frame
-    put-frame-requires
+    sub-put-used
+    mul-put-used
+    add-put-used
+    put-used-requires
     same-length
     returns-2)
