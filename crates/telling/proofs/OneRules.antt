@@ -117,23 +117,23 @@ module _ (s : Progress) where
       on (lexical f x y) (lexical g x′ y′) = sym (f r m) ∙ ap lexed e ∙ g q k
 
 -- a walk that was taken, and its first step
-first-step : (s z : Progress) (t : Token) (ts : List Token) → walk stepRules s (t ∷ ts) ≡ some z → (s′ : Progress) × (stepRules s t ≡ some s′) × (walk stepRules s′ ts ≡ some z)
+pub first-step : (s z : Progress) (t : Token) (ts : List Token) → walk stepRules s (t ∷ ts) ≡ some z → (s′ : Progress) × (stepRules s t ≡ some s′) × (walk stepRules s′ ts ≡ some z)
 first-step s z t ts e = on (cases (stepRules s t))
   where
     on : (stepRules s t ≡ none) ⊎ ((s′ : Progress) × (stepRules s t ≡ some s′)) → (s′ : Progress) × (stepRules s t ≡ some s′) × (walk stepRules s′ ts ≡ some z)
     on (inl h) = absurd (none≢some (ap (λ o. andThen o (λ y. walk stepRules y ts)) h) e)
     on (inr (s′, h)) = (s′, h, sym (ap (λ o. andThen o (λ y. walk stepRules y ts)) h) ∙ e)
 
-end-no-token : (x g y : List ℕ) → Ending x → Gap g → Solid y → x ≡ g ++ y → ⊥
+pub end-no-token : (x g y : List ℕ) → Ending x → Gap g → Solid y → x ≡ g ++ y → ⊥
 end-no-token x g y e h s i =
     let w = ending-was e x [] (sym (append-nil x)) in
     gap-no-end (w .3 .0) h (w .1) y (w .3 .1) s (sym (w .2) ∙ i)
 
-token-solid : (s s′ : Progress) (t : Token) (r : List ℕ) → stepRules s t ≡ some s′ → Solid (bytesOf t ++ r)
+pub token-solid : (s s′ : Progress) (t : Token) (r : List ℕ) → stepRules s t ≡ some s′ → Solid (bytesOf t ++ r)
 token-solid s s′ t r h = solid-append (bytesOf t) r (solid t (taken-is-fine s s′ t h .proper))
 
 -- two spellings of one text
-one-row : {ts us : List Token} {x y : List ℕ} → Spelled ts x → Spelled us y → (s z z′ : Progress) → x ≡ y → walk stepRules s ts ≡ some z → walk stepRules s us ≡ some z′ → ts ≡ us
+pub one-row : {ts us : List Token} {x y : List ℕ} → Spelled ts x → Spelled us y → (s z z′ : Progress) → x ≡ y → walk stepRules s ts ≡ some z → walk stepRules s us ≡ some z′ → ts ≡ us
 one-row (end e) (end f) s z z′ i j k = refl
 one-row (end {e = x} e) (token {g = g} {rest = r} {ts = us} t h m sp) s z z′ i j k =
     let n = first-step s z′ t us k in

@@ -1,0 +1,3 @@
+pub mod TooMany
+pub mod Written
+pub mod Promises

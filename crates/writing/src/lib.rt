@@ -1,0 +1,1 @@
+// What is promised of rules written as a sheet. Statements in specs/, theorems in proofs/.
