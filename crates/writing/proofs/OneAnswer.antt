@@ -21,7 +21,7 @@ use Rattle.reading.specs.Rules.{Progress, beginning, stepRules}
 use Rattle.reading.proofs.Rules.{reads-rules}
 use Rattle.telling.proofs.OneRules.{gap-one, first-step, token-solid, one-row, one-rules}
 use Rattle.encoding.specs.Mentions.{inRules, tagsIn, stringsIn, programsIn}
-use Rattle.encoding.specs.Distinct.{has, added, distinct, joined}
+use Rattle.encoding.specs.Distinct.{has, added, distinct, run-together}
 use Rattle.encoding.specs.Encoded.{bytesOfEach, Room}
 use Rattle.packing.specs.Packed.{sheetBytes}
 use Rattle.writing.specs.TooMany.{lastOf, Placed, end, token, unbraces, Count, count, counted, upTo, RoomFor, Nth, ByteOf41}
@@ -50,14 +50,14 @@ ones : (l : List (List ℕ)) → sizes (λ x. 1) l ≡ length l
 ones [] = refl
 ones (x ∷ l) = omega (arith, ones l)
 
-lengths : (l : List (List ℕ)) → sizes length l ≡ length (joined l)
+lengths : (l : List (List ℕ)) → sizes length l ≡ length (run-together l)
 lengths [] = refl
-lengths (x ∷ l) = ap (λ n. length x + n) (lengths l) ∙ sym (length-append x (joined l))
+lengths (x ∷ l) = ap (λ n. length x + n) (lengths l) ∙ sym (length-append x (run-together l))
 
 few-first : (l : List (List ℕ)) (n m : ℕ) → n ≤ m → length (distinct (take n l)) ≤ length (distinct (take m l))
 few-first l n m h = omega (arith, fewer (λ x. 1) [] l n m h, ones (distinct (take n l)), ones (distinct (take m l)))
 
-short-first : (l : List (List ℕ)) (n m : ℕ) → n ≤ m → length (joined (distinct (take n l))) ≤ length (joined (distinct (take m l)))
+short-first : (l : List (List ℕ)) (n m : ℕ) → n ≤ m → length (run-together (distinct (take n l))) ≤ length (run-together (distinct (take m l)))
 short-first l n m h = omega (arith, fewer length [] l n m h, lengths (distinct (take n l)), lengths (distinct (take m l)))
 
 -- the counts of a row's beginnings grow

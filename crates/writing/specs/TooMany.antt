@@ -4,12 +4,12 @@ use mathlib.Core.List.{List, [], _∷_, _++_}
 use Prim.Native.Nat.{ℕ, zero, suc, _+_, _-_, _≤_}
 use lib.ListN.{length, take}
 use Rattle.notation.specs.Rules.{Rules}
-use Rattle.notation.specs.Tokens.{Token, nonterminal, value, attribute, name, start-tag, end-tag, empty-tag, string, word, sign, Sign, DEFINED, ASSIGNED, OPEN, CLOSE, BRACE, UNBRACE, DOT, BAR, STAR, SEMICOLON, EQUALS, escapedAll, bytesOf}
+use Rattle.notation.specs.Tokens.{Token, nonterminal, value, attribute, name, start-tag, end-tag, empty-tag, string, word, sign, Sign, DEFINED, ASSIGNED, OPEN, CLOSE, BRACE, UNBRACE, DOT, BAR, STAR, SEMICOLON, EQUALS, all-in-quotes, bytesOf}
 use Rattle.notation.specs.Gaps.{Gap, Ending}
 use Rattle.notation.specs.Spelled.{MayFollow}
 use Rattle.notation.specs.Productions.{RulesAre}
 use Rattle.encoding.specs.Mentions.{inRules, tagsIn, stringsIn, programsIn}
-use Rattle.encoding.specs.Distinct.{distinct, joined}
+use Rattle.encoding.specs.Distinct.{distinct, run-together}
 use Rattle.encoding.specs.Encoded.{bytesOfEach}
 
 -- the last byte of a token's name, of a string, or of a program's }, counted from the token's first byte
@@ -21,7 +21,7 @@ lastOf (name n) = length n - 1
 lastOf (start-tag n) = length n
 lastOf (end-tag n) = suc (length n)
 lastOf (empty-tag n) = length n
-lastOf (string cs) = suc (length (escapedAll cs))
+lastOf (string cs) = suc (length (all-in-quotes cs))
 lastOf (word w) = 0
 lastOf (sign s) = 0
 
@@ -72,8 +72,8 @@ upTo (t ∷ ts) = counted t (upTo ts)
 -- the first so many of the tags, strings and programs of rules have room
 pub record RoomFor (r : Rules) (n : Count) : Type 0 where
   pub few-tags : length (distinct (take (n .tags) (tagsIn (inRules (r .productions))))) ≤ 64
-  pub short-programs : length (joined (distinct (take (n .programs) (bytesOfEach r (programsIn (inRules (r .productions))))))) ≤ 16384
-  pub short-strings : length (joined (distinct (take (n .strings) (stringsIn (inRules (r .productions)))))) ≤ 8192
+  pub short-programs : length (run-together (distinct (take (n .programs) (bytesOfEach r (programsIn (inRules (r .productions))))))) ≤ 16384
+  pub short-strings : length (run-together (distinct (take (n .strings) (stringsIn (inRules (r .productions)))))) ≤ 8192
 
 -- k is the element of that number
 abbrev pub Nth : List ℕ → ℕ → ℕ → Type 0
