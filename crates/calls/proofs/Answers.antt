@@ -1,4 +1,4 @@
--- A call has an answer, and one only. At each place the reader answers (`some-answer`); its answer is one (`one-answer` of the tokens), and what a token
+-- A call has an answer, and one only. At each place something is read (`some-read`), and one thing only (`one-read`), and what a token
 -- comes to is a function, so each way that a run can go on is decided there (`split`); every token taken leaves fewer bytes.
 -- Assumes nothing.
 use mathlib.Core.Path.{_≡_, refl, sym, ap, _∙_, subst}
@@ -10,16 +10,14 @@ use native.Mathlib.Omega.{arith}
 use lib.ListN.{length, drop}
 use Rattle.tokens.specs.declared.Answer.{Answer}
 use Rattle.tokens.specs.declared.Answer.the-variants.{Token, Begun, Bad, Long}
-use Rattle.tokens.specs.Tokens.{front, Means}
-use Rattle.tokens.proofs.Theory.{one-answer}
-use Rattle.tokens.proofs.Streams.{token-moves}
 use Rattle.sheet.specs.Sheet.{Sheet}
 use Rattle.runs.specs.Machine.{Control, State}
 use Rattle.calls.specs.Names.{tokenOf}
 use Rattle.calls.specs.Limits.{Taking, taken, refuses, no-room, oneToken}
 use Rattle.calls.specs.Held.{Held}
+use Rattle.calls.specs.Read.{ReadAs}
 use Rattle.calls.specs.Call.{Result, roomLeft, stopped-at, after-writing, numberAt, stops, full, no-token, Runs, takes, halts, again, CalledBy, Called}
-use Rattle.calls.proofs.Readable.{some-answer}
+use Rattle.calls.proofs.Read.{one-read, some-read, read-moves}
 
 module _ (a : Sheet) (part : List ℕ) (more : Bool) where
   -- how a run goes on from the token that stands at `at`, by what that comes to
@@ -56,7 +54,7 @@ module _ (a : Sheet) (part : List ℕ) (more : Bool) where
   to-number at room z r Bad n q p = subst (AfterNone at z r) q p
   to-number at room z r Long n q p = subst (AfterNone at z r) q p
 
-  own : {at room : ℕ} {z : State} {r : Result} → Runs a part more at room z r → (x : Answer) × Means (front part at) at x × GoesOn at room z r x
+  own : {at room : ℕ} {z : State} {r : Result} → Runs a part more at room z r → (x : Answer) × ReadAs more part at x × GoesOn at room z r x
   own (takes {at} {room} {z} {r} e next z′ w m t d) =
       (Token e (record { at = next }), m, subst (AfterToken at room z next (after-writing w r)) (sym t) (r, d, refl))
   own (halts {at} {room} {z} (stops e next n m t)) = (Token e (record { at = next }), m, subst (AfterToken at room z next (stopped-at n at z)) (sym t) refl)
@@ -64,8 +62,8 @@ module _ (a : Sheet) (part : List ℕ) (more : Bool) where
   own (halts {at} {room} {z} (no-token x n m q)) = (x, m, by-number at room z (stopped-at n at z) x n q refl)
 
   -- a run goes on as the reader's answer says
-  pub split : {at room : ℕ} {z : State} {r : Result} → Runs a part more at room z r → (x : Answer) → Means (front part at) at x → GoesOn at room z r x
-  split {at} {room} {z} {r} d x m = let o = own d in subst (GoesOn at room z r) (one-answer (front part at) at (o .0) x (o .1) m) (o .2)
+  pub split : {at room : ℕ} {z : State} {r : Result} → Runs a part more at room z r → (x : Answer) → ReadAs more part at x → GoesOn at room z r x
+  split {at} {room} {z} {r} d x m = let o = own d in subst (GoesOn at room z r) (one-read more part at (o .0) x (o .1) m) (o .2)
 
   pub one-run : {at room : ℕ} {z : State} {r r′ : Result} → Runs a part more at room z r → Runs a part more at room z r′ → r ≡ r′
   one-run {r′ = r′} (takes {at} {room} {z} e next z′ w m t d) d′ =
@@ -85,16 +83,16 @@ module _ (a : Sheet) (part : List ℕ) (more : Bool) where
       by false (suc l) = (27, refl)
 
   module _ (at : ℕ) (rest : (next : ℕ) → at < next → next ≤ length part → (room : ℕ) (z : State) → (r : Result) × Runs a part more next room z r) where
-    from-token : (room : ℕ) (z : State) (e : _) (next : ℕ) → Means (front part at) at (Token e (record { at = next })) → at ≤ length part →
+    from-token : (room : ℕ) (z : State) (e : _) (next : ℕ) → ReadAs more part at (Token e (record { at = next })) → at ≤ length part →
         (t : Taking) → oneToken a z room (tokenOf a part e) ≡ t → (r : Result) × Runs a part more at room z r
     from-token room z e next m h (taken z′ w) t =
-        let k = token-moves part at e (record { at = next }) h m in
+        let k = read-moves more part at e next m h in
         let i = rest next (k .0) (k .1) (roomLeft room w) z′ in
         (after-writing w (i .0), takes e next z′ w m t (i .1))
     from-token room z e next m h (refuses n) t = (stopped-at n at z, halts (stops e next n m t))
     from-token room z e next m h no-room t = (stopped-at 17 at z, halts (full e next m t))
 
-    from-answer : (room : ℕ) (z : State) → at ≤ length part → (x : Answer) → Means (front part at) at x → (r : Result) × Runs a part more at room z r
+    from-answer : (room : ℕ) (z : State) → at ≤ length part → (x : Answer) → ReadAs more part at x → (r : Result) × Runs a part more at room z r
     from-answer room z h (Token e next) m = from-token room z e (next .at) m h (oneToken a z room (tokenOf a part e)) refl
     from-answer room z h Begun m =
         let b = begun-number (length (drop at part)) (z .control) in
@@ -103,9 +101,9 @@ module _ (a : Sheet) (part : List ℕ) (more : Bool) where
     from-answer room z h Long m = (stopped-at 21 at z, halts (no-token Long 21 m refl))
 
   runs-on : (left at : ℕ) → at ≤ length part → length part ≤ at + left → (room : ℕ) (z : State) → (r : Result) × Runs a part more at room z r
-  runs-on zero at h l room z = let x = some-answer part at in from-answer at (λ next i j room′ z′. absurd (omega arith)) room z h (x .0) (x .1)
+  runs-on zero at h l room z = let x = some-read more part at in from-answer at (λ next i j room′ z′. absurd (omega arith)) room z h (x .0) (x .1)
   runs-on (suc left) at h l room z =
-      let x = some-answer part at in
+      let x = some-read more part at in
       from-answer at (λ next i j room′ z′. runs-on left next j (omega arith) room′ z′) room z h (x .0) (x .1)
 
   -- any two answers of a call are equal

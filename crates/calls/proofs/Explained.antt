@@ -13,10 +13,8 @@ use lib.Seq.{drop-append-seam}
 use Rattle.tokens.specs.declared.Event.{Event}
 use Rattle.tokens.specs.declared.Answer.{Answer}
 use Rattle.tokens.specs.declared.Answer.the-variants.{Token, Begun, Bad, Long}
-use Rattle.tokens.specs.Tokens.{Tok, bytes, eventOf, front, Means}
-use Rattle.tokens.specs.Stream.{Reads, flat, eventsAt}
-use Rattle.tokens.proofs.Reading.{begun-none}
-use Rattle.tokens.proofs.Streams.{stands-at, token-split, reads-tokens, reads-flat}
+use Rattle.tokens.specs.Tokens.{Tok, bytes, eventOf}
+use Rattle.tokens.specs.Stream.{flat, eventsAt}
 use Rattle.output.specs.Escape.{Piece, render}
 use Rattle.output.proofs.Writing.{render-append}
 use Rattle.sheet.specs.Sheet.{Sheet}
@@ -32,6 +30,7 @@ use Rattle.runs.proofs.Spells.{RunSoFar, so-far-run, so-far-iff, token-refused-
 use Rattle.calls.specs.Names.{tokenFor, tokensFor, tokenOf}
 use Rattle.calls.specs.Limits.{outputOf, Over}
 use Rattle.calls.specs.Held.{fresh-held, handed}
+use Rattle.calls.specs.Read.{ReadAs, ReadsAs}
 use Rattle.calls.specs.Call.{Result, numberAt, Stop, stops, full, no-token, Called}
 use Rattle.calls.specs.Empty.{Stream}
 use Rattle.calls.specs.Explained.{Next, Why, all-taken, used-up, no-space, begins-none, too-long, next-refused, cut-off, not-closed, too-many, Explained, Answers, ExplainedExactly}
@@ -39,7 +38,8 @@ use Rattle.calls.proofs.Answers.{call-one}
 use Rattle.calls.proofs.Empty.{tokens-behind}
 use Rattle.calls.proofs.Exactly.{refuses-iff, no-room-iff}
 use Rattle.calls.proofs.Frame.{state-behind, answer-behind, token-frame, countOf}
-use Rattle.calls.proofs.Main.{front-of, reads-short, token-at, tokens-at}
+use Rattle.calls.proofs.Main.{tokens-at}
+use Rattle.calls.proofs.Read.{NoToken, none-read, read-token, read-tokens, reads-all, token-reads, token-at, token-of, none-there}
 use Rattle.calls.proofs.Steps.{RunToken, RunAnswer, outOf, tokensOf, steps-silent, steps-count, steps-run, run-steps, run-does, steps-stop}
 
 -- a run over more tokens
@@ -94,30 +94,28 @@ module _ (a : Sheet) (ok : Passed a) (s : List ℕ) (more : Bool) (room : ℕ) (
   here-closed c = after-closed a ok (eventsSoFar so) found (of-run .events-run) (letter 0) (ap (λ (z : State). z .control) same-state ∙ c)
 
   -- the token that comes next
-  record Comes (e : Event) : Type 0 where
+  record Coming (e : Event) : Type 0 where
     pub tok : Tok
     pub rest : List ℕ
     pub next : Next left tok rest
     pub same : tokenOf a s e ≡ tokenFor a tok
 
-  comes : (e : Event) (to : ℕ) → Means (front s at) at (Token e (record { at = to })) → Comes e
+  comes : (e : Event) (to : ℕ) → ReadAs more s at (Token e (record { at = to })) → Coming e
   comes e to m =
-      let (t, g, i, q, d) = token-split s at e (record { at = to }) m in
+      let t = read-token more s at e to m in
       record {
-        tok = t;
+        tok = t .tok;
         rest = drop to s;
-        next = record { good = g; short = front-of s at t (m .0) (drop to s) (m .2 .0) g (m .1) d (m .2 .1) .1; are-bytes = sym here ∙ d };
-        same = ap (tokenOf a s) i ∙ token-at a s t at (drop to s) d;
+        next = record { good = t .good; short = t .short; are-bytes = sym here ∙ t .split };
+        same = token-of a s t;
       }
 
   -- and back
   reads-next : (t : Tok) (rest : List ℕ) → Next left t rest →
-      Means (front s at) at (Token (eventOf at t) (record { at = at + length (bytes t) })) × (tokenOf a s (eventOf at t) ≡ tokenFor a t)
-  reads-next t rest n = (
-    subst (λ (l : List ℕ). Means (front l at) at (Token (eventOf at t) (record { at = at + length (bytes t) }))) (sym (s-is ∙ ap (λ (l : List ℕ). flat ts ++ l) (n .are-bytes)))
-        (stands-at (flat ts) rest t (n .good) (n .short)),
-    token-at a s t at rest (here ∙ n .are-bytes),
-  )
+      ReadAs more s at (Token (eventOf at t) (record { at = at + length (bytes t) })) × (tokenOf a s (eventOf at t) ≡ tokenFor a t)
+  reads-next t rest n =
+      let stands : drop at s ≡ bytes t ++ rest = here ∙ n .are-bytes in
+      (token-reads more s at t rest stands (n .good) (n .short), token-at a s t at rest stands)
 
   -- a token that is taken here, and one that is refused
   on-token : (t : Tok) (y : State) → stepToken a last (tokenFor a t) ≡ took y → SpelledSoFar a (tokensFor a (ts ++ t ∷ [])) (state-behind p y .store)
@@ -165,16 +163,19 @@ module _ (a : Sheet) (ok : Passed a) (s : List ℕ) (more : Bool) (room : ℕ) (
   abbrev leftover : ℕ
   leftover = room - length (render p)
 
-  -- no token: what the reader answers of the bytes left
-  front-left : front s at ≡ front left 0
-  front-left = ap (λ (l : List ℕ). front l 0) here
+  -- no token: what is read of the bytes left
+  none-left : (x : Answer) → NoToken x → ReadAs more s at x → ReadAs more left 0 x
+  none-left x k m = none-there more s left at 0 here x k m
+
+  left-none : (x : Answer) → NoToken x → ReadAs more left 0 x → ReadAs more s at x
+  left-none x k m = none-there more left s 0 at (sym here) x k m
 
   stop-why : (n : ℕ) → Stop a s more at leftover last n → Why a more room ts left so n
   stop-why n (stops e to j m t) =
       let c = comes e to m in
       by c (refuses-iff a last leftover (tokenOf a s e) n .0 t)
     where
-      by : (c : Comes e) → (stepToken a last (tokenOf a s e) ≡ refused n) ⊎ Over a last (tokenOf a s e) n → Why a more room ts left so n
+      by : (c : Coming e) → (stepToken a last (tokenOf a s e) ≡ refused n) ⊎ Over a last (tokenOf a s e) n → Why a more room ts left so n
       by c (inl r) = next-refused (c .tok) (c .rest) n (c .next) (refused-here (c .tok) n .0 (ap (stepToken a last) (sym (c .same)) ∙ r))
       by c (inr (h, (y, st, over))) =
           subst (Why a more room ts left so) (sym h)
@@ -185,7 +186,7 @@ module _ (a : Sheet) (ok : Passed a) (s : List ℕ) (more : Bool) (room : ℕ) (
       no-space (c .tok) (c .rest) (c .next) (state-behind p y .store) (on-token (c .tok) y (ap (stepToken a last) (sym (c .same)) ∙ st)) k (omega (arith, longer y, f, fits))
   stop-why n (no-token x j m q) = by-answer x m q
     where
-      at-end : (b : Bool) → more ≡ b → Means (front left 0) 0 Begun → (l : ℕ) → length left ≡ l → (c : Control) → last .control ≡ c → numberAt b l c Begun ≡ some n → Why a more room ts left so n
+      at-end : (b : Bool) → more ≡ b → ReadAs more left 0 Begun → (l : ℕ) → length left ≡ l → (c : Control) → last .control ≡ c → numberAt b l c Begun ≡ some n → Why a more room ts left so n
       at-end true e m l h c k q = let i : 16 ≡ n = cc in subst (Why a more room ts left so) i (used-up e m)
       at-end false e m zero h after k q = let i : 0 ≡ n = cc in subst (Why a more room ts left so) i (all-taken e (nil-of left h) (here-closed k))
       at-end false e m zero h before k q = let i : 27 ≡ n = cc in subst (Why a more room ts left so) i (not-closed e (nil-of left h) (λ r. not-before (sym (closed-here r) ∙ k)))
@@ -198,22 +199,22 @@ module _ (a : Sheet) (ok : Passed a) (s : List ℕ) (more : Bool) (room : ℕ) (
           not-inside e = let z : _≡_ {A = ℕ} 0 1 = cc in omega arith
       at-end false e m (suc l) h c k q = let i : 27 ≡ n = cc in subst (Why a more room ts left so) i (cut-off e (λ z. omega (arith, h, ap length z)) m)
 
-      by-answer : (x : Answer) → Means (front s at) at x → numberAt more (length (drop at s)) (last .control) x ≡ some n → Why a more room ts left so n
+      by-answer : (x : Answer) → ReadAs more s at x → numberAt more (length (drop at s)) (last .control) x ≡ some n → Why a more room ts left so n
       by-answer (Token e to) m q = absurd (let z : _≡_ {A = ℕ} 0 1 = cc in omega arith)
-      by-answer Begun m q = at-end more refl (subst (λ (f : List ℕ). Means f 0 Begun) front-left m) (length left) refl (last .control) refl (ap (λ (l : List ℕ). numberAt more (length l) (last .control) Begun) (sym here) ∙ q)
-      by-answer Bad m q = let i : 20 ≡ n = cc in subst (Why a more room ts left so) i (begins-none (subst (λ (f : List ℕ). Means f 0 Bad) front-left m))
-      by-answer Long m q = let i : 21 ≡ n = cc in subst (Why a more room ts left so) i (too-long (subst (λ (f : List ℕ). Means f 0 Long) front-left m))
+      by-answer Begun m q = at-end more refl (none-left Begun tt m) (length left) refl (last .control) refl (ap (λ (l : List ℕ). numberAt more (length l) (last .control) Begun) (sym here) ∙ q)
+      by-answer Bad m q = let i : 20 ≡ n = cc in subst (Why a more room ts left so) i (begins-none (none-left Bad tt m))
+      by-answer Long m q = let i : 21 ≡ n = cc in subst (Why a more room ts left so) i (too-long (none-left Long tt m))
 
   -- where no token comes next
-  none-here : (x : Answer) (n : ℕ) → Means (front s at) at x → numberAt more (length left) (last .control) x ≡ some n → Stop a s more at leftover last n
+  none-here : (x : Answer) (n : ℕ) → ReadAs more s at x → numberAt more (length left) (last .control) x ≡ some n → Stop a s more at leftover last n
   none-here x n m q = no-token x n m (ap (λ (l : List ℕ). numberAt more (length l) (last .control) x) here ∙ q)
 
   why-stop : (n : ℕ) → Why a more room ts left so n → Stop a s more at leftover last n
   why-stop n (all-taken e l c) =
-      none-here Begun 0 (begun-none (front s at) at (ap length front-left ∙ ap (λ (x : List ℕ). length (front x 0)) l))
+      none-here Begun 0 (none-read more s at (ap length (here ∙ l)))
       (ap₂ (λ (b : Bool) (i : ℕ). numberAt b i (last .control) Begun) e (ap length l) ∙ ap (λ (d : Control). numberAt false 0 d Begun) (closed-here c))
   why-stop n (used-up e m) =
-      none-here Begun 16 (subst (λ (f : List ℕ). Means f at Begun) (sym front-left) m) (ap (λ (b : Bool). numberAt b (length left) (last .control) Begun) e)
+      none-here Begun 16 (left-none Begun tt m) (ap (λ (b : Bool). numberAt b (length left) (last .control) Begun) e)
   why-stop n (no-space t rest nx m′ h k over) =
       let d = token-on t m′ h in
       let r = reads-next t rest nx in
@@ -221,17 +222,17 @@ module _ (a : Sheet) (ok : Passed a) (s : List ℕ) (more : Bool) (room : ℕ) (
       full (eventOf at t) (at + length (bytes t)) (r .0)
       (no-room-iff a last leftover (tokenOf a s (eventOf at t)) .1
       (y, ap (stepToken a last) (r .1) ∙ d .stepped, omega (arith, k, ap (λ (m : Store). m .env .count) (d .store-is)), omega (arith, over, longer y, ap (λ (m : Store). length (render (m .env .out))) (d .store-is), fits)))
-  why-stop n (begins-none m) = none-here Bad 20 (subst (λ (f : List ℕ). Means f at Bad) (sym front-left) m) refl
-  why-stop n (too-long m) = none-here Long 21 (subst (λ (f : List ℕ). Means f at Long) (sym front-left) m) refl
+  why-stop n (begins-none m) = none-here Bad 20 (left-none Bad tt m) refl
+  why-stop n (too-long m) = none-here Long 21 (left-none Long tt m) refl
   why-stop n (next-refused t rest j nx d) =
       let r = reads-next t rest nx in
       stops (eventOf at t) (at + length (bytes t)) n (r .0) (refuses-iff a last leftover (tokenOf a s (eventOf at t)) n .1 (inl (ap (stepToken a last) (r .1) ∙ refused-here t n .1 d)))
   why-stop n (cut-off e l m) =
       let i = some-length left l in
-      none-here Begun 27 (subst (λ (f : List ℕ). Means f at Begun) (sym front-left) m)
+      none-here Begun 27 (left-none Begun tt m)
       (ap₂ (λ (b : Bool) (j : ℕ). numberAt b j (last .control) Begun) e (i .1))
   why-stop n (not-closed e l c) =
-      none-here Begun 27 (begun-none (front s at) at (ap length front-left ∙ ap (λ (x : List ℕ). length (front x 0)) l))
+      none-here Begun 27 (none-read more s at (ap length (here ∙ l)))
       (ap₂ (λ (b : Bool) (i : ℕ). numberAt b i (last .control) Begun) e (ap length l) ∙ by (last .control) refl)
     where
       by : (d : Control) → last .control ≡ d → numberAt false 0 d Begun ≡ some 27
@@ -256,9 +257,12 @@ module _ (a : Sheet) (ok : Passed a) (s : List ℕ) (more : Bool) (room : ℕ) w
       let p : List Piece = w .printed in
       let last : State = r .held .run in
       let ks : List RunToken = tokensOf a s (w .events) in
-      let (ts, g, i, q, e) = reads-tokens s 0 (w .events) (r .taken) (w .reads) in
+      let k = read-tokens more s 0 (w .events) (r .taken) (w .reads) in
+      let ts : List Tok = k .toks in
+      let i = k .events in
+      let e = k .split in
       let left : List ℕ = drop (r .taken) s in
-      let n : r .taken ≡ length (flat ts) = omega (arith, q) in
+      let n : r .taken ≡ length (flat ts) = omega (arith, k .ends) in
       let same : ks ≡ tokensFor a ts = ap (tokensOf a s) i ∙ tokens-at a s ts 0 left e in
       let ran : runTokens a fresh-state (tokensFor a ts) ≡ through (state-behind p last) =
       ap (runTokens a fresh-state) (sym same) ∙ steps-run a fresh-state ks last p [] (w .steps) in
@@ -271,7 +275,7 @@ module _ (a : Sheet) (ok : Passed a) (s : List ℕ) (more : Bool) (room : ℕ) w
       (subst (λ (m : ℕ). Stop a s more m (room - length (r .output)) last (r .number)) n (w .stop)) in
       record {
         tokens = ts;
-        stream = (g, reads-short s ts 0 (r .taken) left g e (subst (λ (x : List Event). Reads s 0 x (r .taken)) i (w .reads)));
+        stream = (k .good, k .short);
         left = left;
         are-bytes = e;
         store = state-behind p last .store;
@@ -295,8 +299,8 @@ module _ (a : Sheet) (ok : Passed a) (s : List ℕ) (more : Bool) (room : ℕ) w
       let ts : List Tok = x .tokens in
       let es : List Event = eventsAt 0 ts in
       let to : 0 + length (flat ts) ≡ length (flat ts) = omega arith in
-      let rd : Reads s 0 es (length (flat ts)) =
-      subst (Reads s 0 es) to (subst (λ (l : List ℕ). Reads l 0 es (0 + length (flat ts))) (sym (x .are-bytes)) (reads-flat ts [] (x .left) (x .stream .0) (x .stream .1))) in
+      let rd : ReadsAs more s 0 es (length (flat ts)) =
+      subst (ReadsAs more s 0 es) to (subst (λ (l : List ℕ). ReadsAs more l 0 es (0 + length (flat ts))) (sym (x .are-bytes)) (reads-all more ts [] (x .left) (x .stream .0) (x .stream .1))) in
       let same : tokensOf a s es ≡ tokensFor a ts = tokens-at a s ts 0 (x .left) (x .are-bytes) in
       let r = so-far-iff a ok (tokensFor a ts) (x .store) .1 (x .so-far) in
       let st = run-steps a fresh-state (tokensOf a s es) [] (record { control = r .0; store = x .store }) (ap (runTokens a fresh-state) same ∙ r .1) (x .counts) in

@@ -1,4 +1,5 @@
 pub mod Readable
+pub mod Read
 pub mod Names
 pub mod Answers
 pub mod Frame

@@ -8,74 +8,41 @@ use mathlib.Core.List.{List, [], _∷_, _++_, append-nil, append-assoc}
 use mathlib.Core.Option.{some}
 use Prim.Native.Nat.{ℕ, _+_, _≤_}
 use native.Mathlib.Omega.{arith}
-use lib.ListN.{length, take, drop, length-append, length-take, take-append-drop}
-use lib.Seq.{drop-drop, drop-append-seam, take-append-seam}
-use Rattle.text.specs.Chars.{Starts}
+use lib.ListN.{length, drop}
+use lib.Seq.{drop-drop, drop-append-seam}
 use Rattle.tokens.specs.declared.Event.{Event}
-use Rattle.tokens.specs.Tokens.{Kind, start, end, empty, Tok, tag, ref, char, Good, opens, closes, bytes, eventOf, front, Means}
-use Rattle.tokens.specs.Stream.{Reads, flat, AllGood, AllShort, eventsAt}
-use Rattle.tokens.proofs.Theory.{agree}
-use Rattle.tokens.proofs.Streams.{flat-one, reads-flat, reads-tokens}
+use Rattle.tokens.specs.Tokens.{Tok, bytes, eventOf}
+use Rattle.tokens.specs.Stream.{flat, eventsAt}
+use Rattle.tokens.proofs.Streams.{flat-one}
 use Rattle.output.specs.Escape.{Piece, render}
 use Rattle.sheet.specs.Sheet.{Sheet}
 use Rattle.runs.specs.Visits.{Env}
 use Rattle.runs.specs.Parse.{yield}
 use Rattle.runs.specs.Machine.{Control, after, State, fresh-state}
 use Rattle.runs.specs.Taken.{Passed, closed-with}
-use Rattle.runs.specs.Spells.{Token, start-token, end-token, empty-token, eventsOfMarks, Spelled, through, runTokens}
+use Rattle.runs.specs.Spells.{Token, eventsOfMarks, Spelled, through, runTokens}
 use Rattle.runs.proofs.Main.{to-tree, parsed-count}
 use Rattle.runs.proofs.Spells.{spelled-iff, through-spells}
-use Rattle.calls.specs.Names.{tagNamed, tokenFor, tokensFor, tokenOf}
+use Rattle.calls.specs.Names.{tokensFor}
 use Rattle.runs.specs.Visits.{mostVisits}
 use Rattle.calls.specs.Limits.{without-output, silent}
 use Rattle.calls.specs.Held.{fresh-held}
+use Rattle.calls.specs.Read.{ReadsAs}
 use Rattle.calls.specs.Call.{Result, Called}
 use Rattle.calls.specs.Accepted.{Accepted, accepted, AcceptedIn, AcceptedExactly, TwiceTheNodes}
+use Rattle.calls.proofs.Read.{token-at, read-tokens, reads-all}
 use Rattle.calls.proofs.Frame.{state-behind, countOf}
 use Rattle.calls.proofs.Steps.{tokensOf, Steps, steps-silent, steps-count, steps-run, run-steps, ended, Ends, run-ends, ends-run}
 
--- the tokens that are read have at most 32 bytes each, as a front has no more
-module _ (s : List ℕ) where
-  pub front-of : (at : ℕ) (t t′ : Tok) (r v : List ℕ) → Good t → Good t′ → drop at s ≡ bytes t ++ r → front s at ≡ bytes t′ ++ v → (t ≡ t′) × (length (bytes t) ≤ 32)
-  front-of at t t′ r v ok ok′ e w =
-      let d : List ℕ = drop at s in
-      let b : d ≡ bytes t′ ++ (v ++ drop 32 d) = sym (take-append-drop 32 d) ∙ ap (λ (l : List ℕ). l ++ drop 32 d) w ∙ append-assoc (bytes t′) v (drop 32 d) in
-      let q = agree t t′ ok ok′ r (v ++ drop 32 d) (sym e ∙ b) .0 in
-      (q, omega (arith, ap (λ (x : Tok). length (bytes x)) q, ap length w, length-append (bytes t′) v, length-take 32 d))
-
-  pub reads-short : (ts : List Tok) (at to : ℕ) (r : List ℕ) → AllGood ts → drop at s ≡ flat ts ++ r → Reads s at (eventsAt at ts) to → AllShort ts
-  reads-short [] at to r g e rd = tt
-  reads-short (t ∷ ts) at to r g e (next, (t′, ok′, (v, w), p, q), rd) =
-      let e₁ : drop at s ≡ bytes t ++ (flat ts ++ r) = e ∙ append-assoc (bytes t) (flat ts) r in
-      let f = front-of at t t′ (flat ts ++ r) v (g .0) ok′ e₁ w in
-      let n : next ≡ at + length (bytes t) = q ∙ ap (λ (x : Tok). at + length (bytes x)) (sym (f .0)) in
-      let d : drop (at + length (bytes t)) s ≡ flat ts ++ r =
-      sym (drop-drop (length (bytes t)) at s) ∙ ap (drop (length (bytes t))) e₁ ∙ drop-append-seam (bytes t) (flat ts ++ r) in
-      (f .1, reads-short ts (at + length (bytes t)) to r (g .1) d (subst (λ (i : ℕ). Reads s i (eventsAt (at + length (bytes t)) ts) to) n rd))
-
 -- the tokens of the events that are read are those of the tokens as they are spelled
 module _ (a : Sheet) (s : List ℕ) where
-  name-at : (k : Kind) (at : ℕ) (n b r : List ℕ) → drop at s ≡ bytes (tag k n b) ++ r → take (length n) (drop (at + length (opens k)) s) ≡ n
-  name-at k at n b r e =
-      let d : drop at s ≡ opens k ++ (n ++ ((b ++ closes k) ++ r)) =
-      e ∙ append-assoc (opens k) (n ++ (b ++ closes k)) r ∙ ap (λ (l : List ℕ). opens k ++ l) (append-assoc n (b ++ closes k) r) in
-      ap (take (length n)) (sym (drop-drop (length (opens k)) at s) ∙ ap (drop (length (opens k))) d ∙ drop-append-seam (opens k) (n ++ ((b ++ closes k) ++ r)))
-      ∙ take-append-seam n ((b ++ closes k) ++ r)
-
-  pub token-at : (t : Tok) (at : ℕ) (r : List ℕ) → drop at s ≡ bytes t ++ r → tokenOf a s (eventOf at t) ≡ tokenFor a t
-  token-at (tag start n b) at r e = ap (λ (l : List ℕ). start-token (tagNamed (a .names) l)) (name-at start at n b r e)
-  token-at (tag end n b) at r e = ap (λ (l : List ℕ). end-token (tagNamed (a .names) l)) (name-at end at n b r e)
-  token-at (tag empty n b) at r e = ap (λ (l : List ℕ). empty-token (tagNamed (a .names) l)) (name-at empty at n b r e)
-  token-at (ref x) at r e = refl
-  token-at (char c) at r e = refl
-
   pub tokens-at : (ts : List Tok) (at : ℕ) (r : List ℕ) → drop at s ≡ flat ts ++ r → tokensOf a s (eventsAt at ts) ≡ tokensFor a ts
   tokens-at [] at r e = refl
   tokens-at (t ∷ ts) at r e =
       let e₁ : drop at s ≡ bytes t ++ (flat ts ++ r) = e ∙ append-assoc (bytes t) (flat ts) r in
       let d : drop (at + length (bytes t)) s ≡ flat ts ++ r =
       sym (drop-drop (length (bytes t)) at s) ∙ ap (drop (length (bytes t))) e₁ ∙ drop-append-seam (bytes t) (flat ts ++ r) in
-      ap₂ (λ (k : Token) (ks : List Token). k ∷ ks) (token-at t at (flat ts ++ r) e₁) (tokens-at ts (at + length (bytes t)) r d)
+      ap₂ (λ (k : Token) (ks : List Token). k ∷ ks) (token-at a s t at (flat ts ++ r) e₁) (tokens-at ts (at + length (bytes t)) r d)
 
 -- a state that holds no output
 quiet : (z : State) → z .store .env .out ≡ [] → silent z ≡ z
@@ -105,23 +72,26 @@ module _ (a : Sheet) (ok : Passed a) (s : List ℕ) (room : ℕ) where
       let es : List Event = n .events in
       let run : runTokens a fresh-state (tokensOf a s es) ≡ through (state-behind (n .printed) (n .last)) =
       steps-run a fresh-state (tokensOf a s es) (n .last) (n .printed) [] (n .steps) in
-      let k = through-spells a (tokensOf a s es) (state-behind (n .printed) (n .last)) run in
-      let t = to-tree a (eventsOfMarks (k .0)) (state-behind (n .printed) (n .last)) (k .1) (n .root-closed) in
+      let w = through-spells a (tokensOf a s es) (state-behind (n .printed) (n .last)) run in
+      let t = to-tree a (eventsOfMarks (w .0)) (state-behind (n .printed) (n .last)) (w .1) (n .root-closed) in
       let v : Env = t .0 in
       let l = last-is v (n .last) (n .printed) (steps-silent a fresh-state (tokensOf a s es) (n .last) (n .printed) refl (n .steps)) (t .2) in
       let c = steps-count a fresh-state (tokensOf a s es) (n .last) (n .printed) (omega arith) (n .steps) in
-      let (ts, g, p, q, e) = reads-tokens s 0 es (n .to) (n .reads) in
+      let k = read-tokens false s 0 es (n .to) (n .reads) in
+      let ts : List Tok = k .toks in
+      let p = k .events in
+      let e = k .split in
       let same : tokensOf a s es ≡ tokensFor a ts = ap (tokensOf a s) p ∙ tokens-at a s ts 0 (drop (n .to) s) e in
       let nil : drop (n .to) s ≡ [] = length-nil (drop (n .to) s) (n .nothing-left) in
       let b : s ≡ flat ts = e ∙ ap (λ (x : List ℕ). flat ts ++ x) nil ∙ append-nil (flat ts) in
       let o : render (v .out) ≡ render (n .printed) = ap render (l .1) in
-      let i : n .to ≡ length s = omega (arith, q, ap length b) in (
+      let i : n .to ≡ length s = omega (arith, k .ends, ap length b) in (
         v,
         (
           record {
             tokens = ts;
-            good = g;
-            short = reads-short s ts 0 (n .to) (drop (n .to) s) g e (subst (λ (x : List Event). Reads s 0 x (n .to)) p (n .reads));
+            good = k .good;
+            short = k .short;
             are-bytes = b;
             spells = spelled-iff a ok (tokensFor a ts) v .0 (ap (runTokens a fresh-state) (sym same) ∙ run ∙ ap through (t .2));
             counts = omega (arith, c, l .2);
@@ -135,8 +105,8 @@ module _ (a : Sheet) (ok : Passed a) (s : List ℕ) (room : ℕ) where
   from-accepted v x f =
       let ts : List Tok = x .tokens in
       let es : List Event = eventsAt 0 ts in
-      let rd : Reads s 0 es (0 + length (flat ts)) =
-      subst (λ (l : List ℕ). Reads l 0 es (0 + length (flat ts))) (append-nil (flat ts) ∙ sym (x .are-bytes)) (reads-flat ts [] [] (x .good) (x .short)) in
+      let rd : ReadsAs false s 0 es (0 + length (flat ts)) =
+      subst (λ (l : List ℕ). ReadsAs false l 0 es (0 + length (flat ts))) (append-nil (flat ts) ∙ sym (x .are-bytes)) (reads-all false ts [] [] (x .good) (x .short)) in
       let same : tokensOf a s es ≡ tokensFor a ts = tokens-at a s ts 0 [] (x .are-bytes ∙ sym (append-nil (flat ts))) in
       let st = run-steps a fresh-state (tokensOf a s es) [] (closed-with v) (ap (runTokens a fresh-state) same ∙ spelled-iff a ok (tokensFor a ts) v .1 (x .spells)) (x .counts) in
       let l = last-is v (st .last) (st .printed) (steps-silent a fresh-state (tokensOf a s es) (st .last) (st .printed) refl (st .steps)) (sym (st .is)) in

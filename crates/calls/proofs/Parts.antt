@@ -1,5 +1,5 @@
 -- How a stream is cut into parts, and how much room is lent at a time, changes nothing. What the reader answers of a part it answers of the whole, unless
--- it answers Begun (`stays` of the tokens), and what a token comes to depends on the room only where there is too little; so a call on a part goes as the call on
+-- it answers Begun (`read-stays`), and what a token comes to depends on the room only where there is too little; so a call on a part goes as the call on
 -- the whole up to where it stops (`resume`). From there on the bytes that are left do as well as the whole (`shift`).
 -- Assumes nothing.
 use mathlib.Core.Path.{_≡_, refl, sym, ap, ap₂, _∙_, subst}
@@ -9,28 +9,26 @@ use mathlib.Core.List.{List, [], _∷_, _++_, append-nil, append-assoc}
 use mathlib.Core.Option.{Option, none, some}
 use Prim.Native.Nat.{ℕ, zero, suc, _+_, _-_, _≤_}
 use native.Mathlib.Omega.{arith}
-use native.Mathlib.Nat.{add-assoc}
 use lib.Dec.{leb, eqb}
-use lib.ListN.{length, take, drop, length-append, length-drop}
-use lib.Seq.{drop-drop, take-append-le, drop-append-le}
+use lib.ListN.{length, drop, length-append, length-drop}
+use lib.Seq.{drop-drop, drop-append-le}
 use borrow.Author.Tests.{ne-eqb, leb-true, le-leb}
 use Rattle.tokens.specs.declared.Cursor.{Cursor}
 use Rattle.tokens.specs.declared.Event.{Event}
-use Rattle.tokens.specs.declared.Event.the-variants.{Start, End, Empty, Character}
 use Rattle.tokens.specs.declared.Answer.{Answer}
 use Rattle.tokens.specs.declared.Answer.the-variants.{Token, Begun, Bad, Long}
-use Rattle.tokens.specs.Tokens.{Kind, start, end, empty, Tok, tag, ref, char, bytes, eventOf, front, Means}
-use Rattle.tokens.proofs.Streams.{tag-name}
-use Rattle.tokens.proofs.Parts.{stays}
+use Rattle.tokens.specs.Tokens.{bytes}
 use Rattle.sheet.specs.Sheet.{Sheet}
 use Rattle.runs.specs.Machine.{Control, before, inside, after, State, took, refused}
-use Rattle.runs.specs.Spells.{start-token, end-token, empty-token, stepToken}
-use Rattle.calls.specs.Names.{tagNamed, tokenOf}
+use Rattle.runs.specs.Spells.{stepToken}
+use Rattle.calls.specs.Names.{tokenOf}
 use Rattle.runs.specs.Visits.{mostVisits}
 use Rattle.calls.specs.Limits.{silent, outputOf, Taking, taken, refuses, no-room, limited, within, oneToken}
 use Rattle.calls.specs.Held.{Held, leavesOpen, closingOf, handed}
+use Rattle.calls.specs.Read.{ReadAs}
 use Rattle.calls.specs.Call.{Result, stopped-at, after-writing, numberAt, stops, full, no-token, Runs, takes, halts, CalledBy, Called}
 use Rattle.calls.specs.Parts.{answers-together, Told, Continued, Feeds, at-once, closes, goes-on, Each, CallOf}
+use Rattle.calls.proofs.Read.{NoToken, Alike, read-stays, read-token, token-long, token-at, token-of, none-there, token-there}
 use Rattle.calls.proofs.Answers.{AfterToken, split, to-number, call-one, call-some}
 use Rattle.calls.proofs.Frame.{countOf}
 use Rattle.calls.proofs.Steps.{RunToken, RunAnswer, takes-one, one-takes, refuses-over}
@@ -56,19 +54,14 @@ module _ (a : Sheet) (z : State) (room extra : ℕ) (k : RunToken) where
       by (took y) e = by-tests y (leb (countOf y) mostVisits) (leb (length (outputOf y)) room) (leb (length (outputOf y)) (room + extra)) e
       by (refused m) e = e
 
--- the name of a tag that was read in s stands in s
-module _ (a : Sheet) (s r : List ℕ) where
-  name-in : (from len : ℕ) → from + len ≤ length s → take len (drop from (s ++ r)) ≡ take len (drop from s)
-  name-in from len h = ap (take len) (drop-append-le from s r (omega arith)) ∙ take-append-le len (drop from s) r (omega (arith, length-drop from s))
-
-  token-in : (at : ℕ) (e : Event) (next : Cursor) → Means (front s at) at (Token e next) → tokenOf a (s ++ r) e ≡ tokenOf a s e
-  token-in at (Start from len) next m =
-      ap (λ (n : List ℕ). start-token (tagNamed (a .names) n)) (name-in from len (tag-name start s at from len next m .within))
-  token-in at (End from len) next m =
-      ap (λ (n : List ℕ). end-token (tagNamed (a .names) n)) (name-in from len (tag-name end s at from len next m .within))
-  token-in at (Empty from len) next m =
-      ap (λ (n : List ℕ). empty-token (tagNamed (a .names) n)) (name-in from len (tag-name empty s at from len next m .within))
-  token-in at (Character c) next m = refl
+-- the run's token of what was read in s is the same with more bytes behind
+token-in : (a : Sheet) (s r : List ℕ) (b : Bool) (at : ℕ) (e : Event) (next : ℕ) → ReadAs b s at (Token e (record { at = next })) → tokenOf a (s ++ r) e ≡ tokenOf a s e
+token-in a s r b at e next m =
+    let t = read-token b s at e next m in
+    let w : List ℕ = bytes (t .tok) in
+    let within : at ≤ length s = omega (arith, length-drop at s, ap length (t .split), length-append w (drop next s), token-long (t .tok) (t .good)) in
+    let d : drop at (s ++ r) ≡ w ++ (drop next s ++ r) = drop-append-le at s r within ∙ ap (λ (l : List ℕ). l ++ r) (t .split) ∙ append-assoc w (drop next s) r in
+    ap (tokenOf a (s ++ r)) (t .event) ∙ token-at a (s ++ r) (t .tok) at (drop next s ++ r) d ∙ sym (token-of a s t)
 
 token≢begun : (e : Event) (n : Cursor) → Token e n ≡ Begun → ⊥
 token≢begun e n p = let z : _≡_ {A = ℕ} 0 1 = cc in omega arith
@@ -113,7 +106,7 @@ module _ (a : Sheet) (s r : List ℕ) (b more : Bool) (told : Told b r more) (ex
   lift room w r₁ R R′ (some n) h e q = e ∙ ap (after-writing w) q
 
   -- where the part's call stops at a token that is only begun
-  at-begun : (at room : ℕ) (z : State) (R : Result) (n : ℕ) → Means (front s at) at Begun → numberAt b (length (drop at s)) (z .control) Begun ≡ some n →
+  at-begun : (at room : ℕ) (z : State) (R : Result) (n : ℕ) → ReadAs b s at Begun → numberAt b (length (drop at s)) (z .control) Begun ≡ some n →
       Runs a (s ++ r) more at (room + extra) z R → Onward room (stopped-at n at z) R (handed n z .closing)
   at-begun at room z R n m q d = by b refl told
     where
@@ -132,21 +125,21 @@ module _ (a : Sheet) (s r : List ℕ) (b more : Bool) (told : Told b r more) (ex
           ap₂ (λ (x : Bool) (y : List ℕ). numberAt x (length (drop at y)) (z .control) Begun) (sym t) (sym w) ∙ q in
           subst (Onward room (stopped-at n at z) R)
           (sym (end-closes (length (drop at s)) (z .control) n (ap (λ (x : Bool). numberAt x (length (drop at s)) (z .control) Begun) (sym e) ∙ q)))
-          (to-number a (s ++ r) more at (room + extra) z R Begun n k (split a (s ++ r) more d Begun (subst (λ (y : List ℕ). Means (front y at) at Begun) w m)))
+          (to-number a (s ++ r) more at (room + extra) z R Begun n k (split a (s ++ r) more d Begun (subst (λ (y : List ℕ). ReadAs more y at Begun) w (subst (λ (x : Bool). ReadAs x s at Begun) t m))))
 
   resume : {at room : ℕ} {z : State} {r₁ R : Result} → Runs a s b at room z r₁ → Runs a (s ++ r) more at (room + extra) z R → Onward room r₁ R (r₁ .held .closing)
   resume {R = R} (takes {at} {room} {z} {r = r₁} e next z′ w m t d) d′ =
-      let m′ = stays s r at (Token e (record { at = next })) (token≢begun e (record { at = next })) m in
+      let m′ = read-stays b more s r at (Token e (record { at = next })) told (token≢begun e (record { at = next })) m in
       let o = taken-in-more a z room extra (tokenOf a s e) z′ w t in
       let i = subst (AfterToken a (s ++ r) more at (room + extra) z next R)
-      (ap (oneToken a z (room + extra)) (token-in a s r at e (record { at = next }) m) ∙ o .0) (split a (s ++ r) more d′ (Token e (record { at = next })) m′) in
+      (ap (oneToken a z (room + extra)) (token-in a s r b at e next m) ∙ o .0) (split a (s ++ r) more d′ (Token e (record { at = next })) m′) in
       let f = o .1 in
       lift room w r₁ R (i .0) (r₁ .held .closing) f (i .2)
       (resume d (subst (λ (n : ℕ). Runs a (s ++ r) more next n z′ (i .0)) (omega arith) (i .1)))
   resume {R = R} (halts {at} {room} {z} (stops e next n m t)) d′ =
-      let m′ = stays s r at (Token e (record { at = next })) (token≢begun e (record { at = next })) m in
+      let m′ = read-stays b more s r at (Token e (record { at = next })) told (token≢begun e (record { at = next })) m in
       let i = subst (AfterToken a (s ++ r) more at (room + extra) z next R)
-      (ap (oneToken a z (room + extra)) (token-in a s r at e (record { at = next }) m) ∙ refused-in-more a z room extra (tokenOf a s e) n t)
+      (ap (oneToken a z (room + extra)) (token-in a s r b at e next m) ∙ refused-in-more a z room extra (tokenOf a s e) n t)
       (split a (s ++ r) more d′ (Token e (record { at = next })) m′) in
       let h = refuses-over a z room (tokenOf a s e) n t in
       subst (Onward room (stopped-at n at z) R) (sym (over-closes n (omega arith))) i
@@ -156,11 +149,11 @@ module _ (a : Sheet) (s r : List ℕ) (b more : Bool) (told : Told b r more) (ex
   resume {R = R} (halts {at} {room} {z} (no-token Bad n m q)) d′ =
       let h : 20 ≡ n = cc in
       subst (Onward room (stopped-at n at z) R) (sym (over-closes n (omega arith)))
-      (to-number a (s ++ r) more at (room + extra) z R Bad n q (split a (s ++ r) more d′ Bad (stays s r at Bad bad≢begun m)))
+      (to-number a (s ++ r) more at (room + extra) z R Bad n q (split a (s ++ r) more d′ Bad (read-stays b more s r at Bad told bad≢begun m)))
   resume {R = R} (halts {at} {room} {z} (no-token Long n m q)) d′ =
       let h : 21 ≡ n = cc in
       subst (Onward room (stopped-at n at z) R) (sym (over-closes n (omega arith)))
-      (to-number a (s ++ r) more at (room + extra) z R Long n q (split a (s ++ r) more d′ Long (stays s r at Long long≢begun m)))
+      (to-number a (s ++ r) more at (room + extra) z R Long n q (split a (s ++ r) more d′ Long (read-stays b more s r at Long told long≢begun m)))
 
 -- what stands in front of a part changes an answer's places only
 abbrev moved-by : ℕ → Result → Result
@@ -170,68 +163,44 @@ module _ (a : Sheet) (whole : List ℕ) (more : Bool) (n : ℕ) where
   abbrev rest : List ℕ
   rest = drop n whole
 
-  name-moved : (at m len : ℕ) → take len (drop (at + m) rest) ≡ take len (drop (n + at + m) whole)
-  name-moved at m len = ap (take len) (drop-drop (at + m) n whole ∙ ap (λ (i : ℕ). drop i whole) (sym (add-assoc n at m)))
-
-  token-moved : (at : ℕ) (t : Tok) → tokenOf a rest (eventOf at t) ≡ tokenOf a whole (eventOf (n + at) t)
-  token-moved at (tag start m g) = ap (λ (l : List ℕ). start-token (tagNamed (a .names) l)) (name-moved at 1 (length m))
-  token-moved at (tag end m g) = ap (λ (l : List ℕ). end-token (tagNamed (a .names) l)) (name-moved at 2 (length m))
-  token-moved at (tag empty m g) = ap (λ (l : List ℕ). empty-token (tagNamed (a .names) l)) (name-moved at 1 (length m))
-  token-moved at (ref x) = refl
-  token-moved at (char c) = refl
-
-  front-moved : (at from : ℕ) → from ≡ n + at → front whole from ≡ front rest at
-  front-moved at from h = ap (take 32) (ap (λ (i : ℕ). drop i whole) h ∙ sym (drop-drop at n whole))
-
   abbrev Shifted : ℕ → ℕ → State → Result → Type 0
   Shifted at room z r = (r′ : Result) × Runs a rest more at room z r′ × (r ≡ moved-by n r′)
 
+  bytes-moved : (at from : ℕ) → from ≡ n + at → drop at rest ≡ drop from whole
+  bytes-moved at from h = drop-drop at n whole ∙ ap (λ (i : ℕ). drop i whole) (sym h)
+
+  number-moved : (at from : ℕ) (x : Answer) (k : ℕ) (z : State) → from ≡ n + at → numberAt more (length (drop from whole)) (z .control) x ≡ some k →
+      numberAt more (length (drop at rest)) (z .control) x ≡ some k
+  number-moved at from x k z h q = ap (λ (l : List ℕ). numberAt more (length l) (z .control) x) (bytes-moved at from h) ∙ q
+
+  no-number : (left : ℕ) (c : Control) (x : Answer) (k : ℕ) → numberAt more left c x ≡ some k → NoToken x
+  no-number left c (Token e next) k q = let y : _≡_ {A = ℕ} 0 1 = cc in omega arith
+  no-number left c Begun k q = tt
+  no-number left c Bad k q = tt
+  no-number left c Long k q = tt
+
   -- a token in the bytes that are left
-  record Left (at from room : ℕ) (z : State) (e : Event) (next : ℕ) : Type 0 where
-    pub event : Event
-    pub to : ℕ
-    pub means : Means (front rest at) at (Token event (record { at = to }))
-    pub is-next : next ≡ n + to
-    pub same : oneToken a z room (tokenOf a whole e) ≡ oneToken a z room (tokenOf a rest event)
-
-  left-token : (at from room : ℕ) (z : State) (e : Event) (next : ℕ) → from ≡ n + at → Means (front whole from) from (Token e (record { at = next })) →
-      Left at from room z e next
-  left-token at from room z e next h (t, ok, st, p, q) =
-      record {
-        event = eventOf at t;
-        to = at + length (bytes t);
-        means = (t, ok, (st .0, sym (front-moved at from h) ∙ st .1), refl, refl);
-        is-next = omega (arith, q, h);
-        same = ap (oneToken a z room) (ap (tokenOf a whole) (p ∙ ap (λ (i : ℕ). eventOf i t) h) ∙ sym (token-moved at t));
-      }
-
-  none-left : (at from : ℕ) (x : Answer) (k : ℕ) (z : State) → from ≡ n + at → Means (front whole from) from x →
-      numberAt more (length (drop from whole)) (z .control) x ≡ some k → Means (front rest at) at x × (numberAt more (length (drop at rest)) (z .control) x ≡ some k)
-  none-left at from (Token e next) k z h m q = absurd (let y : _≡_ {A = ℕ} 0 1 = cc in omega arith)
-  none-left at from Begun k z h m q = (
-    subst (λ (f : List ℕ). Means f at Begun) (front-moved at from h) m,
-    ap (λ (l : List ℕ). numberAt more (length l) (z .control) Begun) (drop-drop at n whole ∙ ap (λ (i : ℕ). drop i whole) (sym h)) ∙ q,
-  )
-  none-left at from Bad k z h m q = (subst (λ (f : List ℕ). Means f at Bad) (front-moved at from h) m, q)
-  none-left at from Long k z h m q = (subst (λ (f : List ℕ). Means f at Long) (front-moved at from h) m, q)
+  left-token : (at from : ℕ) (e : Event) (next : ℕ) (h : from ≡ n + at) → ReadAs more whole from (Token e (record { at = next })) →
+      Alike more whole rest from at (sym (bytes-moved at from h)) e next
+  left-token at from e next h m = token-there more whole rest from at (sym (bytes-moved at from h)) e next m
 
   shift : {from room : ℕ} {z : State} {r : Result} → Runs a whole more from room z r → (at : ℕ) → from ≡ n + at → Shifted at room z r
   shift (takes {at = from} {room} {z} e next z′ w m t d) at h =
-      let l = left-token at from room z e next h m in
-      let i = shift d (l .to) (l .is-next) in
-      (after-writing w (i .0), takes (l .event) (l .to) z′ w (l .means) (sym (l .same) ∙ t) (i .1), ap (after-writing w) (i .2))
+      let l = left-token at from e next h m in
+      let i = shift d (l .to) (omega (arith, l .as-long, h)) in
+      (after-writing w (i .0), takes (l .event) (l .to) z′ w (l .read) (ap (oneToken a z room) (l .same a) ∙ t) (i .1), ap (after-writing w) (i .2))
   shift (halts {at = from} {room} {z} (stops e next k m t)) at h =
-      let l = left-token at from room z e next h m in
-      (stopped-at k at z, halts (stops (l .event) (l .to) k (l .means) (sym (l .same) ∙ t)), ap (λ (i : ℕ). stopped-at k i z) h)
+      let l = left-token at from e next h m in
+      (stopped-at k at z, halts (stops (l .event) (l .to) k (l .read) (ap (oneToken a z room) (l .same a) ∙ t)), ap (λ (i : ℕ). stopped-at k i z) h)
   shift (halts {at = from} {room} {z} (full e next m t)) at h =
-      let l = left-token at from room z e next h m in
-      (stopped-at 17 at z, halts (full (l .event) (l .to) (l .means) (sym (l .same) ∙ t)), ap (λ (i : ℕ). stopped-at 17 i z) h)
+      let l = left-token at from e next h m in
+      (stopped-at 17 at z, halts (full (l .event) (l .to) (l .read) (ap (oneToken a z room) (l .same a) ∙ t)), ap (λ (i : ℕ). stopped-at 17 i z) h)
   shift (halts {at = from} {room} {z} (no-token x k m q)) at h =
-      let l = none-left at from x k z h m q in
-      (stopped-at k at z, halts (no-token x k (l .0) (l .1)), ap (λ (i : ℕ). stopped-at k i z) h)
+      let l = none-there more whole rest from at (sym (bytes-moved at from h)) x (no-number (length (drop from whole)) (z .control) x k q) m in
+      (stopped-at k at z, halts (no-token x k l (number-moved at from x k z h q)), ap (λ (i : ℕ). stopped-at k i z) h)
 
 module _ (a : Sheet) (s r : List ℕ) (b more : Bool) (told : Told b r more) (room extra : ℕ) where
-  -- the call on the whole, from where the part's stopped, as a call of its own
+  -- the call on the whole, from where the part's stopped-at, as a call of its own
   as-call : (r₁ R : Result) (c : Option ℕ) → r₁ .held .closing ≡ c → Onward a s r b more told extra room r₁ R c → Continued a (s ++ r) more (room + extra) r₁ R c
   as-call r₁ R none h (r₂, d, q) =
       let i = shift a (s ++ r) more (r₁ .taken) d 0 (omega arith) in (

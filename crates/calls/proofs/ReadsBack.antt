@@ -9,9 +9,7 @@ use Prim.Native.Nat.{ℕ}
 use Rattle.tokens.specs.declared.Event.{Event}
 use Rattle.tokens.specs.declared.Event.the-variants.{Start, End, Empty, Character}
 use Rattle.tokens.specs.declared.Answer.the-variants.{Token}
-use Rattle.tokens.specs.Tokens.{front, Means}
 use Rattle.tokens.specs.Stream.{Reads}
-use Rattle.tokens.proofs.Streams.{event-char}
 use Rattle.sheet.specs.Sheet.{Sheet, IsSheet}
 use Rattle.output.specs.Escape.{Piece, render, AllFit, events}
 use Rattle.output.proofs.ReadBack.{reads-back, pieces-back}
@@ -25,19 +23,21 @@ use Rattle.runs.proofs.Fits.{run-fits}
 use Rattle.runs.proofs.SheetFits.{sheet-fits}
 use Rattle.calls.specs.Names.{tokenOf}
 use Rattle.calls.specs.Limits.{silent}
+use Rattle.calls.specs.Read.{ReadAs, ReadsAs}
 use Rattle.calls.specs.Call.{Result, CalledBy}
 use Rattle.calls.specs.ReadsBack.{ReadsBack, CallsReadBack}
+use Rattle.calls.proofs.Read.{read-char}
 use Rattle.calls.proofs.Steps.{RunToken, outOf, Steps, tokensOf, run-does}
 
 pub text-back : (ps : List Piece) → AllFit ps → ReadsBack (render ps)
 text-back ps f = record { printed = ps; is = refl; reads = λ p r. reads-back ps p r f; same = λ p r. pieces-back ps p r }
 
-module _ (a : Sheet) (fits : SheetFits a) (s : List ℕ) where
-  event-fits : (at next : ℕ) (e : Event) → Means (front s at) at (Token e (record { at = next })) → EventsFit (eventsOfToken (tokenOf a s e))
+module _ (a : Sheet) (fits : SheetFits a) (s : List ℕ) (more : Bool) where
+  event-fits : (at next : ℕ) (e : Event) → ReadAs more s at (Token e (record { at = next })) → EventsFit (eventsOfToken (tokenOf a s e))
   event-fits at next (Start from len) m = tt
   event-fits at next (End from len) m = tt
   event-fits at next (Empty from len) m = tt
-  event-fits at next (Character c) m = (event-char (front s at) at c (record { at = next }) m, tt)
+  event-fits at next (Character c) m = (read-char more s at c next m, tt)
 
   token-fits : (z y : State) (k : RunToken) → StoreFits (z .store) → EventsFit (eventsOfToken k) → stepToken a z k ≡ took y → StoreFits (y .store)
   token-fits z y k f h e = by (isBlank k && passesAt (grammar a) (z .control)) e
@@ -49,7 +49,7 @@ module _ (a : Sheet) (fits : SheetFits a) (s : List ℕ) where
   silent-fits : (y : State) → StoreFits (y .store) → StoreFits (silent y .store)
   silent-fits y f = record { values-fit = f .values-fit; kept-fit = f .kept-fit; output-fits = tt }
 
-  steps-fit : (es : List Event) (at to : ℕ) (z z″ : State) (p : List Piece) → StoreFits (z .store) → Reads s at es to → Steps a z (tokensOf a s es) z″ p → AllFit p
+  steps-fit : (es : List Event) (at to : ℕ) (z z″ : State) (p : List Piece) → StoreFits (z .store) → ReadsAs more s at es to → Steps a z (tokensOf a s es) z″ p → AllFit p
   steps-fit [] at to z z″ p f rd (e, q) = subst AllFit (sym q) tt
   steps-fit (e ∷ es) at to z z″ p f (next, m, rd) (y, t, c, p′, st, q) =
       let g = token-fits z y (tokenOf a s e) f (event-fits at next e m) t in
@@ -62,5 +62,5 @@ calls-read-back {b} {a} i part more room h r f d = by (h .closing) d
     by : (c : Option ℕ) → CalledBy a part more room (h .run) c r → ReadsBack (r .output)
     by none d =
         let w = run-does a part d in
-        subst ReadsBack (sym (w .writes)) (text-back (w .printed) (steps-fit a (sheet-fits i) part (w .events) 0 (r .taken) (h .run) (r .held .run) (w .printed) f (w .reads) (w .steps)))
+        subst ReadsBack (sym (w .writes)) (text-back (w .printed) (steps-fit a (sheet-fits i) part more (w .events) 0 (r .taken) (h .run) (r .held .run) (w .printed) f (w .reads) (w .steps)))
     by (some n) d = subst (λ (x : Result). ReadsBack (x .output)) (sym d) (text-back [] tt)

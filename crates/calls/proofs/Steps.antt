@@ -13,9 +13,6 @@ use borrow.Author.Tests.{leb-true, le-leb}
 use Rattle.tokens.specs.declared.Event.{Event}
 use Rattle.tokens.specs.declared.Answer.{Answer}
 use Rattle.tokens.specs.declared.Answer.the-variants.{Token, Begun, Bad, Long}
-use Rattle.tokens.specs.Tokens.{front, Means}
-use Rattle.tokens.specs.Stream.{Reads}
-use Rattle.tokens.proofs.Reading.{begun-none}
 use Rattle.output.specs.Escape.{Piece, render}
 use Rattle.output.proofs.Writing.{render-append}
 use Rattle.sheet.specs.Sheet.{Sheet}
@@ -25,7 +22,9 @@ use Rattle.calls.specs.Names.{tokenOf}
 use Rattle.runs.specs.Visits.{mostVisits}
 use Rattle.calls.specs.Limits.{silent, outputOf, Taking, taken, refuses, no-room, limited, within, oneToken}
 use Rattle.calls.specs.Held.{Held, handed}
+use Rattle.calls.specs.Read.{ReadAs, ReadsAs}
 use Rattle.calls.specs.Call.{Result, stopped-at, after-writing, atEnd, numberAt, Stop, stops, full, no-token, Runs, takes, halts}
+use Rattle.calls.proofs.Read.{none-read}
 use Rattle.calls.proofs.Frame.{state-behind, answer-behind, token-frame, countOf, tokens-count, token-number}
 
 abbrev pub RunToken : Type 0
@@ -155,7 +154,7 @@ tokensOf a s (e ∷ es) = tokenOf a s e ∷ tokensOf a s es
 pub record Does (a : Sheet) (part : List ℕ) (more : Bool) (at room : ℕ) (z : State) (r : Result) : Type 0 where
   pub events : List Event
   pub printed : List Piece
-  pub reads : Reads part at events (r .taken)
+  pub reads : ReadsAs more part at events (r .taken)
   pub steps : Steps a z (tokensOf a part events) (r .held .run) printed
   pub writes : r .output ≡ render printed
   pub fits : length (render printed) ≤ room
@@ -202,7 +201,7 @@ abbrev pub done-with : ℕ → ℕ → List Piece → State → Result
 done-with n to p z = record { number = n; taken = to; output = render p; held = handed n z }
 
 module _ (a : Sheet) (s : List ℕ) (more : Bool) where
-  pub steps-stop : (es : List Event) (at room : ℕ) (z : State) (to : ℕ) (last : State) (p : List Piece) (n : ℕ) → Reads s at es to → Steps a z (tokensOf a s es) last p →
+  pub steps-stop : (es : List Event) (at room : ℕ) (z : State) (to : ℕ) (last : State) (p : List Piece) (n : ℕ) → ReadsAs more s at es to → Steps a z (tokensOf a s es) last p →
       length (render p) ≤ room → Stop a s more to (room - length (render p)) last n → Runs a s more at room z (done-with n to p last)
   steps-stop [] at room z to last p n rd (e, q) f st =
       let none : room - length (render p) ≡ room = omega (arith, ap (λ (l : List Piece). length (render l)) q) in
@@ -230,7 +229,7 @@ pub record Ends (a : Sheet) (s : List ℕ) (at room : ℕ) (z : State) (r : Resu
   pub to : ℕ
   pub last : State
   pub printed : List Piece
-  pub reads : Reads s at events to
+  pub reads : ReadsAs false s at events to
   pub steps : Steps a z (tokensOf a s events) last printed
   pub root-closed : last .control ≡ after
   pub nothing-left : length (drop to s) ≡ 0
@@ -279,8 +278,8 @@ module _ (a : Sheet) (s : List ℕ) where
         is = λ k. record { number = h k; taken = r .taken; output = w k; held = record { run = r .held .run; closing = c k } };
       }
 
-  pub ends-run : (es : List Event) (at room : ℕ) (z : State) (to : ℕ) (last : State) (p : List Piece) → Reads s at es to → Steps a z (tokensOf a s es) last p →
+  pub ends-run : (es : List Event) (at room : ℕ) (z : State) (to : ℕ) (last : State) (p : List Piece) → ReadsAs false s at es to → Steps a z (tokensOf a s es) last p →
       last .control ≡ after → length (drop to s) ≡ 0 → length (render p) ≤ room → Runs a s false at room z (ended to p last)
   ends-run es at room z to last p rd st c l f =
-      let m : Means (front s to) to Begun = begun-none (front s to) to (omega (arith, length-take 32 (drop to s))) in
+      let m : ReadAs false s to Begun = none-read false s to l in
       steps-stop a s false es at room z to last p 0 rd st f (no-token Begun 0 m (ap₂ (λ (i : ℕ) (d : Control). numberAt false i d Begun) l c))

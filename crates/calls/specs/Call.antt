@@ -9,13 +9,13 @@ use lib.ListN.{length, drop}
 use Rattle.tokens.specs.declared.Event.{Event}
 use Rattle.tokens.specs.declared.Answer.{Answer}
 use Rattle.tokens.specs.declared.Answer.the-variants.{Token, Begun, Bad, Long}
-use Rattle.tokens.specs.Tokens.{front, Means}
 use Rattle.tokens.specs.Numbers.{numberOf}
 use Rattle.sheet.specs.Sheet.{Sheet}
 use Rattle.runs.specs.Options.{orElse}
 use Rattle.runs.specs.Machine.{Control, before, inside, after, State}
 use Rattle.calls.specs.Names.{tokenOf}
 use Rattle.calls.specs.Held.{Held, handed}
+use Rattle.calls.specs.Read.{ReadAs}
 use Rattle.calls.specs.Limits.{taken, refuses, no-room, oneToken}
 
 pub record Result : Type 0 where
@@ -53,17 +53,17 @@ numberAt more left c Long = numberOf more left Long
 -- output, or no whole token comes next
 pub data Stop (a : Sheet) (part : List ℕ) (more : Bool) (at room : ℕ) (z : State) : ℕ → Type 0 where
   stops : (e : Event) (next n : ℕ) →
-      Means (front part at) at (Token e (record { at = next })) → oneToken a z room (tokenOf a part e) ≡ refuses n → Stop a part more at room z n
+      ReadAs more part at (Token e (record { at = next })) → oneToken a z room (tokenOf a part e) ≡ refuses n → Stop a part more at room z n
   full : (e : Event) (next : ℕ) →
-      Means (front part at) at (Token e (record { at = next })) → oneToken a z room (tokenOf a part e) ≡ no-room → Stop a part more at room z 17
+      ReadAs more part at (Token e (record { at = next })) → oneToken a z room (tokenOf a part e) ≡ no-room → Stop a part more at room z 17
   no-token : (x : Answer) (n : ℕ) →
-      Means (front part at) at x → numberAt more (length (drop at part)) (z .control) x ≡ some n → Stop a part more at room z n
+      ReadAs more part at x → numberAt more (length (drop at part)) (z .control) x ≡ some n → Stop a part more at room z n
 
 -- the call from there on: it takes token after token, and then stops. A token that is refused, or that there is no room for, leaves the state as it was
 -- before it, and nothing of its output
 pub data Runs (a : Sheet) (part : List ℕ) (more : Bool) : ℕ → ℕ → State → Result → Type 0 where
   takes : {at room : ℕ} {z : State} {r : Result} (e : Event) (next : ℕ) (z′ : State) (w : List ℕ) →
-      Means (front part at) at (Token e (record { at = next })) → oneToken a z room (tokenOf a part e) ≡ taken z′ w → Runs a part more next (roomLeft room w) z′ r →
+      ReadAs more part at (Token e (record { at = next })) → oneToken a z room (tokenOf a part e) ≡ taken z′ w → Runs a part more next (roomLeft room w) z′ r →
       Runs a part more at room z (after-writing w r)
   halts : {at room : ℕ} {z : State} {n : ℕ} → Stop a part more at room z n → Runs a part more at room z (stopped-at n at z)
 

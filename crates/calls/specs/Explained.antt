@@ -7,7 +7,7 @@ use mathlib.Core.Logic.{_↔_}
 use Prim.Native.Nat.{ℕ, _≤_, _<_}
 use lib.ListN.{length}
 use Rattle.tokens.specs.declared.Answer.the-variants.{Begun, Bad, Long}
-use Rattle.tokens.specs.Tokens.{Tok, Good, bytes, front, Means}
+use Rattle.tokens.specs.Tokens.{Tok, Good, bytes}
 use Rattle.tokens.specs.Stream.{flat}
 use Rattle.sheet.specs.Sheet.{Sheet}
 use Rattle.output.specs.Escape.{render}
@@ -17,6 +17,7 @@ use Rattle.runs.specs.Taken.{RootClosed}
 use Rattle.runs.specs.SoFar.{SpelledSoFar, eventsSoFar, TokenRefused}
 use Rattle.calls.specs.Names.{tokenFor, tokensFor}
 use Rattle.calls.specs.Held.{fresh-held}
+use Rattle.calls.specs.Read.{ReadAs}
 use Rattle.calls.specs.Call.{Result, Called}
 use Rattle.calls.specs.Empty.{Stream}
 
@@ -29,13 +30,13 @@ pub record Next (left : List ℕ) (t : Tok) (rest : List ℕ) : Type 0 where
 -- why the call stops after the tokens ts, with `left` still to be read, and the number that it answers then
 pub data Why (a : Sheet) (more : Bool) (room : ℕ) (ts : List Tok) (left : List ℕ) {m : Store} (so : SpelledSoFar a (tokensFor a ts) m) : ℕ → Type 0 where
   all-taken : more ≡ false → left ≡ [] → RootClosed a (eventsSoFar so) → Why a more room ts left so 0
-  used-up : more ≡ true → Means (front left 0) 0 Begun → Why a more room ts left so 16  -- nothing is left, or a begun token
+  used-up : more ≡ true → ReadAs more left 0 Begun → Why a more room ts left so 16  -- nothing is left, or a begun token
   no-space : (t : Tok) (rest : List ℕ) → Next left t rest → (m′ : Store) → SpelledSoFar a (tokensFor a (ts ++ t ∷ [])) m′ → m′ .env .count ≤ mostVisits →
       room < length (render (m′ .env .out)) → Why a more room ts left so 17
-  begins-none : Means (front left 0) 0 Bad → Why a more room ts left so 20
-  too-long : Means (front left 0) 0 Long → Why a more room ts left so 21
+  begins-none : ReadAs more left 0 Bad → Why a more room ts left so 20
+  too-long : ReadAs more left 0 Long → Why a more room ts left so 21
   next-refused : (t : Tok) (rest : List ℕ) (n : ℕ) → Next left t rest → TokenRefused so (tokenFor a t) n → Why a more room ts left so n  -- 22 to 26
-  cut-off : more ≡ false → (left ≡ [] → ⊥) → Means (front left 0) 0 Begun → Why a more room ts left so 27
+  cut-off : more ≡ false → (left ≡ [] → ⊥) → ReadAs more left 0 Begun → Why a more room ts left so 27
   not-closed : more ≡ false → left ≡ [] → (RootClosed a (eventsSoFar so) → ⊥) → Why a more room ts left so 27
   too-many : (t : Tok) (rest : List ℕ) → Next left t rest → (m′ : Store) → SpelledSoFar a (tokensFor a (ts ++ t ∷ [])) m′ → mostVisits < m′ .env .count →
       Why a more room ts left so 30

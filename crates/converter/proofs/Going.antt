@@ -20,17 +20,18 @@ use Rattle.tokens.specs.declared.Event.{Event}
 use Rattle.tokens.specs.declared.Event.the-variants.{Start, End, Empty, Character}
 use Rattle.tokens.specs.declared.Answer.{Answer}
 use Rattle.tokens.specs.declared.Answer.the-variants.{Token, Begun, Bad, Long}
-use Rattle.tokens.specs.Tokens.{start, end, empty, front, Means}
-use Rattle.tokens.proofs.Streams.{tag-name, event-char, token-moves}
+use Rattle.tokens.specs.Tokens.{start, end, empty}
 use Rattle.sheet.specs.Sheet.{Sheet}
 use Rattle.runs.specs.Visits.{mostVisits}
 use Rattle.runs.specs.Machine.{Control, most, State as Standing, answered, run}
 use Rattle.runs.proofs.SheetFits.{sheet-fits}
 use Rattle.calls.specs.Names.{tokenOf}
+use Rattle.calls.specs.Read.{ReadAs}
 use Rattle.calls.specs.Limits.{Taking, taken, refuses, no-room, oneToken}
 use Rattle.runs.specs.Closing.{Closing, closed-by-end, closed-by-refusal, closed-by-count}
 use Rattle.calls.specs.Held.{Held, leavesOpen, closingOf, handed}
 use Rattle.calls.specs.Call.{Result, roomLeft, stopped-at, after-writing, numberAt, stops, full as no-space, no-token, Runs, takes, halts as run-halts, CalledBy, Called}
+use Rattle.calls.proofs.Read.{read-moves, read-name, read-char}
 use Rattle.calls.proofs.Steps.{takes-one, refuses-over}
 use Rattle.calls.proofs.Exactly.{closing-fits}
 use Rattle.state.specs.Changes.{notClosed, closedWith, withEnv, tidied}
@@ -59,11 +60,11 @@ use Rattle.converter.specs.Promises.{InTable}
 use Rattle.converter.proofs.Replies.{run-number, fits-here}
 
 -- what the reader answers of a part lies in it
-pub event-in : (part : List ℕ) (at : ℕ) (e : Event) (next : Cursor) → Means (front part at) at (Token e next) → EventIn part e
-event-in part at (Start from len) next m = tag-name start part at from len next m .within
-event-in part at (End from len) next m = tag-name end part at from len next m .within
-event-in part at (Empty from len) next m = tag-name empty part at from len next m .within
-event-in part at (Character c) next m = event-char (front part at) at c next m
+pub event-in : (more : Bool) (part : List ℕ) (at : ℕ) (e : Event) (next : ℕ) → ReadAs more part at (Token e (record { at = next })) → EventIn part e
+event-in more part at (Start from len) next m = read-name more start part at from len next m .within
+event-in more part at (End from len) next m = read-name more end part at from len next m .within
+event-in more part at (Empty from len) next m = read-name more empty part at from len next m .within
+event-in more part at (Character c) next m = read-char more part at c next m
 
 -- z₀ is the state that was handed in; at the place `at` of the part the state is z, `put` bytes are written and the lent memory is d
 pub record Going (s : List ℕ) (z₀ : State) (part : List ℕ) (more : Bool) (lent d : List ℕ) (at put : ℕ) (z : State) : Type 0 where
@@ -116,7 +117,7 @@ module _ {s : List ℕ} {z₀ : State} {part : List ℕ} {more : Bool} {lent d :
       sym (drop-drop (length w) put d) ∙ ap (drop (length w)) r ∙ drop-drop (length w) put lent in
       e ∙ ap₂ (λ (x y : List ℕ). x ++ (w ++ y)) t v ∙ sym (append-assoc u w (drop (put + length w) lent))
 
-  module _ (e : Event) (next : ℕ) (means : Means (front part at) at (Token e (record { at = next }))) where
+  module _ (e : Event) (next : ℕ) (means : ReadAs more part at (Token e (record { at = next }))) where
     abbrev here : Taking
     here = oneToken sheet (meaningOf z) left (tokenOf sheet part e)
 
@@ -131,7 +132,7 @@ module _ {s : List ℕ} {z₀ : State} {part : List ℕ} {more : Bool} {lent d :
     taken-on r d′ T y w q k =
         let o = takes-one sheet (meaningOf z) left (tokenOf sheet part e) y w q in
         let h : put + length w ≤ length lent = omega (arith, o .fits, ap length (o .writes), g .room) in
-        let m = token-moves part at e (record { at = next }) (g .within) means in
+        let m = read-moves more part at e next means (g .within) in
         let n : r .at ≡ put + length w = k .next in
         let f = then-written w d′ h (k .left) in
         record {
@@ -144,7 +145,7 @@ module _ {s : List ℕ} {z₀ : State} {part : List ℕ} {more : Bool} {lent d :
           given = g .given;
           fits = subst (RunFits sheet) (sym (k .means))
               (taken-fits sheet (sheet-fits (g .given .is-sheet)) (meaningOf z) left (tokenOf sheet part e) y w
-              (event-fits sheet part e (event-in part at e (record { at = next }) means)) (g .fits) q);
+              (event-fits sheet part e (event-in more part at e next means)) (g .fits) q);
           written = g .written ++ w;
           as-long = length-append (g .written) w ∙ omega (arith, n, g .as-long);
           first = f ∙ ap (λ (i : ℕ). (g .written ++ w) ++ drop i lent) (sym n);
@@ -304,7 +305,7 @@ few d = by (run-number d)
 
 -- a token that is not taken
 module _ {s : List ℕ} {z₀ : State} {part : List ℕ} (ended-now : Bool) {lent d : List ℕ} {at put : ℕ} {z : State} (g : Going s z₀ part (not ended-now) lent d at put z)
-    (e : Event) (next : ℕ) (means : Means (front part at) at (Token e (record { at = next })))
+    (e : Event) (next : ℕ) (means : ReadAs (not ended-now) part at (Token e (record { at = next })))
     (r : Stepped) (d′ : List ℕ) (taking : TakenAs s part e z d put r d′) (w : r .number ≡ 0 → ⊥) where
   pub refused-few : r .number ≤ 30
   refused-few = few (halts g e next means r d′ taking w .0)
@@ -326,7 +327,7 @@ numbered more left c Bad n w h = h
 numbered more left c Long n w h = h
 
 module _ {s : List ℕ} {z₀ : State} {part : List ℕ} (ended-now : Bool) {lent d : List ℕ} {at put : ℕ} {z : State} (g : Going s z₀ part (not ended-now) lent d at put z)
-    (x : Answer) (n : ℕ) (means : Means (front part at) at x) (w : (e : Event) (next : Cursor) → x ≡ Token e next → ⊥)
+    (x : Answer) (n : ℕ) (means : ReadAs (not ended-now) part at x) (w : (e : Event) (next : Cursor) → x ≡ Token e next → ⊥)
     (h : NumberedAs (not ended-now) (length part - at) (meaningOf z .control) x n) where
   without : Runs (g .given .sheet) part (not ended-now) at (length lent - put) (meaningOf z) (stopped-at n at (meaningOf z))
   without =
@@ -342,8 +343,8 @@ module _ {s : List ℕ} {z₀ : State} {part : List ℕ} (ended-now : Bool) {len
   ends-without q t = ends-with ended-now g n without q t
 
 -- what the reader answered is the token that was bound
-pub bound : (part : List ℕ) (at : ℕ) (x : Answer) (e : Event) (next : Cursor) → Means (front part at) at x → x ≡ Token e next → Means (front part at) at (Token e next)
-bound part at x e next m q = subst (Means (front part at) at) q m
+pub bound : (more : Bool) (part : List ℕ) (at : ℕ) (x : Answer) (e : Event) (next : Cursor) → ReadAs more part at x → x ≡ Token e next → ReadAs more part at (Token e next)
+bound more part at x e next m q = subst (ReadAs more part at) q m
 
 -- the live part of a state is closed as the state is
 full-left : (n : ℕ) (h : Live) (b : List ℕ) → full (leftLive n h) b ≡ leftWith n (full h b)

@@ -8,7 +8,7 @@ use mathlib.Core.Option.{Option}
 use Prim.Native.Nat.{ℕ, _≤_}
 use native.Mathlib.Omega.{arith}
 use lib.ListN.{length}
-use Rattle.tokens.proofs.Streams.{token-moves}
+use Rattle.calls.proofs.Read.{read-moves}
 use Rattle.sheet.specs.Sheet.{Sheet}
 use Rattle.runs.specs.Machine.{State as Run}
 use Rattle.calls.specs.Held.{leavesOpen, closingOf, handed}
@@ -29,15 +29,15 @@ use Rattle.converter.specs.Bytes.{CanonicalBytes, BytesAnsweredAs, as-gi
 
 -- the place where a run stops lies behind the one where it began, unless it took nothing: then it hands back what it began with
 taken-past : {a : Sheet} {part : List ℕ} {more : Bool} {at room : ℕ} {z : Run} {r : Result} → at ≤ length part → Runs a part more at room z r → at ≤ r .taken
-taken-past {part = part} h (takes {at} e next z′ w m t d) =
-    let k = token-moves part at e (record { at = next }) h m in
+taken-past {part = part} {more} h (takes {at} e next z′ w m t d) =
+    let k = read-moves more part at e next m h in
     omega (arith, k .0, taken-past (k .1) d)
 taken-past h (halts x) = omega arith
 
 held-there : {a : Sheet} {part : List ℕ} {more : Bool} {at room : ℕ} {z : Run} {r : Result} → at ≤ length part → Runs a part more at room z r → r .taken ≡ at →
     r .held ≡ handed (r .number) z
-held-there {part = part} h (takes {at} e next z′ w m t d) q =
-    let k = token-moves part at e (record { at = next }) h m in
+held-there {part = part} {more} h (takes {at} e next z′ w m t d) q =
+    let k = read-moves more part at e next m h in
     absurd (omega (arith, k .0, taken-past (k .1) d, q))
 held-there h (halts x) q = refl
 

@@ -1,12 +1,13 @@
 -- A reply is a call's answer, and so the ceiling of a call is the code's.
 -- Assumes nothing.
 use mathlib.Core.Path.{_≡_, refl, sym, _∙_, ap, subst}
-use mathlib.Core.Bool.{Bool}
+use mathlib.Core.Bool.{Bool, not}
 use mathlib.Core.List.{List, [], _∷_}
 use Prim.Native.Nat.{ℕ}
 use native.Mathlib.Omega.{arith}
 use lib.ListN.{length}
-use Rattle.tokens.specs.Stream.{Reads}
+use lib.Dec.{eqb}
+use Rattle.calls.specs.Read.{ReadsAs}
 use Rattle.calls.specs.Held.{Held}
 use Rattle.state.specs.Meaning.{meaningOf}
 use Rattle.state.specs.Bytes.{stateFrom}
@@ -18,34 +19,34 @@ use Rattle.converter.specs.Answered.{heldOf, Ran, as-given, runs}
 use Rattle.converter.specs.Bytes.{BytesAnsweredAs}
 use Rattle.cost.specs.Cost.{AtMost, CallsCost, BytesCost, HostsCost}
 
-nothing-taken : (part : List ℕ) (before taken visits : ℕ) → taken ≡ 0 → visits ≡ before → AtMost part before taken visits
-nothing-taken part before taken visits t v = record { tokens = []; are-taken = sym t; few = omega (arith, v) }
+nothing-taken : (more : Bool) (part : List ℕ) (before taken visits : ℕ) → taken ≡ 0 → visits ≡ before → AtMost more part before taken visits
+nothing-taken more part before taken visits t v = record { tokens = []; are-taken = sym t; few = omega (arith, v) }
 
 count-held : (z : State) → countIn (heldOf z .run) ≡ z .count
 unfolding meaningOf
 count-held z = refl
 
 ran-cost : (s : List ℕ) (z : State) (part : List ℕ) (ended : Bool) (lent after : List ℕ) (r : Reply) → Ran s z part ended lent after r →
-    AtMost part (z .count) (r .taken) (r .state .count)
+    AtMost (not ended) part (z .count) (r .taken) (r .state .count)
 ran-cost s z part ended lent after r w =
     let c = ceiling-kept s (w .sheet) (w .is-sheet) (w .passed) .of-calls part _ (length lent) (heldOf z) (w .answer) (w .called) in
     record {
       tokens = c .0;
-      are-taken = subst (Reads part 0 (c .0)) (sym (w .taken)) (c .1);
+      are-taken = subst (ReadsAs (not ended) part 0 (c .0)) (sym (w .taken)) (c .1);
       few = omega (arith, c .2, count-held z, count-held (r .state), ap (λ (h : Held). countIn (h .run)) (w .held));
     }
 
 pub calls-cost : CallsCost
-calls-cost s z part ended lent after r (as-given g k v) = nothing-taken part (z .count) (r .taken) (r .visits) (k .taken) v
-calls-cost s z part ended lent after r (runs w v) = subst (AtMost part (z .count) (r .taken)) (sym v) (ran-cost s z part ended lent after r w)
+calls-cost s z part ended lent after r (as-given g k v) = nothing-taken (not ended) part (z .count) (r .taken) (r .visits) (k .taken) v
+calls-cost s z part ended lent after r (runs w v) = subst (AtMost (not ended) part (z .count) (r .taken)) (sym v) (ran-cost s z part ended lent after r w)
 
 pub bytes-cost : BytesCost
-bytes-cost s b b′ part ended lent after r (BytesAnsweredAs.as-given g k) = nothing-taken part (stateFrom b .count) (r .taken) (r .visits) (k .taken) (k .visits)
+bytes-cost s b b′ part ended lent after r (BytesAnsweredAs.as-given g k) = nothing-taken (not ended) part (stateFrom b .count) (r .taken) (r .visits) (k .taken) (k .visits)
 bytes-cost s b b′ part ended lent after r (BytesAnsweredAs.runs i q w n e f) =
     let c = ran-cost s (stateFrom b) part ended lent after q w in
     record {
       tokens = c .tokens;
-      are-taken = subst (Reads part 0 (c .tokens)) (sym (n .taken)) (c .are-taken);
+      are-taken = subst (ReadsAs (not ended) part 0 (c .tokens)) (sym (n .taken)) (c .are-taken);
       few = omega (arith, c .few, n .visits);
     }
 
@@ -57,5 +58,5 @@ hosts-cost s b b′ part ended lent after counts w h taken written visits e =
     let one = head-is _ _ _ _ (sym (h .counted) ∙ e) in
     let two = head-is _ _ _ _ (one .1) in
     let three = head-is _ _ _ _ (two .1) in
-    subst (λ (t : ℕ). AtMost part (stateFrom b .count) t visits) (one .0)
-    (subst (AtMost part (stateFrom b .count) (h .answer .taken)) (three .0) (bytes-cost s b b′ part _ lent after (h .answer) (h .as-answered)))
+    subst (λ (t : ℕ). AtMost (not (not (eqb ended 0))) part (stateFrom b .count) t visits) (one .0)
+    (subst (AtMost (not (not (eqb ended 0))) part (stateFrom b .count) (h .answer .taken)) (three .0) (bytes-cost s b b′ part _ lent after (h .answer) (h .as-answered)))

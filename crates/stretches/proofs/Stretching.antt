@@ -28,6 +28,7 @@ use Rattle.runs.specs.Machine.{State, took, answered, run}
 use Rattle.runs.specs.Spells.{literal, passesAt, unless-blank, stepToken, eventsOfToken}
 use Rattle.calls.specs.Limits.{silent, outputOf, Taking, taken, limited, within, oneToken}
 use Rattle.calls.specs.Call.{Result, after-writing, Runs, takes}
+use Rattle.calls.proofs.Read.{read-plain}
 use Rattle.calls.proofs.Steps.{one-takes}
 use Rattle.steady.specs.Steady.{counting, shown, Steady}
 use Rattle.stretches.specs.declared.Stretch.{Stretch}
@@ -104,7 +105,7 @@ module _ (part : List ℕ) (from : ℕ) where
               subst (Runs a part more from (length lent - put) (counting m n))
               (ap (λ (o : List ℕ). record { number = x .number; taken = x .taken; output = o; held = x .held }) (sym (append-assoc w v (x .output))))
               (s .rest a m steady more (after-writing v x)
-              (takes (Character c) (next .at) (counting m (count + k)) v means taking
+              (takes (Character c) (next .at) (counting m (count + k)) v (read-plain more part at (Token (Character c) next) means) taking
               (subst (λ (i : ℕ). Runs a part more (next .at) i (counting m (count + k)) x) left-over run-on)));
         }
 
@@ -130,6 +131,6 @@ module _ (part : List ℕ) (from : ℕ) where
             let fits : length (outputOf m) ≤ room = omega (arith, ap length nothing) in
             let taking : oneToken a m room (literal c) ≡ taken m [] = one-takes a m room (literal c) m stepped counted fits ∙ ap₂ taken same nothing in
             s .rest a m silent-then counted passes more room x
-            (takes (Character c) (next .at) m [] means taking
+            (takes (Character c) (next .at) m [] (read-plain more part at (Token (Character c) next) means) taking
             (let e : room ≡ room - 0 = omega arith in subst (λ (i : ℕ). Runs a part more (next .at) i m x) e run-on));
       }
