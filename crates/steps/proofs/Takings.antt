@@ -28,7 +28,7 @@ use Rattle.state.specs.declared.State.{State}
 use Rattle.state.specs.Meaning.{meaningOf, Shaped}
 use Rattle.steps.specs.Seen.{Whole as Stepped}
 use Rattle.steps.specs.Stepped.{Took, AnsweredAs, SteppedAs, TokenAs}
-use Rattle.steps.specs.Taken.{Left, Takes, TakenAs}
+use Rattle.steps.specs.Taken.{Left, Takes, TakenAs, SameStep}
 use Rattle.steps.specs.Parts.{Ready, ReadyAt}
 use Rattle.live.specs.Live.{full}
 use Rattle.live.specs.declared.Live.{Live}
@@ -259,18 +259,12 @@ module _ {s part : List ℕ} {e : Read} {z : State} {lent : List ℕ} {at : ℕ}
           (subst (λ (v : State). TokenAs s part e v (record { write = true; lent = take (length lent - at) (drop at lent); at = 0 }) x d′) same W)) r q))
 
 -- the answer is one
-pub record Same (r r′ : Stepped) (d d′ : List ℕ) : Type 0 where
-  pub number : r .number ≡ r′ .number
-  pub next : r .at ≡ r′ .at
-  pub memory : d ≡ d′
-  pub means : meaningOf (r .state) ≡ meaningOf (r′ .state)
-
 pub one-answer : {s part : List ℕ} {e : Read} {z : State} {lent : List ℕ} {at : ℕ} {r r′ : Stepped} {d d′ : List ℕ} → Ready s z →
-    TakenAs s part e z lent at r d → TakenAs s part e z lent at r′ d′ → Same r r′ d d′
+    TakenAs s part e z lent at r d → TakenAs s part e z lent at r′ d′ → SameStep r r′ d d′
 one-answer {s} {part} {e} {z} {lent} {at} {r} {r′} {d} {d′} y t t′ =
     by (oneToken (y .sheet) (meaningOf z) (length lent - at) (tokenOf (y .sheet) part e)) (t .right (y .sheet) (y .is-sheet) (y .shaped) (y .fits)) (t′ .right (y .sheet) (y .is-sheet) (y .shaped) (y .fits))
   where
-    left-one : (n : ℕ) → Left n z lent at r d → Left n z lent at r′ d′ → Same r r′ d d′
+    left-one : (n : ℕ) → Left n z lent at r d → Left n z lent at r′ d′ → SameStep r r′ d d′
     left-one n k k′ =
         record {
           number = k .number ∙ sym (k′ .number);
@@ -279,7 +273,7 @@ one-answer {s} {part} {e} {z} {lent} {at} {r} {r′} {d} {d′} y t t′ =
           means = ap meaningOf (k .state ∙ sym (k′ .state));
         }
 
-    by : (x : Taking) → Takes x z lent at r d → Takes x z lent at r′ d′ → Same r r′ d d′
+    by : (x : Taking) → Takes x z lent at r d → Takes x z lent at r′ d′ → SameStep r r′ d d′
     by (taken m w) k k′ =
         record {
           number = k .number ∙ sym (k′ .number);
@@ -292,11 +286,11 @@ one-answer {s} {part} {e} {z} {lent} {at} {r} {r′} {d} {d′} y t t′ =
 
 -- the same of an event: one number, and where that is 0 one offset, one memory and one meaning
 pub one-event : {s : List ℕ} {x : Event} {z : State} {p : Pen} {r r′ : Stepped} {d d′ : List ℕ} → Ready s z → SteppedAs s x z p r d → SteppedAs s x z p r′ d′ →
-    (r .number ≡ r′ .number) × (r .number ≡ 0 → Same r r′ d d′)
+    (r .number ≡ r′ .number) × (r .number ≡ 0 → SameStep r r′ d d′)
 one-event {s} {x} {z} {p} {r} {r′} {d} {d′} y t t′ =
     by (step (y .sheet) (meaningOf z) x) refl (t .right (y .sheet) (y .is-sheet) (y .shaped) (y .fits)) (t′ .right (y .sheet) (y .is-sheet) (y .shaped) (y .fits))
   where
-    by : (k : Answer) → step (y .sheet) (meaningOf z) x ≡ k → AnsweredAs k z p r d → AnsweredAs k z p r′ d′ → (r .number ≡ r′ .number) × (r .number ≡ 0 → Same r r′ d d′)
+    by : (k : Answer) → step (y .sheet) (meaningOf z) x ≡ k → AnsweredAs k z p r d → AnsweredAs k z p r′ d′ → (r .number ≡ r′ .number) × (r .number ≡ 0 → SameStep r r′ d d′)
     by (refused n) q A A′ = (A ∙ sym A′, λ e. absurd (omega (arith, step-number (y .sheet) (meaningOf z) x n q .0, A, e)))
     by (took m) q A A′ =
         let o = put-one-outcome (p .write) (p .lent) (p .at) (outputOf m) d d′ (r .at) (r′ .at) (A .written) (A′ .written) in

@@ -50,3 +50,10 @@ pub record TakenAs (s part : List ℕ) (e : Event) (z : State) (lent : List ℕ)
   pub inside : r .at ≤ length lent
   pub count : r .state .count ≤ mostVisits
   pub right : (a : Sheet) → IsSheet s a → Shaped z → RunFits a (meaningOf z) → Takes (oneToken a (meaningOf z) (length lent - at) (tokenOf a part e)) z lent at r d
+
+-- what two answers to one token have in common
+pub record SameStep (r r′ : Stepped) (d d′ : List ℕ) : Type 0 where
+  pub number : r .number ≡ r′ .number
+  pub next : r .at ≡ r′ .at
+  pub memory : d ≡ d′
+  pub means : meaningOf (r .state) ≡ meaningOf (r′ .state)
