@@ -123,7 +123,7 @@ fn closed(w: Line, i: usize, line: &mut [u8]) -> Line
 }
 
 // The tree behind a star.
-fn part(t: Spot) -> Spot
+pub fn part(t: Spot) -> Spot
     requires { ⌜ 1 ≤ t .nodes ⌝ }
     requires { ⌜ t .node + t .nodes ≤ 256 ⌝ }
     requires { ⌜ t .bracket + t .nodes ≤ 33 ⌝ }
@@ -185,7 +185,7 @@ fn pass_tree(s: &[u8], l: Layout, at: usize) -> Passing
 }
 
 // The trees behind a concatenation or a union: passing the first tells where the second stands.
-fn parts_of(s: &[u8], l: Layout, t: Spot) -> Parts
+pub fn parts_of(s: &[u8], l: Layout, t: Spot) -> Parts
     requires { ⌜ LaidOut (now s) l ⌝ }
     requires { ⌜ SpotIn (now s) t ⌝ }
     requires { ⌜ 3 ≤ kindOf (now s) (t .node) ⌝ }
@@ -215,7 +215,7 @@ fn parts_of(s: &[u8], l: Layout, t: Spot) -> Parts
 }
 
 // Whether the atom of a node can be the symbol x.
-fn atom_can(s: &[u8], l: Layout, kind: usize, n: usize, x: Symbol) -> bool
+pub fn atom_can(s: &[u8], l: Layout, kind: usize, n: usize, x: Symbol) -> bool
     requires { ⌜ LaidOut (now s) l ⌝ }
     ensures { λ r. ⌜ CanIs (now (s .entry)) kind n x r ⌝ }
 {
