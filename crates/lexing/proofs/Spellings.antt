@@ -19,12 +19,12 @@ same-more x w i h lx lw e =
     one n = omega arith
 
 -- a byte at a place of bytes with more behind them
-getD-front : (l m : List ℕ) (j : ℕ) → j < length l → getD (l ++ m) j 0 ≡ getD l j 0
+pub getD-front : (l m : List ℕ) (j : ℕ) → j < length l → getD (l ++ m) j 0 ≡ getD l j 0
 getD-front [] m j h = absurd (omega arith)
 getD-front (x ∷ l) m zero h = refl
 getD-front (x ∷ l) m (suc j) h = getD-front l m j (omega arith)
 
-last-taken : (x u : List ℕ) (k : ℕ) → k < length x → getD (take (suc k) x ++ u) k 0 ≡ getD x k 0
+pub last-taken : (x u : List ℕ) (k : ℕ) → k < length x → getD (take (suc k) x ++ u) k 0 ≡ getD x k 0
 last-taken [] u k h = absurd (omega arith)
 last-taken (b ∷ x) u zero h = refl
 last-taken (b ∷ x) u (suc k) h = last-taken x u k (omega arith)
@@ -65,10 +65,10 @@ common-front x a b k c l = record {
 abbrev pub part : List ℕ → ℕ → List ℕ
 part x k = take (length x - k) (drop k x)
 
-part-is : (x : List ℕ) (k : ℕ) → part x k ≡ drop k x
+pub part-is : (x : List ℕ) (k : ℕ) → part x k ≡ drop k x
 part-is x k = take-all (length x - k) (drop k x) (omega (arith, length-drop k x))
 
-all-of : (x a : List ℕ) (k : ℕ) → Common x a k → length a ≤ k → x ≡ a ++ drop k x
+pub all-of : (x a : List ℕ) (k : ℕ) → Common x a k → length a ≤ k → x ≡ a ++ drop k x
 all-of x a k c l = sym (take-append-drop k x) ∙ ap (λ z. z ++ drop k x) (c .same ∙ take-all k a l)
 
 common-behind : (x a b : List ℕ) (k m : ℕ) → Common x a k → length a ≤ k → Common (drop k x) b m → Common x (a ++ b) (k + m)

@@ -2,8 +2,10 @@
 use mathlib.Core.Path.{_≡_}
 use mathlib.Core.Bool.{Bool, true, false}
 use mathlib.Core.List.{List, [], _∷_, _++_}
-use Prim.Native.Nat.{ℕ, suc, _≤_, _<_}
+use Prim.Native.Nat.{ℕ, zero, suc, _≤_, _<_}
 use lib.ListN.{length, take, getD}
+use Rattle.text.specs.Names.{nameFirst, nameByte, Name}
+use Rattle.notation.specs.Tokens.{decimal, TagName}
 use Rattle.notation.specs.Spelled.{wordByte}
 use Rattle.lexing.specs.declared.Tried.{Tried}
 
@@ -22,6 +24,9 @@ Stops p (b ∷ x) = p b ≡ false
 abbrev pub stopsAt : Bool → ℕ → Bool
 stopsAt true b = wordByte b
 stopsAt false b = false
+
+abbrev pub nothing : ℕ → Bool
+nothing b = false
 
 -- the spellings w of the numbers n are told by L, and no byte that joins may follow
 pub record Spelt (L : List ℕ → ℕ → Type 0) (joins : ℕ → Bool) (x : List ℕ) (n k : ℕ) : Type 0 where
@@ -54,3 +59,28 @@ pub data ReadIs (L : List ℕ → ℕ → Type 0) (joins : ℕ → Bool) (x : Li
 pub record OneSpelling (w : List ℕ) (n : ℕ) (v : List ℕ) (m : ℕ) : Type 0 where
   pub spelled : v ≡ w
   pub numbered : m ≡ n
+
+-- bytes and then a number under a bound
+pub record Numbered (a : List ℕ) (count : ℕ) (v : List ℕ) (n : ℕ) : Type 0 where
+  pub below : n < count
+  pub spelled : v ≡ a ++ decimal n
+
+-- the first n bytes are a name; of at most 15, and of no more
+pub record NameRun (x : List ℕ) (n : ℕ) : Type 0 where
+  pub reached : n ≤ length x
+  pub short : n ≤ 15
+  pub named : 1 ≤ n → Name (take n x)
+  pub none : n ≡ 0 → n < length x → nameFirst (getD x n 0) ≡ false
+  pub no-more : 1 ≤ n → n < 15 → n < length x → nameByte (getD x n 0) ≡ false
+
+-- a name, whose number is its length
+pub record NameSpelling (v : List ℕ) (n : ℕ) : Type 0 where
+  pub named : TagName v
+  pub long : n ≡ length v
+
+-- a name between a and b
+pub record TagSpelling (a b v : List ℕ) (n : ℕ) : Type 0 where
+  pub name : List ℕ
+  pub named : TagName name
+  pub long : n ≡ length name
+  pub spelled : v ≡ a ++ (name ++ b)
