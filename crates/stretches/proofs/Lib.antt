@@ -1,2 +1,3 @@
 pub mod Nexts
 pub mod Stretching
+pub mod Carrying

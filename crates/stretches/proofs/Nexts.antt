@@ -9,8 +9,9 @@ use native.Mathlib.Omega.{arith}
 use lib.Dec.{leb, ltb, eqb}
 use lib.ListN.{length, take, drop, getD}
 use lib.Seq.{drop-cons}
-use borrow.Author.Tests.{eqb-true, eqb-false, leb-true, ltb-true, not-true}
+use borrow.Author.Tests.{ne-eqb, eqb-true, eqb-false, leb-true, ltb-true, not-true}
 use Rattle.text.specs.Chars.{Char, utf8}
+use Rattle.text.specs.Names.{blank}
 use Rattle.text.proofs.Shapes.{shape1}
 use Rattle.tokens.specs.Tokens.{front, Means, char}
 use Rattle.tokens.specs.declared.Cursor.{Cursor}
@@ -26,7 +27,8 @@ use Rattle.tokens.proofs.Theory.{one-answer}
 use Rattle.tokens.proofs.Streams.{token-moves}
 use Rattle.stretches.specs.declared.Next.{Next}
 use Rattle.stretches.specs.declared.Next.the-variants.{Character as Stands, Other}
-use Rattle.stretches.specs.Next.{plain, NextIs}
+use Rattle.output.specs.Escape.{escaped}
+use Rattle.stretches.specs.Next.{plain, space, NextIs}
 
 -- the event of a token
 abbrev eventIn : Answer → Event
@@ -43,42 +45,60 @@ and-true : (a b : Bool) → (a && b) ≡ true → (a ≡ true) × (b ≡ true)
 and-true true b h = (refl, h)
 and-true false b h = absurd (true≢false (sym h))
 
-record Alone (b : ℕ) : Type 0 where
+pub record Alone (b : ℕ) : Type 0 where
   pub small : b < 128
   pub char-ok : Char b
   pub not-60 : b ≡ 60 → ⊥
   pub not-38 : b ≡ 38 → ⊥
   pub not-62 : b ≡ 62 → ⊥
 
-alone : (b : ℕ) → plain b ≡ true → Alone b
-alone b h =
-    ⊎-elim
-    (λ e.
-    let i = eqb-true b 10 e in
-    record { small = omega arith; char-ok = inr (inl i); not-60 = λ q. omega arith; not-38 = λ q. omega arith; not-62 = λ q. omega arith })
-    (λ e.
-    let p = and-true (leb 32 b) (ltb b 128 && (not (eqb b 60) && (not (eqb b 38) && not (eqb b 62)))) e in
-    let q = and-true (ltb b 128) (not (eqb b 60) && (not (eqb b 38) && not (eqb b 62))) (p .1) in
+pub alone-plain : (b : ℕ) → plain b ≡ true → Alone b
+alone-plain b h =
+    let p = and-true (leb 32 b) (ltb b 127 && (not (eqb b 60) && (not (eqb b 38) && not (eqb b 62)))) h in
+    let q = and-true (ltb b 127) (not (eqb b 60) && (not (eqb b 38) && not (eqb b 62))) (p .1) in
     let r = and-true (not (eqb b 60)) (not (eqb b 38) && not (eqb b 62)) (q .1) in
     let s = and-true (not (eqb b 38)) (not (eqb b 62)) (r .1) in
     let low = leb-true 32 b (p .0) in
-    let high = ltb-true b 128 (q .0) in
+    let high = ltb-true b 127 (q .0) in
     record {
-      small = high;
+      small = omega arith;
       char-ok = inr (inr (inr (inl (omega arith, omega arith))));
       not-60 = eqb-false b 60 (not-true _ (r .0));
       not-38 = eqb-false b 38 (not-true _ (s .0));
       not-62 = eqb-false b 62 (not-true _ (s .1));
-    })
-    (or-true (eqb b 10) (leb 32 b && (ltb b 128 && (not (eqb b 60) && (not (eqb b 38) && not (eqb b 62))))) h)
+    }
+
+spaces : (b : ℕ) → space b ≡ true → (b ≡ 32) ⊎ ((b ≡ 9) ⊎ (b ≡ 10))
+spaces b h =
+    ⊎-elim (λ e. inl (eqb-true b 32 e)) (λ e. ⊎-elim (λ f. inr (inl (eqb-true b 9 f))) (λ f. inr (inr (eqb-true b 10 f))) (or-true (eqb b 9) (eqb b 10) e))
+    (or-true (eqb b 32) (eqb b 9 || eqb b 10) h)
+
+pub alone-space : (b : ℕ) → space b ≡ true → Alone b
+alone-space b h =
+    ⊎-elim (λ e. by e (inr (inr (inr (inl (omega arith, omega arith))))) (omega arith))
+    (⊎-elim (λ e. by e (inl e) (omega arith)) (λ e. by e (inr (inl e)) (omega arith)))
+    (spaces b h)
+  where
+    by : {n : ℕ} → b ≡ n → Char b → n < 33 → Alone b
+    by e c s = record { small = omega arith; char-ok = c; not-60 = λ q. omega arith; not-38 = λ q. omega arith; not-62 = λ q. omega arith }
+
+pub blank-space : (b : ℕ) → space b ≡ true → blank b ≡ true
+blank-space b h = ⊎-elim (λ e. rw e) (⊎-elim (λ e. rw e) (λ e. rw e)) (spaces b h)
+
+-- its bytes in the stream and as we write it: itself
+pub one-byte : (b : ℕ) → Alone b → utf8 b ≡ b ∷ []
+one-byte b a = shape1 b (a .small)
+
+pub as-it-is : (b : ℕ) → Alone b → escaped b ≡ b ∷ []
+unfolding escaped
+as-it-is b a = rw (ne-eqb b 38 (a .not-38), ne-eqb b 60 (a .not-60), ne-eqb b 62 (a .not-62)) (one-byte b a)
 
 module _ (part : List ℕ) (at : ℕ) where
-  pub plain-next : at < length part → plain (getD part at 0) ≡ true → NextIs part at (Stands (getD part at 0) 1)
-  plain-next h p =
+  pub alone-next : at < length part → Alone (getD part at 0) → Means (front part at) at (Token (Character (getD part at 0)) (record { at = at + 1 }))
+  alone-next h a =
       let b : ℕ = getD part at 0 in
       let left : List ℕ = take 31 (drop (suc at) part) in
-      let a = alone b p in
-      let bytes : utf8 b ≡ b ∷ [] = shape1 b (a .small) in
+      let bytes : utf8 b ≡ b ∷ [] = one-byte b a in
       let starts : front part at ≡ b ∷ left = ap (take 32) (drop-cons part at 0 h) in
       (char b, (a .char-ok, a .not-60, a .not-38, a .not-62), (left, starts ∙ ap (λ (w : List ℕ). w ++ left) (sym bytes)), refl, ap (λ (w : List ℕ). at + length w) (sym bytes))
 

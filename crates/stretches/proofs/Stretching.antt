@@ -43,7 +43,7 @@ shown-put c on lent d at r e p = subst (λ (w : List ℕ). PutAs true lent at w 
 pub not-shown : (c : ℕ) (on : Bool) (lent : List ℕ) (at : ℕ) → on ≡ false → PutAs true lent at (shown on c) lent at
 not-shown c on lent at e = subst (λ (b : Bool). PutAs true lent at (shown b c) lent at) (sym e) (nothing-put true lent at)
 
-shown-short : (on : Bool) (c : ℕ) → length (shown on c) ≤ 5
+pub shown-short : (on : Bool) (c : ℕ) → length (shown on c) ≤ 5
 shown-short true c = omega (arith, ap length (shown-on c), escaped-short c)
 shown-short false c = omega arith
 

@@ -1,10 +1,11 @@
 -- What stands at a place of a part, as far as characters go; and the bytes that are a character by themselves wherever they stand.
 -- Assumes nothing.
 use mathlib.Core.Path.{_≡_}
-use mathlib.Core.Bool.{Bool, true, not, _&&_, _||_}
+use mathlib.Core.Bool.{Bool, true, cond, not, _&&_, _||_}
 use mathlib.Core.List.{List}
 use Prim.Native.Nat.{ℕ, _+_}
 use lib.Dec.{leb, ltb, eqb}
+use lib.ListN.{length, getD}
 use Rattle.tokens.specs.Tokens.{front, Means}
 use Rattle.tokens.specs.declared.Cursor.{Cursor}
 use Rattle.tokens.specs.declared.Event.the-variants.{Character}
@@ -12,9 +13,16 @@ use Rattle.tokens.specs.declared.Answer.the-variants.{Token}
 use Rattle.stretches.specs.declared.Next.{Next}
 use Rattle.stretches.specs.declared.Next.the-variants.{Character as Stands, Other}
 
--- a line feed, or one of ASCII from the space on other than < & >
+-- one of ASCII from the space on other than < & >; a space, a tab or a line feed
 abbrev pub plain : ℕ → Bool
-plain b = eqb b 10 || (leb 32 b && (ltb b 128 && (not (eqb b 60) && (not (eqb b 38) && not (eqb b 62)))))
+plain b = leb 32 b && (ltb b 127 && (not (eqb b 60) && (not (eqb b 38) && not (eqb b 62))))
+
+abbrev pub space : ℕ → Bool
+space b = eqb b 32 || (eqb b 9 || eqb b 10)
+
+-- the part ends there, or a < stands there
+abbrev pub tagOrEnd : List ℕ → ℕ → Bool
+tagOrEnd part at = cond (ltb at (length part)) (eqb (getD part at 0) 60) true
 
 -- a character stands there, as the reader says, and takes so many bytes; or none does
 abbrev pub NextIs : List ℕ → ℕ → Next → Type 0

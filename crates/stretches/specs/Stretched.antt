@@ -26,6 +26,12 @@ pub record StretchedAs (part : List ℕ) (from : ℕ) (on : Bool) (k n : ℕ) (l
   pub rest : (a : Sheet) (m : State) → Steady a on k m → (more : Bool) (x : Result) → Runs a part more (r .at) (length lent - r .put) (counting m (r .count)) x →
       Runs a part more from (length lent - put) (counting m n) (after-writing written x)
 
+-- a stretch h carried on to r: whatever stretch ended at h, with b in the lent memory, ends at r, with d
+pub record CarriedAs (part : List ℕ) (on : Bool) (k : ℕ) (h : Stretch) (b : List ℕ) (r : Stretch) (d : List ℕ) : Type 0 where
+  pub forward : h .at ≤ r .at
+  pub long : length d ≡ length b
+  pub carries : (from n : ℕ) (lent : List ℕ) (put : ℕ) → StretchedAs part from on k n lent put h b → StretchedAs part from on k n lent put r d
+
 -- white space from the place `from` on, where it is no event
 pub record BlanksAs (part : List ℕ) (from : ℕ) (r : ℕ) : Type 0 where
   pub forward : from ≤ r

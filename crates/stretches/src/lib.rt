@@ -5,11 +5,10 @@ ghost use Prim.Native.Nat.{_≤_, _^_};
 ghost use lib.ListN.{length};
 ghost use Rattle.lent.specs.Put.{PutAs};
 ghost use Rattle.text.specs.Chars.{Char};
-ghost use Rattle.text.specs.Names.{blank};
 ghost use Rattle.output.specs.Reach.{farthest};
 ghost use Rattle.steady.specs.Steady.{shown};
-ghost use Rattle.stretches.specs.Stretched.{StretchedAs, BlanksAs};
-ghost use Rattle.stretches.specs.Next.{plain, NextIs};
+ghost use Rattle.stretches.specs.Stretched.{StretchedAs, CarriedAs, BlanksAs};
+ghost use Rattle.stretches.specs.Next.{plain, space, tagOrEnd, NextIs};
 use tokens::Answer;
 use tokens::Cursor;
 use tokens::Event;
@@ -36,11 +35,18 @@ pub enum Next {
     Other,
 }
 
-// Whether a byte is a character by itself wherever it stands: a line feed, or one of ASCII from the space on other than < & >.
+// Whether a byte is a character by itself wherever it stands, and is written as it is: one of ASCII from the space on other than < & >.
 fn is_plain(b: u8) -> bool
     ensures { λ r. ⌜ r ≡ plain b ⌝ }
 {
-    (b == 10) | ((32 <= b) & ((b < 128) & ((b != 60) & ((b != 38) & (b != 62)))))
+    (32 <= b) & ((b < 127) & ((b != 60) & ((b != 38) & (b != 62))))
+}
+
+// Whether a byte is white space by itself wherever it stands: a space, a tab, a line feed.
+fn is_space(b: u8) -> bool
+    ensures { λ r. ⌜ r ≡ space b ⌝ }
+{
+    (b == 32) | ((b == 9) | (b == 10))
 }
 
 // What the reader says of the place.
@@ -59,26 +65,14 @@ fn read_next(part: &[u8], at: usize) -> Next
     Next::Character(c, next.at - at)
 }
 
-// The same, without the reader where a byte is enough.
-fn next_at(part: &[u8], at: usize) -> Next
-    requires { ⌜ at ≤ length (now part) ⌝ }
-    ensures { λ r. ⌜ NextIs (now (part .entry)) at r ⌝ }
+// Whether no character can stand there: a stretch that ends at a tag or with the part asks the reader nothing.
+fn tag_or_end(part: &[u8], at: usize) -> bool
+    ensures { λ r. ⌜ r ≡ tagOrEnd (now (part .entry)) at ⌝ }
 {
-    if part.len() == at {
-        return read_next(part, at);
+    if at < part.len() {
+        return part[at] == 60;
     }
-    let b = part[at];
-    if is_plain(b) {
-        return Next::Character(b as u32, 1);
-    }
-    read_next(part, at)
-}
-
-// Whether a character is white space.
-fn is_blank(c: u32) -> bool
-    ensures { λ r. ⌜ r ≡ blank c ⌝ }
-{
-    (c == 32) | ((c == 9) | ((c == 13) | (c == 10)))
+    true
 }
 
 // Writes a character where echo is on.
@@ -91,6 +85,71 @@ fn show(c: u32, on: bool, out: &mut [u8], at: usize) -> usize
         return output::put_char(out, at, c, true);
     }
     at
+}
+
+// The same of a plain byte.
+fn show_plain(b: u8, on: bool, out: &mut [u8], at: usize) -> usize
+    requires { ⌜ at ≤ farthest ⌝ }
+    requires { ⌜ plain b ≡ true ⌝ }
+    ensures { λ r. ⌜ PutAs true (now (out .entry)) at (shown on b) (now (out .exit)) r ⌝ }
+{
+    if on {
+        lent::put_byte(out, at, b, true);
+        return at + 1;
+    }
+    at
+}
+
+// A stretch carried on over plain bytes, without the reader: as many as stand there and have room.
+fn plains(part: &[u8], from: Stretch, on: bool, k: u64, out: &mut [u8]) -> Stretch
+    requires { ⌜ from .at ≤ length (now part) ⌝ }
+    requires { ⌜ from .put ≤ length (now out) ⌝ }
+    requires { ⌜ k ≤ 2 ^ 62 ⌝ }
+    requires { ⌜ from .count ≤ 2 ^ 62 ⌝ }
+    ensures { λ r. ⌜ CarriedAs (now (part .entry)) on k from (now (out .entry)) r (now (out .exit)) ⌝ }
+{
+    let mut at = from.at;
+    let mut to = from.put;
+    let mut count = from.count;
+    while at < part.len() {
+        let b = part[at];
+        if !is_plain(b) {
+            return Stretch {
+                at: at,
+                put: to,
+                count: count,
+            };
+        }
+        if MOST_VISITS - k < count {
+            return Stretch {
+                at: at,
+                put: to,
+                count: count,
+            };
+        }
+        if out.len() - to < LONGEST {
+            return Stretch {
+                at: at,
+                put: to,
+                count: count,
+            };
+        }
+        if FARTHEST < to {
+            return Stretch {
+                at: at,
+                put: to,
+                count: count,
+            };
+        }
+        to = show_plain(b, on, out, to);
+        count = count + k;
+        at = at + 1;
+    }
+    Stretch {
+        at: at,
+        put: to,
+        count: count,
+    }
 }
 
 // The characters from a place on, of which each counts k visits and is written where echo is on: as many as stand there and have room.
@@ -113,55 +172,45 @@ pub fn characters(
     let mut to = put;
     let mut count = n;
     loop {
-        let next = next_at(part, at);
-        let Next::Character(c, w) = next else {
-            return Stretch {
-                at: at,
-                put: to,
-                count: count,
-            };
+        let here = Stretch {
+            at: at,
+            put: to,
+            count: count,
         };
-        if MOST_VISITS - k < count {
-            return Stretch {
-                at: at,
-                put: to,
-                count: count,
-            };
+        let far = plains(part, here, on, k, out);
+        if tag_or_end(part, far.at) {
+            return far;
         }
-        if out.len() - to < LONGEST {
-            return Stretch {
-                at: at,
-                put: to,
-                count: count,
-            };
+        let next = read_next(part, far.at);
+        let Next::Character(c, w) = next else {
+            return far;
+        };
+        if MOST_VISITS - k < far.count {
+            return far;
         }
-        if FARTHEST < to {
-            return Stretch {
-                at: at,
-                put: to,
-                count: count,
-            };
+        if out.len() - far.put < LONGEST {
+            return far;
         }
-        to = show(c, on, out, to);
-        count = count + k;
-        at = at + w;
+        if FARTHEST < far.put {
+            return far;
+        }
+        to = show(c, on, out, far.put);
+        count = far.count + k;
+        at = far.at + w;
     }
 }
 
-// The place behind the white space from a place on.
+// The place behind the white space from a place on, as far as it is spelled as it is.
 pub fn blanks(part: &[u8], from: usize) -> usize
     requires { ⌜ from ≤ length (now part) ⌝ }
     ensures { λ r. ⌜ BlanksAs (now (part .entry)) from r ⌝ }
 {
-    let mut at = from;
-    loop {
-        let next = next_at(part, at);
-        let Next::Character(c, w) = next else {
-            return at;
-        };
-        if !is_blank(c) {
-            return at;
+    let mut behind = from;
+    while behind < part.len() {
+        if !is_space(part[behind]) {
+            return behind;
         }
-        at = at + w;
+        behind = behind + 1;
     }
+    behind
 }

@@ -1,54 +1,43 @@
-use borrow.Author.Needs.{needs}
+-- The loop passes over one byte of white space.
+use mathlib.Core.Path.{_≡_, sym, _∙_}
+use mathlib.Core.Bool.{true}
 use Prim.Native.Nat.{_-_}
-use lib.ListN.{length}
-use native.Mathlib.Omega.{arith}
-use mathlib.Core.Path.{sym, _∙_}
+use lib.ListN.{length, getD}
 use borrow.Author.Tests.{not-false}
+use Rattle.stretches.specs.Next.{space}
 use Rattle.stretches.specs.Stretched.{BlanksAs}
-use Rattle.stretches.proofs.Nexts.{stands, onward}
+use Rattle.stretches.proofs.Nexts.{alone-space, alone-next, blank-space}
 use Rattle.stretches.proofs.Stretching.{no-blank-yet, one-blank}
+use borrow.Author.Needs.{needs}
 use Rattle.stretches.proofs.blanks.Statement.{statement}
 use Rattle.stretches.proofs.blanks.Tie as tie
 use Rattle.stretches.proofs.blanks.Reads as reads
 use Rattle.stretches.proofs.blanks.Lts as lts
-use Rattle.stretches.proofs.is_blank.Reads as is-blank-reads
-use Rattle.stretches.proofs.next_at.Reads as next-at-reads
+use Rattle.stretches.proofs.is_space.Reads as is-space-reads
 
 abbrev Inv-loop : tie.InvT-loop
-Inv-loop part from at₀ at = BlanksAs part from at
+Inv-loop part from behind₀ behind = BlanksAs part from behind
 
 abbrev μ-loop : tie.MeasureT-loop
-μ-loop part from at₀ at = length part - at
+μ-loop part from behind₀ behind = length part - behind
 
-add-at : tie.Need-add-at Inv-loop μ-loop
-add-at c =
-    let n = c .before .before .before in
-    let k = n .before .before in
-    let l = k .before in
-    let start = l .before .before in
-    let part = start .args .part .now in
-    let here = stands part (l .loop .at) (k .next-at .result) (k .next-at .ensures) _ _ (n .next .given .1) in
-    omega (arith, onward part (l .loop .at) _ _ (l .loop .inv .within) here)
+loop-holds : tie.Need-loop-holds Inv-loop μ-loop
+loop-holds c = no-blank-yet _ _ (c .before .pre)
 
-loop-less : tie.Need-loop-less Inv-loop μ-loop
-loop-less c =
-    let n = c .before .before .before in
-    let k = n .before .before in
-    let l = k .before in
-    let start = l .before .before in
-    let part = start .args .part .now in
-    let here = stands part (l .loop .at) (k .next-at .result) (k .next-at .ensures) _ _ (n .next .given .1) in
-    omega (arith, onward part (l .loop .at) _ _ (l .loop .inv .within) here)
+returns : tie.Need-returns Inv-loop μ-loop
+returns c = c .before .before .before .before .loop .inv
 
 loop-again : tie.Need-loop-again Inv-loop μ-loop
 loop-again c =
-    let n = c .before .before .before in
-    let k = n .before .before in
-    let l = k .before in
+    let l = c .before .before .before .before in
     let start = l .before .before in
     let part = start .args .part .now in
-    let here = stands part (l .loop .at) (k .next-at .result) (k .next-at .ensures) _ _ (n .next .given .1) in
-    one-blank part (start .args .from) (l .loop .at) (l .loop .inv) _ _ here (sym (c .before .is-blank .ensures) ∙ not-false _ (c .if1 .left))
+    let b = getD part (l .loop .behind) 0 in
+    let spaced : space b ≡ true = sym (c .before .is-space .ensures) ∙ not-false _ (c .if1 .left) in
+    one-blank part (start .args .from) (l .loop .behind) (l .loop .inv) _ _ (alone-next part (l .loop .behind) (c .before .before .before .loop-test .taken) (alone-space b spaced)) (blank-space b spaced)
+
+returns-2 : tie.Need-returns-2 Inv-loop μ-loop
+returns-2 c = c .before .loop .inv
 
 pub blanks-spec : {M : Type 1} → statement M
 blanks-spec =
@@ -56,6 +45,7 @@ blanks-spec =
     (tie.spec
     Inv-loop
     μ-loop
-    (λ c. search needs) (λ c κs. search needs) (λ c. search needs) (λ c. search needs) (λ c. search needs) (λ c κs. search needs) (λ c. search needs) add-at
-    loop-less
-    loop-again)
+    loop-holds
+    (λ c. search needs) (λ c κs. search needs) returns
+    (λ c. search needs) (λ c. search needs) loop-again
+    returns-2)

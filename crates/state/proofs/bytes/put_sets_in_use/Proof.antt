@@ -23,15 +23,12 @@ Inv-loop memory₀ at n sets next₀ i₀ memory next i = (i ≤ n) × (i ≤ mo
 abbrev μ-loop : tie.MeasureT-loop
 μ-loop memory₀ at n sets next₀ i₀ memory next i = n - i
 
--- src/bytes.rt:107:5
 loop-holds : tie.Need-loop-holds Inv-loop μ-loop
 loop-holds c = (omega arith, omega arith, refl, wrote-start savedBytes setWidth (c .before .args .t3) _ _)
 
--- src/bytes.rt:109:13
 same-length : tie.Need-same-length Inv-loop μ-loop
 same-length c = c .before .before .loop .inv .2
 
--- src/bytes.rt:109:13
 returns : tie.Need-returns Inv-loop μ-loop
 returns c =
     let l = c .before .before .loop in
@@ -39,27 +36,6 @@ returns c =
     let n : length (a .t3) ≡ mostSets = search (length-mapped, needs) in
     put-some savedBytes setWidth (a .t3) (l .i) (a .n) (take-all (l .i) (a .t3) (omega (arith, n, c .if1 .taken)) ∙ sym (take-all (a .n) (a .t3) (omega (arith, n, c .if1 .taken, l .inv .0)))) (l .inv .3)
 
--- src/bytes.rt:111:20
-mul-kept : tie.Need-mul-kept Inv-loop μ-loop
-mul-kept c = search needs
-
--- src/bytes.rt:111:20
-array-copy-out-kept : tie.Need-array-copy-out-kept Inv-loop μ-loop
-array-copy-out-kept c = search needs
-
--- src/bytes.rt:112:9
-put-saved-requires : tie.Need-put-saved-requires Inv-loop μ-loop
-put-saved-requires c κs = search needs
-
--- src/bytes.rt:113:13
-add-i : tie.Need-add-i Inv-loop μ-loop
-add-i c = search needs
-
--- src/bytes.rt:107:5
-loop-less : tie.Need-loop-less Inv-loop μ-loop
-loop-less c = search needs
-
--- src/bytes.rt:107:5
 loop-again : tie.Need-loop-again Inv-loop μ-loop
 loop-again c =
     let l = c .before .before .before .before .before .before .before .loop in
@@ -71,11 +47,9 @@ loop-again c =
       wrote-more savedBytes setWidth _ (l .i) _ (omega arith) (l .inv .3) (c .before .before .put-saved .ensures),
     )
 
--- src/bytes.rt:101:1
 same-length-2 : tie.Need-same-length-2 Inv-loop μ-loop
 same-length-2 c = c .before .loop .inv .2
 
--- src/bytes.rt:101:1
 returns-2 : tie.Need-returns-2 Inv-loop μ-loop
 returns-2 c =
     let l = c .before .loop in
@@ -92,11 +66,6 @@ put-sets-in-use-spec =
     loop-holds
     same-length
     returns
-    mul-kept
-    array-copy-out-kept
-    put-saved-requires
-    add-i
-    loop-less
-    loop-again
+    (λ c. search needs) (λ c. search needs) (λ c κs. search needs) (λ c. search needs) (λ c. search needs) loop-again
     same-length-2
     returns-2)

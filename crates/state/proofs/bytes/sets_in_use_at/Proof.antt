@@ -20,43 +20,12 @@ Inv-loop bytes at n sets₀ next₀ i₀ sets next i = (i ≤ n) × (i ≤ mostS
 abbrev μ-loop : tie.MeasureT-loop
 μ-loop bytes at n sets₀ next₀ i₀ sets next i = n - i
 
--- src/bytes.rt:248:9
-bare-requires : tie.Need-bare-requires Inv-loop μ-loop
-bare-requires c κs = search needs
-
--- src/bytes.rt:252:5
 loop-holds : tie.Need-loop-holds Inv-loop μ-loop
 loop-holds c = (omega arith, omega arith, omega arith, none-read bareSaved _ (savedAt _) setWidth _ mostSets (c .bare .ensures))
 
--- src/bytes.rt:254:13
 returns : tie.Need-returns Inv-loop μ-loop
 returns c = let l = c .before .before .loop in all-read bareSaved (savedAt _) setWidth _ mostSets (l .i) _ _ (c .if1 .taken) (l .inv .0) (l .inv .3)
 
--- src/bytes.rt:256:19
-saved-at-requires : tie.Need-saved-at-requires Inv-loop μ-loop
-saved-at-requires c κs = search needs
-
--- src/bytes.rt:256:9
-mul-sets : tie.Need-mul-sets Inv-loop μ-loop
-mul-sets c = search needs
-
--- src/bytes.rt:256:9
-array-set-from-sets : tie.Need-array-set-from-sets Inv-loop μ-loop
-array-set-from-sets c = search needs
-
--- src/bytes.rt:257:16
-add-next : tie.Need-add-next Inv-loop μ-loop
-add-next c = search needs
-
--- src/bytes.rt:258:13
-add-i : tie.Need-add-i Inv-loop μ-loop
-add-i c = search needs
-
--- src/bytes.rt:252:5
-loop-less : tie.Need-loop-less Inv-loop μ-loop
-loop-less c = search needs
-
--- src/bytes.rt:252:5
 loop-again : tie.Need-loop-again Inv-loop μ-loop
 loop-again c =
     let l = c .before .before .before .loop in (
@@ -66,7 +35,6 @@ loop-again c =
       one-read bareSaved _ (savedAt _) setWidth _ mostSets (l .i) (l .next) _ (omega (arith, c .before .if1 .left)) (l .inv .2) (c .saved-at .ensures) (l .inv .3),
     )
 
--- src/bytes.rt:244:1
 returns-2 : tie.Need-returns-2 Inv-loop μ-loop
 returns-2 c =
     let l = c .before .loop in
@@ -80,14 +48,7 @@ sets-in-use-at-spec =
     (tie.spec
     Inv-loop
     μ-loop
-    bare-requires
-    loop-holds
+    (λ c κs. search needs) loop-holds
     returns
-    saved-at-requires
-    mul-sets
-    array-set-from-sets
-    add-next
-    add-i
-    loop-less
-    loop-again
+    (λ c κs. search needs) (λ c. search needs) (λ c. search needs) (λ c. search needs) (λ c. search needs) (λ c. search needs) loop-again
     returns-2)
