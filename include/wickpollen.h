@@ -42,9 +42,9 @@ uint64_t wickpollen_fresh(uint8_t *state, size_t state_len);
      0          the stream has ended and was taken whole: its output is complete.
      16         the part is used up, or only a begun token of it is left: go on with the next part.
      17         the next token's output is longer than the room left: write out what there is and go on; where counts[1] is 0, lend more.
-                What one token writes is set by the sheet's programs: seldom over some hundred bytes, and in the worst case 10,444,626
+                What one token writes is set by the sheet's programs: seldom over some hundred bytes, and at most 10,444,626, counted by hand
                 (an empty tag is two events; an event makes at most 65 visits, whose programs print at most 80,343 bytes each, and echoes a tag of at
-                most 18). 65,536 bytes suffice for every sheet that people write.
+                most 18). 65,536 bytes suffice for the sheets in examples/.
      20 to 27, 30   a token was refused: it starts at part[counts[0]]; with 27, where nothing is left of the part, counts[0] is part_len.
                 White space counts as a token inside an element that holds text, and inside one that the sheet gives no content (23).
                 The output of what came before it stands. Where an earlier refusal is only repeated, counts[0] is 0 and tells nothing.
