@@ -40,7 +40,8 @@ uint64_t wickpollen_fresh(uint8_t *state, size_t state_len);
    stream was taken they are exactly twice the nodes of its tree.
 
      0          the stream has ended and was taken whole: its output is complete.
-     16         the part is used up, or only a begun token of it is left: go on with the next part.
+     16         the part is used up, or only a begun token of it is left: go on with the next part. A CR that is the last byte is begun:
+                CR LF and a CR alone are one LF, so it waits for the byte behind it, and is taken where the stream has ended.
      17         the next token's output is longer than the room left: write out what there is and go on; where counts[1] is 0, lend more.
                 What one token writes is set by the sheet's programs: seldom over some hundred bytes, and at most 10,444,626, counted by hand
                 (an empty tag is two events; an event makes at most 65 visits, whose programs print at most 80,343 bytes each, and echoes a tag of at

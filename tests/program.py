@@ -371,7 +371,7 @@ def what_is_no_token_is_named():
         (b"< b", b"a < that starts no tag"),
         (b"Tom & Jerry", b"a bare &"),
         (b"&nbsp;", b"no reference that schedules have"),
-        (b"&#233;", b"a numbered reference"),
+        (b"&#xD800;", b"a reference by a number"),
         (b"a > b", b"a bare >"),
         (b"a\x01b", b"a control character"),
         (b"caf\xe9 au lait", b"no character in UTF-8"),

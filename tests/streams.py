@@ -1,5 +1,5 @@
 #!/usr/bin/env python3
-"""Streams: a second runner, written from document 01 alone, and the cases that the program `streams` is run on.
+"""Streams: a second runner, written from document 01 and the change requests alone, and the cases that the program `streams` is run on.
 
     python3 tests/streams.py            writes crates/streams/data/cases.txt, data/CASES.md and crates/streams/stdout
     python3 tests/streams.py --check    says whether they are what it would write
@@ -45,9 +45,39 @@ TAG_BEGUN = re.compile(rb'<(/?|' + NAME + rb'[ \t\r\n]*/?|/' + NAME + rb'[ \t\r\
 REFERENCES = {b'&amp;': '&', b'&lt;': '<', b'&gt;': '>', b'&apos;': "'", b'&quot;': '"'}
 
 
+NUMBER = re.compile(rb'&#(?:([0-9]+)|x([0-9A-Fa-f]+));')
+NUMBER_BEGUN = re.compile(rb'&#(?:([0-9]*)|x([0-9A-Fa-f]*))')
+CHAR_SET = ((0x9, 0xA), (0xD, 0xD), (0x20, 0xD7FF), (0xE000, 0xFFFD), (0x10000, 0x10FFFF))
+
+
+def named(number):
+    """Base and digits of a reference by number, whole or begun."""
+    return (10, number[1]) if number[2] is None else (16, number[2])
+
+
+def digits_wanted(base, digits):
+    """How many digits more, at least, name a character; None where none do."""
+    value = int(digits or b'0', base)
+    for more in range(0 if digits else 1, 9):
+        low, high = value * base ** more, (value + 1) * base ** more - 1
+        if any(low <= last and first <= high for first, last in CHAR_SET):
+            return more
+    return None
+
+
 def read_token(front):
-    """A token (kind, what, bytes taken), or one of 'begun', 'bad' (20) and 'long' (21)."""
+    """A token (kind, what, bytes taken), or one of 'begun', 'bad' (20) and 'long' (21), or 'waits': a CR that is the last byte."""
     assert len(front) <= FRONT
+    if front[:1] == b'\r':
+        return 'waits' if len(front) == 1 else ('character', '\n', 2 if front[1:2] == b'\n' else 1)
+    number = NUMBER.match(front)
+    if number:
+        base, digits = named(number)
+        return ('reference', chr(int(digits, base)), number.end()) if digits_wanted(base, digits) == 0 else 'bad'
+    number = NUMBER_BEGUN.fullmatch(front)
+    if number:
+        more = digits_wanted(*named(number))
+        return 'bad' if more is None else 'begun' if len(front) + more + 1 <= FRONT else 'long'
     tag = TAG.match(front)
     if tag and not (tag[1] and tag[3]):
         return ('end' if tag[1] else 'empty' if tag[3] else 'start'), tag[2], tag.end()
@@ -231,7 +261,7 @@ class Refused(Exception):
     """One of the numbers 20 to 27 and 30, at a token."""
 
 
-ESCAPED = {'&': b'&amp;', '<': b'&lt;', '>': b'&gt;'}
+ESCAPED = {'&': b'&amp;', '<': b'&lt;', '>': b'&gt;', '\r': b'&#13;'}
 
 
 def escaped(text):
@@ -410,6 +440,8 @@ def call(sheet, given, part, ended, room):
     at, out = 0, b''
     while True:
         token = read_token(part[at:at + FRONT])
+        if token == 'waits':
+            token = ('character', '\n', 1) if ended else 'begun'
         if isinstance(token, str):
             number = {'bad': 20, 'long': 21}.get(token)
             if number is None:
@@ -743,14 +775,14 @@ def order():
     two = lambda first=b'', second=b'', text='': programmed(
         ['a', 'b'], [(0, 0, 'n1*'), (1, 1, text)], {('production', 1, 'first'): OPEN(1) + first, ('production', 1, 'second'): CLOSE(1) + second})
     for what, part, number, taken in (
-            ('>', '<a>>', 20, 3), ('a zero byte', '<a>\0', 20, 3), ('bad UTF-8', b'<a>\xff', 20, 3), ('a comment', '<a><!--', 20, 3), ('a numeric reference', '<a>&#38;', 20, 3),
+            ('>', '<a>>', 20, 3), ('a zero byte', '<a>\0', 20, 3), ('bad UTF-8', b'<a>\xff', 20, 3), ('a comment', '<a><!--', 20, 3), ('a reference by a number that is no character', '<a>&#0;', 20, 3),
             ('a declaration', '<?xml?>', 20, 0), ('an attribute', '<a b="c">', 20, 0), ('an unknown reference', '<a>&nbsp;', 20, 3), ('CDATA', '<a><![CDATA[x]]>', 20, 3),
             ('a name of 31 letters begun', '<a><' + 31 * 'b', 21, 3), ('30 blanks in a tag', '<a' + 30 * ' ' + '>', 21, 0),
             ('an unknown end tag', '<a></c>', 22, 3), ('the end tag of a child', '<a></b>', 22, 3), ('the end tag of the parent', '<a><b></a>', 22, 6), ('an end tag before the root', '</a>', 22, 0),
             ('an unknown end tag before the root', '  </c>', 22, 2), ('a name in the other case', '<a><b></B>', 22, 6),
             ('an unknown start tag', '<a><c>', 23, 3), ('an unknown root', '<c>', 23, 0), ('a root that is not the start', '<b>', 23, 0), ('the root again', '<a><a>', 23, 3),
             ('one b too many', '<a><b/><b/>', 23, 7), ('an end too early', '<a></a>', 23, 3), ('an empty tag that cannot be empty', '<a/>', 23, 0), ('a character', '<a>x', 23, 3),
-            ('a reference', '<a>&amp;', 23, 3), ('a character before the root', 'x', 23, 0), ('a reference before the root', ' &lt;', 23, 1), ('a byte order mark', '\ufeff<a>', 23, 0),
+            ('a reference', '<a>&amp;', 23, 3), ('a reference by number', '<a>&#38;', 23, 3), ('white space by reference', '<a>&#x20;', 23, 3), ('a character before the root', 'x', 23, 0), ('a reference before the root', ' &lt;', 23, 1), ('a byte order mark', '\ufeff<a>', 23, 0),
             ('U+0085 before the root', '\u0085', 23, 0), ('a character in an element with no nodes', '<a><b>x', 23, 6), ('a start in an element with no nodes', '<a><b><b>', 23, 6),
             ('a second root', '<a><b/></a><a>', 26, 11), ('a character after the root', '<a><b/></a> x', 26, 12), ('a reference after the root', '<a><b/></a>&gt;', 26, 11),
             ('the root\'s end again', '<a><b/></a></a>', 26, 11), ('an unknown name after the root', '<a><b/></a>\n<c/>', 26, 12), ('an unknown end after the root', '<a><b/></a></c>', 26, 11)):
@@ -814,8 +846,9 @@ def blanks():
     mixed = programmed(['r', 'b'], [(0, 0, 'n1.CHAR.n1'), (1, 1, 'n1*')], {('production', 0, 'first'): ECHO})
     empties = programmed(['r', 'e'], [(0, 0, 'n1*'), (1, 1, '')], {('production', 0, 'first'): ECHO})
     for blank, name in ((' ', 'a space'), ('\t', 'a tab'), ('\r', 'a CR'), ('\n', 'a LF'), ('\r\n', 'CR LF'), (' \t\r\n ', 'all four')):
-        n = len(blank)
-        case(name + ' where there is a character atom', only, '<t>%s</t>' % blank, 0, '<t>%s</t>' % blank, 4 + 2 * n)
+        n, text = len(blank), blank.replace('\r\n', '\n').replace('\r', '\n')
+        waits = blank == '\r'
+        case(name + ' where there is a character atom', only, '<t>%s</t>' % blank, 0, '<t>%s</t>' % text, 4 + 2 * len(text))
         case(name + ' where there is none', programmed(['t'], [(0, 0, 'n0*')], {('production', 0, 'first'): ECHO}), '<t>%s<t/>%s</t>' % (blank, blank), 0, '<t><t></t></t>', 8 + 2)
         case(name + ' in an element with no nodes', echoing(''), '<t>%s</t>' % blank, 23, '<t>', 1, 3)
         case(name + ' in an inner element with no nodes', empties, '<r>%s<e>%s</e></r>' % (blank, blank), 23, '<r><e>', taken=6 + n)
@@ -823,9 +856,9 @@ def blanks():
         case(name + ' in an element that only happens to be empty', empties, '<r>%s</r>' % blank, 0, '<r></r>', 4)
         case(name + ' before and after the root', echoing(''), blank + '<t></t>' + blank, 0, '<t></t>', 2)
         case(name + ' alone, ended', only, blank, 27, '', 0, n)
-        case(name + ' alone, not ended', only, blank, 16, '', 0, n, ended=False)
+        case(name + ' alone, not ended', only, blank, 16, '', 0, n - waits, ended=False)
         case(name + ' beside a tag where there is a character atom', mixed, '<r>%s<b/>' % blank, 23, '<r>', taken=3)
-        case(name + ' as the one character, and inside b', mixed, '<r><b>%s</b>%s' % (blank, blank[0]), 16, '<r><b></b>' + blank[0], taken=11 + n, ended=False)
+        case(name + ' as the one character, and inside b', mixed, '<r><b>%s</b>%sx' % (blank, blank[0]), 23, '<r><b></b>' + text[0], taken=11 + n, ended=False)
         case(name + ' where the character was, refused', mixed, '<r><b/>x%s<b/></r>' % blank, 23, '<r><b></b>x', taken=8)
         case(name + ' before the end, refused', mixed, '<r><b/>x<b/>%s</r>' % blank, 23, '<r><b></b>x<b></b>', taken=12)
     for other, name in (('\u0085', 'U+0085'), ('\u2028', 'U+2028'), ('\u00a0', 'U+00A0'), ('\ufeff', 'U+FEFF')):
@@ -839,10 +872,63 @@ def blanks():
     end_group('blanks')
 
 
+def lines():
+    heading('lines: line ends and references by number')
+    sheet = programmed(['r', 'a', 'e'], [(0, 0, '(n1|n2)*'), (1, 1, 'CHAR*'), (2, 2, '')], {('production', 0, 'first'): ECHO})
+    case('CR LF, CR and LF', sheet, '<r><a>x\r\ny\rz\n</a></r>', 0, '<r><a>x\ny\nz\n</a></r>', taken=21)
+    calls = case('a CR waits', sheet, '<r><a>x\r', 16, '<r><a>x', taken=7, ended=False)
+    calls.call('\r', False)
+    assert calls.call('\r\ny', False)[:3] == (16, 3, b'\ny')
+    assert calls.call('\r', False)[:3] == (16, 0, b'')
+    assert calls.call('\r\r', False)[:3] == (16, 1, b'\n')
+    assert calls.call('\r</a></r>\r', True)[:3] == (0, 10, b'\n</a></r>')
+    case('a CR at the end is whole', sheet, '<r><a>x\r', 27, '<r><a>x\n', taken=8)
+    case('a CR after the root, more to come', sheet, '<r/>\r', 16, taken=4, ended=False)
+    case('a CR after the root, ended', sheet, '<r/>\r', 0, taken=5)
+    case('CR LF after the root', sheet, '<r/>\r\n', 0, taken=6)
+    case('a CR that waits is not judged: no character may come', sheet, '<r><e>\r', 16, '<r><e>', taken=6, ended=False)
+    case('but it is where it is whole', sheet, '<r><e>\r', 23, '<r><e>', taken=6)
+    case('and with LF behind it', sheet, '<r><e>\r\n</e></r>', 23, '<r><e>', taken=6)
+    case('a CR before the root', sheet, '\r\r\n\r<r/>', 0, '<r></r>', taken=8)
+    case('inside tags CR and LF are bytes of white space', sheet, '<r\r\n><a\r/><a\n\r\n></a\r></r\r\n>', 0, '<r><a></a><a></a></r>')
+    case('and count to the 32', sheet, '<r><a' + '\r\n' * 15 + '>', 21, '<r>', taken=3)
+    case('CR by reference stays CR', sheet, '<r><a>&#13;&#10;&#xd;\r</a></r>', 0, '<r><a>&#13;\n&#13;\n</a></r>', taken=30)
+    case('CR by reference and LF are two characters', sheet, '<r><a>&#13;\n</a></r>', 0, '<r><a>&#13;\n</a></r>', 16)
+    case('CR and LF by reference are two characters', sheet, '<r><a>\r&#10;</a></r>', 0, '<r><a>\n\n</a></r>', 16)
+    case('by reference white space is none', sheet, '<r>&#32;</r>', 23, '<r>', taken=3)
+    case('before the root', sheet, '&#32;<r/>', 23, '', taken=0)
+    case('after the root', sheet, '<r/>&#10;', 26, '<r></r>', taken=4)
+    case('and in an element with no nodes', sheet, '<r><e>&#9;</e></r>', 23, '<r><e>', taken=6)
+    case('as a character it is written as itself', sheet, '<r><a>&#32;&#9;&#10;</a></r>', 0, '<r><a> \t\n</a></r>')
+    case('markup by reference is text', sheet, '<r><a>&#60;&#38;&#62;&#x3c;</a></r>', 0, '<r><a>&lt;&amp;&gt;&lt;</a></r>')
+    case('both cases of hexadecimal digits', sheet, '<r><a>&#x20aC;&#x20Ac;&#8364;</a></r>', 0, '<r><a>\u20ac\u20ac\u20ac</a></r>')
+    for number in (0x9, 0xA, 0xD, 0x20, 0xD7FF, 0xE000, 0xFFFD, 0x10000, 0x10FFFF):
+        text = escaped(chr(number)).decode()
+        case('U+%04X, in both bases' % number, sheet, '<r><a>&#%d;&#x%x;</a></r>' % (number, number), 0, '<r><a>%s</a></r>' % (2 * text))
+    for number in (0, 1, 0x8, 0xB, 0xC, 0xE, 0x1F, 0xD800, 0xDFFF, 0xFFFE, 0xFFFF, 0x110000, 2 ** 32 + 65, 2 ** 64 + 65):
+        for text in ('&#%d;' % number, '&#x%X;' % number):
+            case('no character: ' + text, sheet, '<r><a>' + text, 20, '<r><a>', taken=6)
+    for text in ('&#X41;', '&#;', '&#x;', '&#+1;', '&#-1;', '&# 65;', '&#65 ;', '&#xg;', '&#6a;', '&##65;'):
+        case('no reference: ' + text, sheet, '<r><a>' + text, 20, '<r><a>', taken=6)
+    for text, number in (('&', 16), ('&#', 16), ('&#x', 16), ('&#1', 16), ('&#11', 16), ('&#xD800', 16), ('&#x0', 16), ('&#1114111', 16), ('&#1114112', 20), ('&#x110000', 20),
+                         ('&#x10FFFE', 16), ('&#99999999', 20), ('&#xFFFFFFFFF', 20), ('&#12345678901234567890', 20)):
+        case('begun, or none at once: ' + text, sheet, '<r><a>' + text, number, '<r><a>', taken=6, ended=False)
+    for text, number in ((28 * '0', 16), (29 * '0', 21), (27 * '0' + '1', 16), (27 * '0' + '2', 21), (28 * '0' + '1', 21), (28 * '0' + '9', 16), (27 * '0' + '65;', 16),
+                         (28 * '0' + '65', 21), (30 * '0', 21), (40 * '0', 21), ('x' + 26 * '0' + '1', 21), ('x' + 26 * '0' + '2', 16), ('x' + 27 * '0', 16), ('x' + 28 * '0', 21)):
+        case('of 32 bytes at most: &#' + text, sheet, '<r><a>&#' + text, number, ended=False)
+    case('just 32 bytes', sheet, '<r><a>&#' + 27 * '0' + '65;</a></r>', 0, '<r><a>A</a></r>', taken=46)
+    case('33 bytes', sheet, '<r><a>&#' + 28 * '0' + '65;</a></r>', 21, '<r><a>', taken=6)
+    case('32 bytes that name nothing', sheet, '<r><a>&#' + 29 * '0' + ';</a></r>', 20, '<r><a>', taken=6)
+    case('CR in a printed string', programmed(['r'], [(0, 0, '')], {('production', 0, 'first'): TEXT(0, 4)}, strings=b'a\r\nb'), '<r/>', 0, 'a&#13;\nb')
+    end_group('lines')
+
+
+LINES_STREAM = '\r\n<r>\r<p>x\r\ny\rz&#13;&#x20;\n&#000000000000000000000000065;</p>\r\n</r>\r'
 SWEPT = (('rich, first stream', rich, RICH, 0), ('rich, second stream', rich, RICH_2, 0), ('Example 28', example_28, '<bib><book><title>é&lt;</title><author/><author /><year>1</year></book></bib>\n', 0),
          ('Example 27, rejecting', lambda: example_27(True), '<bib> <article/><book/><book/></bib>', 25), ('a wrong end tag', rich, '<r><p>x</q></r>', 22),
          ('a begun token at the end', example_28, '<bib><book><title>€&am', 27), ('a bad byte', rich, b'<r><p>\xe2\x82\xac\xe2\x82\xff', 20),
-         ('a long tag', rich, '<r><p><' + 34 * 'q' + '>', 21), ('something after the root', smallest, '<a/> <a/>', 26), ('not allowed', rich, '<r><p><p/>', 23))
+         ('a long tag', rich, '<r><p><' + 34 * 'q' + '>', 21), ('something after the root', smallest, '<a/> <a/>', 26), ('not allowed', rich, '<r><p><p/>', 23),
+         ('line ends and references', rich, LINES_STREAM, 0))
 
 
 def goes_on(what, sheet, stream, steps):
@@ -1104,7 +1190,7 @@ def damaged():
         for at in range(len(stream)):
             begins = GROUP[1] + 1
             answers = []
-            for byte in b'<>&\0\xffa ':
+            for byte in b'<>&\0\xffa \r':
                 if byte != stream[at]:
                     answers.append(Calls(sheet()).call(changed(stream, at, byte))[0])
             said('%s, byte %d: %s' % (what, at, ' '.join(map(str, answers))), begins)
@@ -1150,7 +1236,7 @@ def drawn():
             atom = ways[below(len(ways))][1]
             place = atom.atom
             if atom.kind == 2:
-                inside += ('x', '&lt;', 'é', ' ', '&quot;', '\n')[below(6)]
+                inside += ('x', '&lt;', 'é', ' ', '&quot;', '\n', '\r\n', '\r', '&#13;', '&#x20;')[below(10)]
             elif depth < 12:
                 choices = [i for i, p in enumerate(rules.productions) if p.nonterminal == atom.argument]
                 inside += stream_of(rules, choices[below(len(choices))], depth + 1)
@@ -1200,7 +1286,7 @@ and the last, the number answered (by the last), what it is.'''
 
 def files():
     """The three files: where each goes, and its text."""
-    for group in (worked, slips, limits, order, blanks, parts, rooms, ends, closed, states, damaged, drawn):
+    for group in (worked, slips, limits, order, blanks, lines, parts, rooms, ends, closed, states, damaged, drawn):
         group()
     assert all(COUNTS.get(n, 0) >= 2 for n in [*range(10), 16, 17, *range(20, 31)])
     OUTPUT.append('%d calls in all\n' % GROUP[1])

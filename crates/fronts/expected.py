@@ -1,6 +1,6 @@
 #!/usr/bin/env python3
 # The fronts that the program `fronts` is run on (crates/fronts/stdin) and what it must answer (crates/fronts/stdout). The answers are worked out
-# here from document 01 alone, by regular expressions and Python's own UTF-8 codec; nothing of the program is read.
+# here from documents 01 and 02 (request 2) alone, by regular expressions and Python's own UTF-8 codec; nothing of the program is read.
 # Run at the top of the repository: `python3 crates/fronts/expected.py` writes both files, with `--check` it only compares them.
 import re
 import sys
@@ -9,15 +9,35 @@ NAME = rb'[A-Za-z_][A-Za-z0-9_.-]*'
 BLANK = rb'[ \t\r\n]*'
 TAG = re.compile(rb'<(?P<start>' + NAME + rb')' + BLANK + rb'(?P<slash>/?)>|</(?P<end>' + NAME + rb')' + BLANK + rb'>')
 TAG_BEGUN = re.compile(rb'<(|' + NAME + BLANK + rb'/?|/|/' + NAME + BLANK + rb')\Z')
+NUMBER = re.compile(rb'&#(?:x(?P<hex>[0-9A-Fa-f]+)|(?P<decimal>[0-9]+));')
+NUMBER_BEGUN = re.compile(rb'&(#(x(?P<hex>[0-9A-Fa-f]*)|(?P<decimal>[0-9]*)))?\Z')
 REFERENCES = {b'&amp;': 38, b'&lt;': 60, b'&gt;': 62, b'&apos;': 39, b'&quot;': 34}
 
 
+CHARS = ((9, 10), (13, 13), (0x20, 0xD7FF), (0xE000, 0xFFFD), (0x10000, 0x10FFFF))
+
+
 def is_char(c):
-    return c in (9, 10, 13) or 0x20 <= c <= 0xD7FF or 0xE000 <= c <= 0xFFFD or 0x10000 <= c <= 0x10FFFF
+    return any(a <= c <= b for a, b in CHARS)
 
 
 def escaped(c):
-    return {38: b'&amp;', 60: b'&lt;', 62: b'&gt;'}.get(c) or chr(c).encode()
+    return {38: b'&amp;', 60: b'&lt;', 62: b'&gt;', 13: b'&#13;'}.get(c) or chr(c).encode()
+
+
+# the least length of a token that begins with the digits of a number cut off, or None: k digits more come to base^k numbers in a row
+def number_length(f):
+    m = NUMBER_BEGUN.match(f)
+    if not m:
+        return None
+    base = 10 if m.group('hex') is None else 16
+    digits = m.group('hex') or m.group('decimal') or b''
+    n = int(digits or b'0', base)
+    for k in range(0 if digits else 1, 8):
+        low, high = n * base**k, (n + 1) * base**k - 1
+        if any(low <= b and a <= high for a, b in CHARS):
+            return max(len(f), 2) + k + 1
+    return None
 
 
 # every proper beginning of a single character's bytes
@@ -35,26 +55,38 @@ def token(f):
         return '%s at 1 long %d next %d' % (kind, len(n), m.end()), again
     for word, c in REFERENCES.items():
         if f.startswith(word):
-            return 'character %d next %d' % (c, len(word)), escaped(c)
+            return 'character %d by reference next %d' % (c, len(word)), escaped(c)
+    m = NUMBER.match(f)
+    if m:
+        c = int(m.group('hex'), 16) if m.group('hex') else int(m.group('decimal'))
+        return ('character %d by reference next %d' % (c, m.end()), escaped(c)) if is_char(c) else None
+    if f.startswith(b'\r'):
+        return 'character 10 itself next %d' % (2 if f.startswith(b'\r\n') else 1), b'\n'
     for n in (1, 2, 3, 4):
         try:
             u = f[:n].decode('utf-8') if len(f) >= n else ''
         except UnicodeDecodeError:
             continue
         if len(u) == 1 and is_char(ord(u)) and u not in '<&>':
-            return 'character %d next %d' % (ord(u), n), escaped(ord(u))
+            return 'character %d itself next %d' % (ord(u), n), escaped(ord(u))
     return None
 
 
 def answer(s):
     f = s[:32]
+    if f == b'\r':
+        return 'waiting 16 or character 10 itself next 1'
     t = token(f)
     if t:
         return t[0] + ' writes ' + t[1].hex()
-    begun = f in BEGINNINGS or TAG_BEGUN.match(f) or any(w.startswith(f) and w != f for w in REFERENCES)
-    if not begun:
+    lengths = [len(w) for w in REFERENCES if w.startswith(f) and w != f] + [n for n in [number_length(f)] if n]
+    if f in BEGINNINGS:
+        lengths.append(len(f) + 1)
+    if TAG_BEGUN.match(f):
+        lengths.append(len(f) + 1 if len(f) > 2 else 4)
+    if not lengths:
         return 'bad 20'
-    return 'begun 16 27' if len(f) < 32 else 'long 21'
+    return 'begun 16 27' if min(lengths) <= 32 else 'long 21'
 
 
 FRONTS = []
@@ -96,6 +128,29 @@ for h in ('c27f', 'c2c0', 'c041', 'c1bf', 'dfbf', 'df41', 'e07f', 'e080', 'e09f'
           'eda0', 'eda080', 'edbf', 'edbfbf', 'ee80', 'efbf', 'efbfbd', 'efbfbe', 'efbfbf', 'efbb', 'efbbbf3c', 'f07f', 'f080', 'f08f', 'f08fbfbf', 'f090', 'f0908041', 'f09080', 'f0908080', 'f090c0',
           'f09080c0', 'f480', 'f48f', 'f48fbf', 'f48fbfbf', 'f490', 'f4908080', 'f4bf', 'f5808080', 'f888808080', 'e28080e2', '3cc3a9', '3c61c3', '26c3', '3c2fe2'):
     add(bytes.fromhex(h))
+
+# line ends: CR LF, CR, and what may come behind
+for behind in ('', '\n', '\r', '\r\n', '\n\n', 'x', ' ', '<a>', '&#10;', '&#13;', '>', '\0'):
+    add('\r' + behind, '\n' + behind)
+add(b'\r\xff', b'\r\xc3', b'\r' + b'x' * 40, b'\r\n' + b'x' * 40)
+# numbers: every edge of the Char set, cut off and closed, in both bases, and far past it (2^32 and 2^64 wrap to A)
+EDGES = sorted({e + d for a, b in CHARS for e in (a, b) for d in (-1, 0, 1)} | {0, 1, 2, 3, 38, 39, 60, 62, 65, 127, 128, 0xDFFF, 0x11FFFF, 2**32 + 65, 2**64 + 65})
+for c in EDGES:
+    for text in ('%d' % c, 'x%x' % c, 'x%X' % c):
+        add('&#' + text, '&#' + text + ';', '&#' + text + ';x')
+for w in ('&#65;', '&#x41;', '&#1114111;', '&#x10FFFF;', '&#x10ffff;', '&#00065;', '&#x000041;'):
+    each_length(w)
+# 28 to 34 bytes of leading zeros, and then each of these
+for text in ('', '1', '2', '3', '8', '9', '11', '13', '20', '31', '32', '65', '65534', '55296', '1114111', '1114112'):
+    for n in range(28, 35):
+        add('&#' + text.rjust(n - 2, '0'), '&#' + text.rjust(n - 3, '0') + ';')
+for text in ('', '1', '2', '8', '9', 'a', 'B', 'd', '10', '1f', '20', '41', 'D800', 'fffe', '10FFFF', '110000'):
+    for n in range(28, 35):
+        add('&#x' + text.rjust(n - 3, '0'), '&#x' + text.rjust(n - 4, '0') + ';')
+add('&#' + '9' * 29 + ';', '&#' + '9' * 30, '&#x' + 'f' * 28 + ';', '&#x' + 'f' * 29, '&#4294967361;', '&#18446744073709551681;', '&#x100000041;', '&#x10000000000000041;')
+# what is no reference
+add('&#;', '&#x;', '&#X41;', '&#X', '&#+1;', '&#-1;', '&# 65;', '&#65 ;', '&#6a;', '&#a', '&#x4g;', '&#xg', '&#xG', '&#@', '&#x@', '&#`', '&#x`', '&#/', '&#:', '&#x/', '&#x:', '&#65x', '&##', '&#&', '&#x&', '&#xx41;', '&#0x41;')
+add('&#0;', '&#00;', '&#x0;', '&#\r', '&#x\n', '&\r', '&x41;', '&#65\r', '&#é', '&#65<')
 
 FRONTS = list(dict.fromkeys(FRONTS))
 made = {'stdin': ''.join(f.hex() + '\n' for f in FRONTS), 'stdout': ''.join(answer(f) + '\n' for f in FRONTS)}

@@ -1,4 +1,4 @@
--- A call has an answer, and one only. At each place something is read (`some-read`), and one thing only (`one-read`), and what a token
+-- A call has an answer, and one only. At each place something is read (`some-read`), and one thing only (`read-one` of the tokens), and what a token
 -- comes to is a function, so each way that a run can go on is decided there (`split`); every token taken leaves fewer bytes.
 -- Assumes nothing.
 use mathlib.Core.Path.{_≡_, refl, sym, ap, _∙_, subst}
@@ -9,15 +9,16 @@ use Prim.Native.Nat.{ℕ, zero, suc, _+_, _-_, _≤_, _<_}
 use native.Mathlib.Omega.{arith}
 use lib.ListN.{length, drop}
 use Rattle.tokens.specs.declared.Answer.{Answer}
-use Rattle.tokens.specs.declared.Answer.the-variants.{Token, Begun, Bad, Long}
+use Rattle.tokens.specs.declared.Answer.the-variants.{Token, Waiting, Begun, Bad, Long}
 use Rattle.sheet.specs.Sheet.{Sheet}
 use Rattle.runs.specs.Machine.{Control, State}
 use Rattle.calls.specs.Names.{tokenOf}
 use Rattle.calls.specs.Limits.{Taking, taken, refuses, no-room, oneToken}
 use Rattle.calls.specs.Held.{Held}
-use Rattle.calls.specs.Read.{ReadAs}
+use Rattle.tokens.specs.Stream.{ReadAs}
 use Rattle.calls.specs.Call.{Result, roomLeft, stopped-at, after-writing, numberAt, stops, full, no-token, Runs, takes, halts, again, CalledBy, Called}
-use Rattle.calls.proofs.Read.{one-read, some-read, read-moves}
+use Rattle.calls.proofs.Read.{some-read, never-waits, read-moves}
+use Rattle.tokens.proofs.Streams.{read-one}
 
 module _ (a : Sheet) (part : List ℕ) (more : Bool) where
   -- how a run goes on from the token that stands at `at`, by what that comes to
@@ -33,6 +34,7 @@ module _ (a : Sheet) (part : List ℕ) (more : Bool) where
   -- and by what the reader answers there
   abbrev pub GoesOn : ℕ → ℕ → State → Result → Answer → Type 0
   GoesOn at room z r (Token e next) = AfterToken at room z (next .at) r (oneToken a z room (tokenOf a part e))
+  GoesOn at room z r (Waiting e next) = ⊥
   GoesOn at room z r Begun = AfterNone at z r (numberAt more (length (drop at part)) (z .control) Begun)
   GoesOn at room z r Bad = AfterNone at z r (numberAt more (length (drop at part)) (z .control) Bad)
   GoesOn at room z r Long = AfterNone at z r (numberAt more (length (drop at part)) (z .control) Long)
@@ -43,6 +45,7 @@ module _ (a : Sheet) (part : List ℕ) (more : Bool) where
   by-number : (at room : ℕ) (z : State) (r : Result) (x : Answer) (n : ℕ) → numberAt more (length (drop at part)) (z .control) x ≡ some n →
       r ≡ stopped-at n at z → GoesOn at room z r x
   by-number at room z r (Token e next) n q p = absurd (none≢some n q)
+  by-number at room z r (Waiting e next) n q p = absurd (none≢some n q)
   by-number at room z r Begun n q p = subst (AfterNone at z r) (sym q) p
   by-number at room z r Bad n q p = subst (AfterNone at z r) (sym q) p
   by-number at room z r Long n q p = subst (AfterNone at z r) (sym q) p
@@ -50,6 +53,7 @@ module _ (a : Sheet) (part : List ℕ) (more : Bool) where
   pub to-number : (at room : ℕ) (z : State) (r : Result) (x : Answer) (n : ℕ) → numberAt more (length (drop at part)) (z .control) x ≡ some n →
       GoesOn at room z r x → r ≡ stopped-at n at z
   to-number at room z r (Token e next) n q p = absurd (none≢some n q)
+  to-number at room z r (Waiting e next) n q p = absurd (none≢some n q)
   to-number at room z r Begun n q p = subst (AfterNone at z r) q p
   to-number at room z r Bad n q p = subst (AfterNone at z r) q p
   to-number at room z r Long n q p = subst (AfterNone at z r) q p
@@ -63,7 +67,7 @@ module _ (a : Sheet) (part : List ℕ) (more : Bool) where
 
   -- a run goes on as the reader's answer says
   pub split : {at room : ℕ} {z : State} {r : Result} → Runs a part more at room z r → (x : Answer) → ReadAs more part at x → GoesOn at room z r x
-  split {at} {room} {z} {r} d x m = let o = own d in subst (GoesOn at room z r) (one-read more part at (o .0) x (o .1) m) (o .2)
+  split {at} {room} {z} {r} d x m = let o = own d in subst (GoesOn at room z r) (read-one more part at (o .0) x (o .1) m) (o .2)
 
   pub one-run : {at room : ℕ} {z : State} {r r′ : Result} → Runs a part more at room z r → Runs a part more at room z r′ → r ≡ r′
   one-run {r′ = r′} (takes {at} {room} {z} e next z′ w m t d) d′ =
@@ -94,6 +98,7 @@ module _ (a : Sheet) (part : List ℕ) (more : Bool) where
 
     from-answer : (room : ℕ) (z : State) → at ≤ length part → (x : Answer) → ReadAs more part at x → (r : Result) × Runs a part more at room z r
     from-answer room z h (Token e next) m = from-token room z e (next .at) m h (oneToken a z room (tokenOf a part e)) refl
+    from-answer room z h (Waiting e next) m = absurd (never-waits more part at e next m)
     from-answer room z h Begun m =
         let b = begun-number (length (drop at part)) (z .control) in
         (stopped-at (b .0) at z, halts (no-token Begun (b .0) m (b .1)))

@@ -73,11 +73,12 @@ module _ (a : Sheet) (ok : Passed a) where
 
   same-run : (ts us : List Tok) (v : Env) → Stream ts → Stream us → (Taken ts v → Taken us v) → Accepted a (flat ts) v → Accepted a (flat us) v
   same-run ts us v g h f x =
-      let e : ts ≡ x .tokens = flat-one ts (x .tokens) (g .0) (x .good) (x .are-bytes) in
+      let e : ts ≡ x .tokens = flat-one ts (x .tokens) (g .0) (x .good) (g .2) (x .whole) (x .are-bytes) in
       record {
         tokens = us;
         good = h .0;
         short = h .1;
+        whole = h .2;
         are-bytes = refl;
         spells = spelled-iff a ok (tokensFor a us) v .0 (f (ap (λ (l : List Tok). runTokens a fresh-state (tokensFor a l)) e ∙ spelled-iff a ok (tokensFor a (x .tokens)) v .1 (x .spells)));
         counts = x .counts;

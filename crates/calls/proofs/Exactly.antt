@@ -11,7 +11,7 @@ use native.Mathlib.Omega.{arith}
 use lib.Dec.{leb}
 use lib.ListN.{length, drop}
 use borrow.Author.Tests.{leb-true, leb-false, le-leb, lt-leb}
-use Rattle.tokens.specs.declared.Answer.the-variants.{Begun, Bad, Long}
+use Rattle.tokens.specs.declared.Answer.the-variants.{Waiting, Begun, Bad, Long}
 use Rattle.output.specs.Escape.{Piece}
 use Rattle.sheet.specs.Sheet.{Sheet}
 use Rattle.runs.specs.Visits.{grammar}
@@ -176,6 +176,7 @@ none-closes n e = let x : _≡_ {A = ℕ} 0 1 = cc in omega arith
 
 none-number : (more : Bool) (left : ℕ) (c : Control) (x : Rattle.tokens.specs.declared.Answer.Answer) (j : ℕ) → numberAt more left c x ≡ some j → (j ≡ 16) ⊎ Closing j
 none-number more left c (Rattle.tokens.specs.declared.Answer.the-variants.Token e next) j q = absurd (let y : _≡_ {A = ℕ} 0 1 = cc in omega arith)
+none-number more left c (Waiting e next) j q = absurd (let y : _≡_ {A = ℕ} 0 1 = cc in omega arith)
 none-number true left c Begun j q = let h : 16 ≡ j = cc in inl (sym h)
 none-number false zero before Begun j q = let h : 27 ≡ j = cc in inr (closed-by-refusal {n = j} (omega arith) (omega arith))
 none-number false zero (inside o os) Begun j q = let h : 27 ≡ j = cc in inr (closed-by-refusal {n = j} (omega arith) (omega arith))

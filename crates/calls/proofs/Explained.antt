@@ -12,9 +12,10 @@ use lib.ListN.{length, drop, length-append}
 use lib.Seq.{drop-append-seam}
 use Rattle.tokens.specs.declared.Event.{Event}
 use Rattle.tokens.specs.declared.Answer.{Answer}
-use Rattle.tokens.specs.declared.Answer.the-variants.{Token, Begun, Bad, Long}
+use Rattle.tokens.specs.declared.Answer.the-variants.{Token, Waiting, Begun, Bad, Long}
 use Rattle.tokens.specs.Tokens.{Tok, bytes, eventOf}
-use Rattle.tokens.specs.Stream.{flat, eventsAt}
+use Rattle.tokens.specs.Stream.{ReadAs, Reads, flat, AllGood, AllShort, AllWhole, eventsAt}
+use Rattle.tokens.proofs.Streams.{reads-flat}
 use Rattle.output.specs.Escape.{Piece, render}
 use Rattle.output.proofs.Writing.{render-append}
 use Rattle.sheet.specs.Sheet.{Sheet}
@@ -30,16 +31,14 @@ use Rattle.runs.proofs.Spells.{RunSoFar, so-far-run, so-far-iff, token-refused-
 use Rattle.calls.specs.Names.{tokenFor, tokensFor, tokenOf}
 use Rattle.calls.specs.Limits.{outputOf, Over}
 use Rattle.calls.specs.Held.{fresh-held, handed}
-use Rattle.calls.specs.Read.{ReadAs, ReadsAs}
 use Rattle.calls.specs.Call.{Result, numberAt, Stop, stops, full, no-token, Called}
-use Rattle.calls.specs.Empty.{Stream}
 use Rattle.calls.specs.Explained.{Next, Why, all-taken, used-up, no-space, begins-none, too-long, next-refused, cut-off, not-closed, too-many, Explained, Answers, ExplainedExactly}
 use Rattle.calls.proofs.Answers.{call-one}
 use Rattle.calls.proofs.Empty.{tokens-behind}
 use Rattle.calls.proofs.Exactly.{refuses-iff, no-room-iff}
 use Rattle.calls.proofs.Frame.{state-behind, answer-behind, token-frame, countOf}
 use Rattle.calls.proofs.Main.{tokens-at}
-use Rattle.calls.proofs.Read.{NoToken, none-read, read-token, read-tokens, reads-all, token-reads, token-at, token-of, none-there}
+use Rattle.calls.proofs.Read.{NoToken, none-read, read-token, read-tokens, token-reads, token-at, token-of, none-there}
 use Rattle.calls.proofs.Steps.{RunToken, RunAnswer, outOf, tokensOf, steps-silent, steps-count, steps-run, run-steps, run-does, steps-stop}
 
 -- a run over more tokens
@@ -97,7 +96,7 @@ module _ (a : Sheet) (ok : Passed a) (s : List ℕ) (more : Bool) (room : ℕ) (
   record Coming (e : Event) : Type 0 where
     pub tok : Tok
     pub rest : List ℕ
-    pub next : Next left tok rest
+    pub next : Next more left tok rest
     pub same : tokenOf a s e ≡ tokenFor a tok
 
   comes : (e : Event) (to : ℕ) → ReadAs more s at (Token e (record { at = to })) → Coming e
@@ -106,16 +105,16 @@ module _ (a : Sheet) (ok : Passed a) (s : List ℕ) (more : Bool) (room : ℕ) (
       record {
         tok = t .tok;
         rest = drop to s;
-        next = record { good = t .good; short = t .short; are-bytes = sym here ∙ t .split };
+        next = record { good = t .good; short = t .short; whole = t .whole; are-bytes = sym here ∙ t .split };
         same = token-of a s t;
       }
 
   -- and back
-  reads-next : (t : Tok) (rest : List ℕ) → Next left t rest →
+  reads-next : (t : Tok) (rest : List ℕ) → Next more left t rest →
       ReadAs more s at (Token (eventOf at t) (record { at = at + length (bytes t) })) × (tokenOf a s (eventOf at t) ≡ tokenFor a t)
   reads-next t rest n =
       let stands : drop at s ≡ bytes t ++ rest = here ∙ n .are-bytes in
-      (token-reads more s at t rest stands (n .good) (n .short), token-at a s t at rest stands)
+      (token-reads s at t rest stands (n .good) (n .short) more (n .whole), token-at a s t at rest stands)
 
   -- a token that is taken here, and one that is refused
   on-token : (t : Tok) (y : State) → stepToken a last (tokenFor a t) ≡ took y → SpelledSoFar a (tokensFor a (ts ++ t ∷ [])) (state-behind p y .store)
@@ -201,6 +200,7 @@ module _ (a : Sheet) (ok : Passed a) (s : List ℕ) (more : Bool) (room : ℕ) (
 
       by-answer : (x : Answer) → ReadAs more s at x → numberAt more (length (drop at s)) (last .control) x ≡ some n → Why a more room ts left so n
       by-answer (Token e to) m q = absurd (let z : _≡_ {A = ℕ} 0 1 = cc in omega arith)
+      by-answer (Waiting e to) m q = absurd (let z : _≡_ {A = ℕ} 0 1 = cc in omega arith)
       by-answer Begun m q = at-end more refl (none-left Begun tt m) (length left) refl (last .control) refl (ap (λ (l : List ℕ). numberAt more (length l) (last .control) Begun) (sym here) ∙ q)
       by-answer Bad m q = let i : 20 ≡ n = cc in subst (Why a more room ts left so) i (begins-none (none-left Bad tt m))
       by-answer Long m q = let i : 21 ≡ n = cc in subst (Why a more room ts left so) i (too-long (none-left Long tt m))
@@ -275,8 +275,10 @@ module _ (a : Sheet) (ok : Passed a) (s : List ℕ) (more : Bool) (room : ℕ) w
       (subst (λ (m : ℕ). Stop a s more m (room - length (r .output)) last (r .number)) n (w .stop)) in
       record {
         tokens = ts;
-        stream = (k .good, k .short);
+        good = k .good;
+        short = k .short;
         left = left;
+        whole = k .whole;
         are-bytes = e;
         store = state-behind p last .store;
         so-far = so;
@@ -299,8 +301,8 @@ module _ (a : Sheet) (ok : Passed a) (s : List ℕ) (more : Bool) (room : ℕ) w
       let ts : List Tok = x .tokens in
       let es : List Event = eventsAt 0 ts in
       let to : 0 + length (flat ts) ≡ length (flat ts) = omega arith in
-      let rd : ReadsAs more s 0 es (length (flat ts)) =
-      subst (ReadsAs more s 0 es) to (subst (λ (l : List ℕ). ReadsAs more l 0 es (0 + length (flat ts))) (sym (x .are-bytes)) (reads-all more ts [] (x .left) (x .stream .0) (x .stream .1))) in
+      let rd : Reads more s 0 es (length (flat ts)) =
+      subst (Reads more s 0 es) to (subst (λ (l : List ℕ). Reads more l 0 es (0 + length (flat ts))) (sym (x .are-bytes)) (reads-flat more ts [] (x .left) (x .good) (x .short) (x .whole))) in
       let same : tokensOf a s es ≡ tokensFor a ts = tokens-at a s ts 0 (x .left) (x .are-bytes) in
       let r = so-far-iff a ok (tokensFor a ts) (x .store) .1 (x .so-far) in
       let st = run-steps a fresh-state (tokensOf a s es) [] (record { control = r .0; store = x .store }) (ap (runTokens a fresh-state) same ∙ r .1) (x .counts) in
@@ -350,8 +352,10 @@ explained-exactly a ok s more room r d n t o v = (
     by n′ t′ o′ v′ i j k l x =
         record {
           tokens = x .tokens;
-          stream = x .stream;
+          good = x .good;
+          short = x .short;
           left = x .left;
+          whole = x .whole;
           are-bytes = x .are-bytes;
           store = x .store;
           so-far = x .so-far;
@@ -364,17 +368,19 @@ explained-exactly a ok s more room r d n t o v = (
         }
 
 -- a stream of which a token is refused, from the run over the tokens before it
-pub halt-explained : (a : Sheet) → Passed a → (s : List ℕ) (more : Bool) (room n taken : ℕ) (o : List ℕ) (ts : List Tok) → Stream ts → (t : Tok) (rest : List ℕ) → Next (bytes t ++ rest) t rest →
-    s ≡ flat ts ++ (bytes t ++ rest) → (z : State) → runTokens a fresh-state (tokensFor a ts) ≡ through z → stepToken a z (tokenFor a t) ≡ refused n → countOf z ≤ mostVisits →
+pub halt-explained : (a : Sheet) → Passed a → (s : List ℕ) (more : Bool) (room n taken : ℕ) (o : List ℕ) (ts : List Tok) → AllGood ts → AllShort ts → (t : Tok) (rest : List ℕ) → AllWhole more ts (bytes t ++ rest) →
+    Next more (bytes t ++ rest) t rest → s ≡ flat ts ++ (bytes t ++ rest) → (z : State) → runTokens a fresh-state (tokensFor a ts) ≡ through z → stepToken a z (tokenFor a t) ≡ refused n → countOf z ≤ mostVisits →
     length (flat ts) ≡ taken → render (outOf z) ≡ o → length o ≤ room → Explained a s more room n taken o (countOf z)
-halt-explained a ok s more room n taken o ts g t rest next e z ran r c at w f =
+halt-explained a ok s more room n taken o ts g h t rest l next e z ran r c at w f =
     let so = so-far-iff a ok (tokensFor a ts) (z .store) .0 (z .control, ran) in
     let d = so-far-run a ok (tokensFor a ts) (z .store) so in
     let same : record { control = d .control; store = z .store } ≡ z = through-one (record { control = d .control; store = z .store }) z (sym (d .tokens-run) ∙ ran) in
     record {
       tokens = ts;
-      stream = g;
+      good = g;
+      short = h;
       left = bytes t ++ rest;
+      whole = l;
       are-bytes = e;
       store = z .store;
       so-far = so;

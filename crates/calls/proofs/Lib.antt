@@ -1,4 +1,3 @@
-pub mod Readable
 pub mod Read
 pub mod Names
 pub mod Answers
@@ -11,3 +10,4 @@ pub mod Empty
 pub mod Fed
 pub mod ReadsBack
 pub mod Explained
+pub mod LineEnds

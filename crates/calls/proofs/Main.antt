@@ -12,8 +12,8 @@ use lib.ListN.{length, drop}
 use lib.Seq.{drop-drop, drop-append-seam}
 use Rattle.tokens.specs.declared.Event.{Event}
 use Rattle.tokens.specs.Tokens.{Tok, bytes, eventOf}
-use Rattle.tokens.specs.Stream.{flat, eventsAt}
-use Rattle.tokens.proofs.Streams.{flat-one}
+use Rattle.tokens.specs.Stream.{Reads, flat, AllWhole, eventsAt}
+use Rattle.tokens.proofs.Streams.{flat-one, reads-flat}
 use Rattle.output.specs.Escape.{Piece, render}
 use Rattle.sheet.specs.Sheet.{Sheet}
 use Rattle.runs.specs.Visits.{Env}
@@ -27,10 +27,9 @@ use Rattle.calls.specs.Names.{tokensFor}
 use Rattle.runs.specs.Visits.{mostVisits}
 use Rattle.calls.specs.Limits.{without-output, silent}
 use Rattle.calls.specs.Held.{fresh-held}
-use Rattle.calls.specs.Read.{ReadsAs}
 use Rattle.calls.specs.Call.{Result, Called}
 use Rattle.calls.specs.Accepted.{Accepted, accepted, AcceptedIn, AcceptedExactly, TwiceTheNodes}
-use Rattle.calls.proofs.Read.{token-at, read-tokens, reads-all}
+use Rattle.calls.proofs.Read.{token-at, read-tokens}
 use Rattle.calls.proofs.Frame.{state-behind, countOf}
 use Rattle.calls.proofs.Steps.{tokensOf, Steps, steps-silent, steps-count, steps-run, run-steps, ended, Ends, run-ends, ends-run}
 
@@ -92,6 +91,7 @@ module _ (a : Sheet) (ok : Passed a) (s : List ℕ) (room : ℕ) where
             tokens = ts;
             good = k .good;
             short = k .short;
+            whole = subst (AllWhole false ts) nil (k .whole);
             are-bytes = b;
             spells = spelled-iff a ok (tokensFor a ts) v .0 (ap (runTokens a fresh-state) (sym same) ∙ run ∙ ap through (t .2));
             counts = omega (arith, c, l .2);
@@ -105,8 +105,8 @@ module _ (a : Sheet) (ok : Passed a) (s : List ℕ) (room : ℕ) where
   from-accepted v x f =
       let ts : List Tok = x .tokens in
       let es : List Event = eventsAt 0 ts in
-      let rd : ReadsAs false s 0 es (0 + length (flat ts)) =
-      subst (λ (l : List ℕ). ReadsAs false l 0 es (0 + length (flat ts))) (append-nil (flat ts) ∙ sym (x .are-bytes)) (reads-all false ts [] [] (x .good) (x .short)) in
+      let rd : Reads false s 0 es (0 + length (flat ts)) =
+      subst (λ (l : List ℕ). Reads false l 0 es (0 + length (flat ts))) (append-nil (flat ts) ∙ sym (x .are-bytes)) (reads-flat false ts [] [] (x .good) (x .short) (x .whole)) in
       let same : tokensOf a s es ≡ tokensFor a ts = tokens-at a s ts 0 [] (x .are-bytes ∙ sym (append-nil (flat ts))) in
       let st = run-steps a fresh-state (tokensOf a s es) [] (closed-with v) (ap (runTokens a fresh-state) same ∙ spelled-iff a ok (tokensFor a ts) v .1 (x .spells)) (x .counts) in
       let l = last-is v (st .last) (st .printed) (steps-silent a fresh-state (tokensOf a s es) (st .last) (st .printed) refl (st .steps)) (sym (st .is)) in
@@ -128,7 +128,7 @@ accepted-iff a ok s room r = (
 -- the tree and what it comes to are one
 pub accepted-one : (a : Sheet) → Passed a → (s : List ℕ) (v v′ : Env) → Accepted a s v → Accepted a s v′ → v ≡ v′
 accepted-one a ok s v v′ x x′ =
-    let e : x .tokens ≡ x′ .tokens = flat-one (x .tokens) (x′ .tokens) (x .good) (x′ .good) (sym (x .are-bytes) ∙ x′ .are-bytes) in
+    let e : x .tokens ≡ x′ .tokens = flat-one (x .tokens) (x′ .tokens) (x .good) (x′ .good) (x .whole) (x′ .whole) (sym (x .are-bytes) ∙ x′ .are-bytes) in
     let r = spelled-iff a ok (tokensFor a (x .tokens)) v .1 (x .spells) in
     let r′ = spelled-iff a ok (tokensFor a (x′ .tokens)) v′ .1 (x′ .spells) in
     let q : through (closed-with v) ≡ through (closed-with v′) = sym r ∙ ap (λ (ts : List Tok). runTokens a fresh-state (tokensFor a ts)) e ∙ r′ in

@@ -1,5 +1,5 @@
 -- How a stream is cut into parts, and how much room is lent at a time, changes nothing. What the reader answers of a part it answers of the whole, unless
--- it answers Begun (`read-stays`), and what a token comes to depends on the room only where there is too little; so a call on a part goes as the call on
+-- it answers Begun, or it is the number of a reference that was cut off (`read-on`), and what a token comes to depends on the room only where there is too little; so a call on a part goes as the call on
 -- the whole up to where it stops (`resume`). From there on the bytes that are left do as well as the whole (`shift`).
 -- Assumes nothing.
 use mathlib.Core.Path.{_≡_, refl, sym, ap, ap₂, _∙_, subst}
@@ -10,14 +10,17 @@ use mathlib.Core.Option.{Option, none, some}
 use Prim.Native.Nat.{ℕ, zero, suc, _+_, _-_, _≤_}
 use native.Mathlib.Omega.{arith}
 use lib.Dec.{leb, eqb}
-use lib.ListN.{length, drop, length-append, length-drop}
+use lib.ListN.{length, take, drop, length-append, length-take, length-drop, take-append-drop}
 use lib.Seq.{drop-drop, drop-append-le}
 use borrow.Author.Tests.{ne-eqb, leb-true, le-leb}
 use Rattle.tokens.specs.declared.Cursor.{Cursor}
 use Rattle.tokens.specs.declared.Event.{Event}
 use Rattle.tokens.specs.declared.Answer.{Answer}
-use Rattle.tokens.specs.declared.Answer.the-variants.{Token, Begun, Bad, Long}
-use Rattle.tokens.specs.Tokens.{bytes}
+use Rattle.tokens.specs.declared.Answer.the-variants.{Token, Waiting, Begun, Bad, Long}
+use Rattle.text.specs.Chars.{Starts}
+use Rattle.tokens.specs.Tokens.{bytes, front}
+use Rattle.tokens.specs.Stream.{ReadAs}
+use Rattle.tokens.specs.Parts.{CutNumber}
 use Rattle.sheet.specs.Sheet.{Sheet}
 use Rattle.runs.specs.Machine.{Control, before, inside, after, State, took, refused}
 use Rattle.runs.specs.Spells.{stepToken}
@@ -25,10 +28,9 @@ use Rattle.calls.specs.Names.{tokenOf}
 use Rattle.runs.specs.Visits.{mostVisits}
 use Rattle.calls.specs.Limits.{silent, outputOf, Taking, taken, refuses, no-room, limited, within, oneToken}
 use Rattle.calls.specs.Held.{Held, leavesOpen, closingOf, handed}
-use Rattle.calls.specs.Read.{ReadAs}
 use Rattle.calls.specs.Call.{Result, stopped-at, after-writing, numberAt, stops, full, no-token, Runs, takes, halts, CalledBy, Called}
-use Rattle.calls.specs.Parts.{answers-together, Told, Continued, Feeds, at-once, closes, goes-on, Each, CallOf}
-use Rattle.calls.proofs.Read.{NoToken, Alike, read-stays, read-token, token-long, token-at, token-of, none-there, token-there}
+use Rattle.calls.specs.Parts.{answers-together, Told, CutOff, SameAnswer, Continued, Feeds, at-once, closes, goes-on, Each, CallOf}
+use Rattle.calls.proofs.Read.{NoToken, Alike, read-on, read-token, token-long, token-at, token-of, none-there, token-there}
 use Rattle.calls.proofs.Answers.{AfterToken, split, to-number, call-one, call-some}
 use Rattle.calls.proofs.Frame.{countOf}
 use Rattle.calls.proofs.Steps.{RunToken, RunAnswer, takes-one, one-takes, refuses-over}
@@ -69,6 +71,12 @@ token≢begun e n p = let z : _≡_ {A = ℕ} 0 1 = cc in omega arith
 bad≢begun : Bad ≡ Begun → ⊥
 bad≢begun p = let z : _≡_ {A = ℕ} 0 1 = cc in omega arith
 
+token≢long : (e : Event) (n : Cursor) → Token e n ≡ Long → ⊥
+token≢long e n p = let z : _≡_ {A = ℕ} 0 1 = cc in omega arith
+
+bad≢long : Bad ≡ Long → ⊥
+bad≢long p = let z : _≡_ {A = ℕ} 0 1 = cc in omega arith
+
 long≢begun : Long ≡ Begun → ⊥
 long≢begun p = let z : _≡_ {A = ℕ} 0 1 = cc in omega arith
 
@@ -90,7 +98,15 @@ module _ (a : Sheet) (s r : List ℕ) (b more : Bool) (told : Told b r more) (ex
   abbrev Onward : ℕ → Result → Result → Option ℕ → Type 0
   Onward room r₁ R none =
       (r₂ : Result) × Runs a (s ++ r) more (r₁ .taken) (room + extra - length (r₁ .output)) (r₁ .held .run) r₂ × (R ≡ after-writing (r₁ .output) r₂)
-  Onward room r₁ R (some n) = R ≡ r₁
+  Onward room r₁ R (some n) = SameAnswer (s ++ r) r₁ R
+
+  -- what is read of the part is read of the whole
+  read-whole : (at : ℕ) (x : Answer) → (x ≡ Begun → ⊥) → (x ≡ Long → ⊥) → ReadAs b s at x → ReadAs more (s ++ r) at x
+  read-whole at x n l m = by (read-on b more s r at x told n m)
+    where
+      by : ReadAs more (s ++ r) at x ⊎ ((x ≡ Long) × ReadAs more (s ++ r) at Bad × CutNumber (front s at)) → ReadAs more (s ++ r) at x
+      by (inl k) = k
+      by (inr k) = absurd (l (k .0))
 
   -- where the part's call stops open, the whole's goes on from there
   from-here : (at room : ℕ) (z : State) (R : Result) (n : ℕ) → Runs a (s ++ r) more at (room + extra) z R → Onward room (stopped-at n at z) R none
@@ -103,7 +119,8 @@ module _ (a : Sheet) (s r : List ℕ) (b more : Bool) (told : Told b r more) (ex
     subst (λ (m : ℕ). Runs a (s ++ r) more (r₁ .taken) m (r₁ .held .run) r₂) (omega (arith, length-append w (r₁ .output))) d,
     e ∙ ap (after-writing w) q ∙ ap (λ (l : List ℕ). record { number = r₂ .number; taken = r₂ .taken; output = l; held = r₂ .held }) (sym (append-assoc w (r₁ .output) (r₂ .output))),
   )
-  lift room w r₁ R R′ (some n) h e q = e ∙ ap (after-writing w) q
+  lift room w r₁ R R′ (some n) h e (inl q) = inl (e ∙ ap (after-writing w) q)
+  lift room w r₁ R R′ (some n) h e (inr c) = inr (record { number = c .number; had = c .had; cut = c .cut; stands = c .stands; is = e ∙ ap (after-writing w) (c .is) })
 
   -- where the part's call stops at a token that is only begun
   at-begun : (at room : ℕ) (z : State) (R : Result) (n : ℕ) → ReadAs b s at Begun → numberAt b (length (drop at s)) (z .control) Begun ≡ some n →
@@ -125,11 +142,33 @@ module _ (a : Sheet) (s r : List ℕ) (b more : Bool) (told : Told b r more) (ex
           ap₂ (λ (x : Bool) (y : List ℕ). numberAt x (length (drop at y)) (z .control) Begun) (sym t) (sym w) ∙ q in
           subst (Onward room (stopped-at n at z) R)
           (sym (end-closes (length (drop at s)) (z .control) n (ap (λ (x : Bool). numberAt x (length (drop at s)) (z .control) Begun) (sym e) ∙ q)))
-          (to-number a (s ++ r) more at (room + extra) z R Begun n k (split a (s ++ r) more d Begun (subst (λ (y : List ℕ). ReadAs more y at Begun) w (subst (λ (x : Bool). ReadAs x s at Begun) t m))))
+          (inl (to-number a (s ++ r) more at (room + extra) z R Begun n k (split a (s ++ r) more d Begun (subst (λ (y : List ℕ). ReadAs more y at Begun) w (subst (λ (x : Bool). ReadAs x s at Begun) t m)))))
+
+  -- where it stops at a token that can only be too long
+  at-long : (at room : ℕ) (z : State) (R : Result) (n : ℕ) → n ≡ 21 → numberAt b (length (drop at s)) (z .control) Long ≡ some n → Runs a (s ++ r) more at (room + extra) z R →
+      ReadAs more (s ++ r) at Long ⊎ ((Long ≡ Long) × ReadAs more (s ++ r) at Bad × CutNumber (front s at)) → SameAnswer (s ++ r) (stopped-at n at z) R
+  at-long at room z R n i q d (inl m) = inl (to-number a (s ++ r) more at (room + extra) z R Long n q (split a (s ++ r) more d Long m))
+  at-long at room z R n i q d (inr (e, m, c)) =
+      inr
+      (record {
+        number = i;
+        had = front s at;
+        cut = c;
+        stands = in-front c;
+        is = to-number a (s ++ r) more at (room + extra) z R Bad 20 refl (split a (s ++ r) more d Bad m);
+      })
+    where
+      in-front : CutNumber (front s at) → Starts (drop at (s ++ r)) (front s at)
+      in-front c =
+          let (v, w) = c .opened in
+          let within : at ≤ length s = omega (arith, length-drop at s, length-take 32 (drop at s), ap length w) in (
+            drop 32 (drop at s) ++ r,
+            drop-append-le at s r within ∙ ap (λ (l : List ℕ). l ++ r) (sym (take-append-drop 32 (drop at s))) ∙ append-assoc (front s at) (drop 32 (drop at s)) r,
+          )
 
   resume : {at room : ℕ} {z : State} {r₁ R : Result} → Runs a s b at room z r₁ → Runs a (s ++ r) more at (room + extra) z R → Onward room r₁ R (r₁ .held .closing)
   resume {R = R} (takes {at} {room} {z} {r = r₁} e next z′ w m t d) d′ =
-      let m′ = read-stays b more s r at (Token e (record { at = next })) told (token≢begun e (record { at = next })) m in
+      let m′ = read-whole at (Token e (record { at = next })) (token≢begun e (record { at = next })) (token≢long e (record { at = next })) m in
       let o = taken-in-more a z room extra (tokenOf a s e) z′ w t in
       let i = subst (AfterToken a (s ++ r) more at (room + extra) z next R)
       (ap (oneToken a z (room + extra)) (token-in a s r b at e next m) ∙ o .0) (split a (s ++ r) more d′ (Token e (record { at = next })) m′) in
@@ -137,23 +176,24 @@ module _ (a : Sheet) (s r : List ℕ) (b more : Bool) (told : Told b r more) (ex
       lift room w r₁ R (i .0) (r₁ .held .closing) f (i .2)
       (resume d (subst (λ (n : ℕ). Runs a (s ++ r) more next n z′ (i .0)) (omega arith) (i .1)))
   resume {R = R} (halts {at} {room} {z} (stops e next n m t)) d′ =
-      let m′ = read-stays b more s r at (Token e (record { at = next })) told (token≢begun e (record { at = next })) m in
+      let m′ = read-whole at (Token e (record { at = next })) (token≢begun e (record { at = next })) (token≢long e (record { at = next })) m in
       let i = subst (AfterToken a (s ++ r) more at (room + extra) z next R)
       (ap (oneToken a z (room + extra)) (token-in a s r b at e next m) ∙ refused-in-more a z room extra (tokenOf a s e) n t)
       (split a (s ++ r) more d′ (Token e (record { at = next })) m′) in
       let h = refuses-over a z room (tokenOf a s e) n t in
-      subst (Onward room (stopped-at n at z) R) (sym (over-closes n (omega arith))) i
+      subst (Onward room (stopped-at n at z) R) (sym (over-closes n (omega arith))) (inl i)
   resume {R = R} (halts {at} {room} {z} (full e next m t)) d′ = from-here at room z R 17 d′
   resume {R = R} (halts {at} {room} {z} (no-token (Token e next) n m q)) d′ = absurd (let y : _≡_ {A = ℕ} 0 1 = cc in omega arith)
+  resume {R = R} (halts {at} {room} {z} (no-token (Waiting e next) n m q)) d′ = absurd (let y : _≡_ {A = ℕ} 0 1 = cc in omega arith)
   resume {R = R} (halts {at} {room} {z} (no-token Begun n m q)) d′ = at-begun at room z R n m q d′
   resume {R = R} (halts {at} {room} {z} (no-token Bad n m q)) d′ =
       let h : 20 ≡ n = cc in
       subst (Onward room (stopped-at n at z) R) (sym (over-closes n (omega arith)))
-      (to-number a (s ++ r) more at (room + extra) z R Bad n q (split a (s ++ r) more d′ Bad (read-stays b more s r at Bad told bad≢begun m)))
+      (inl (to-number a (s ++ r) more at (room + extra) z R Bad n q (split a (s ++ r) more d′ Bad (read-whole at Bad bad≢begun bad≢long m))))
   resume {R = R} (halts {at} {room} {z} (no-token Long n m q)) d′ =
       let h : 21 ≡ n = cc in
       subst (Onward room (stopped-at n at z) R) (sym (over-closes n (omega arith)))
-      (to-number a (s ++ r) more at (room + extra) z R Long n q (split a (s ++ r) more d′ Long (read-stays b more s r at Long told long≢begun m)))
+      (at-long at room z R n (sym h) q d′ (read-on b more s r at Long told long≢begun m))
 
 -- what stands in front of a part changes an answer's places only
 abbrev moved-by : ℕ → Result → Result
@@ -175,6 +215,7 @@ module _ (a : Sheet) (whole : List ℕ) (more : Bool) (n : ℕ) where
 
   no-number : (left : ℕ) (c : Control) (x : Answer) (k : ℕ) → numberAt more left c x ≡ some k → NoToken x
   no-number left c (Token e next) k q = let y : _≡_ {A = ℕ} 0 1 = cc in omega arith
+  no-number left c (Waiting e next) k q = let y : _≡_ {A = ℕ} 0 1 = cc in omega arith
   no-number left c Begun k q = tt
   no-number left c Bad k q = tt
   no-number left c Long k q = tt
@@ -213,7 +254,7 @@ module _ (a : Sheet) (s r : List ℕ) (b more : Bool) (told : Told b r more) (ro
   by-closing : (z : State) (c : Option ℕ) (r₁ R : Result) → CalledBy a s b room z c r₁ → CalledBy a (s ++ r) more (room + extra) z c R →
       Continued a (s ++ r) more (room + extra) r₁ R (r₁ .held .closing)
   by-closing z none r₁ R d d′ = as-call r₁ R (r₁ .held .closing) refl (resume a s r b more told extra d d′)
-  by-closing z (some n) r₁ R d d′ = subst (Continued a (s ++ r) more (room + extra) r₁ R) (sym (ap (λ (x : Result). x .held .closing) d)) (d′ ∙ sym d)
+  by-closing z (some n) r₁ R d d′ = subst (Continued a (s ++ r) more (room + extra) r₁ R) (sym (ap (λ (x : Result). x .held .closing) d)) (inl (d′ ∙ sym d))
 
   -- a call on the part s in so much room, against a call on s ++ r in more room, from the same state
   pub in-parts : (h : Held) (r₁ R : Result) → Called a s b room h r₁ → Called a (s ++ r) more (room + extra) h R →
@@ -221,18 +262,34 @@ module _ (a : Sheet) (s r : List ℕ) (b more : Bool) (told : Told b r more) (ro
   in-parts h r₁ R d d′ = by-closing (h .run) (h .closing) r₁ R d d′
 
 -- so any calls that feed a stream answer what one call on all of it does
-pub feeds-as-one : (a : Sheet) (more : Bool) {whole : List ℕ} {room : ℕ} {h : Held} {r : Result} {v : ℕ} → Feeds (CallOf a) more whole room h r v → Called a whole more room h r
-feeds-as-one a more (at-once d) = d .called
+pub record OneCall (a : Sheet) (whole : List ℕ) (more : Bool) (room : ℕ) (h : Held) (r : Result) : Type 0 where
+  pub answer : Result
+  pub called : Called a whole more room h answer
+  pub same : SameAnswer whole r answer
+
+-- a second answer, behind a first
+behind-first : (whole : List ℕ) (r₁ r₂ R₂ R : Result) → R ≡ answers-together r₁ R₂ → SameAnswer (drop (r₁ .taken) whole) r₂ R₂ → SameAnswer whole (answers-together r₁ r₂) R
+behind-first whole r₁ r₂ R₂ R e (inl q) = inl (e ∙ ap (answers-together r₁) q)
+behind-first whole r₁ r₂ R₂ R e (inr c) =
+    let d : drop (r₂ .taken) (drop (r₁ .taken) whole) ≡ drop (r₁ .taken + r₂ .taken) whole = drop-drop (r₂ .taken) (r₁ .taken) whole in
+    inr (record { number = c .number; had = c .had; cut = c .cut; stands = subst (λ (l : List ℕ). Starts l (c .had)) d (c .stands); is = e ∙ ap (answers-together r₁) (c .is) })
+
+pub feeds-as-one : (a : Sheet) (more : Bool) {whole : List ℕ} {room : ℕ} {h : Held} {r : Result} {v : ℕ} → Feeds (CallOf a) more whole room h r v → OneCall a whole more room h r
+feeds-as-one a more {r = r} (at-once d) = record { answer = r; called = d .called; same = inl refl }
 feeds-as-one a more (closes {h} room extra s later b r₁ n told d c) =
     let R = call-some a (s ++ later) more (room + extra) h in
-    let q = subst (Continued a (s ++ later) more (room + extra) r₁ (R .0)) c (in-parts a s later b more told room extra h r₁ (R .0) (d .called) (R .1)) in
-    subst (Called a (s ++ later) more (room + extra) h) q (R .1)
+    record {
+      answer = R .0;
+      called = R .1;
+      same = subst (Continued a (s ++ later) more (room + extra) r₁ (R .0)) c (in-parts a s later b more told room extra h r₁ (R .0) (d .called) (R .1));
+    }
 feeds-as-one a more (goes-on {h} {h′} {r₂} room extra s later b r₁ told d c f) =
     let R = call-some a (s ++ later) more (room + extra) h in
     let q = subst (Continued a (s ++ later) more (room + extra) r₁ (R .0)) c (in-parts a s later b more told room extra h r₁ (R .0) (d .called) (R .1)) in
-    let t = subst (λ (k : Held). Called a (drop (r₁ .taken) (s ++ later)) more (room + extra - length (r₁ .output)) k r₂) (sym (d .handed-back)) (feeds-as-one a more f) in
-    let e = call-one a (drop (r₁ .taken) (s ++ later)) more (room + extra - length (r₁ .output)) (r₁ .held) (q .0) r₂ (q .1) t in
-    subst (Called a (s ++ later) more (room + extra) h) (q .2 ∙ ap (answers-together r₁) e) (R .1)
+    let o = feeds-as-one a more f in
+    let t = subst (λ (k : Held). Called a (drop (r₁ .taken) (s ++ later)) more (room + extra - length (r₁ .output)) k (o .answer)) (sym (d .handed-back)) (o .called) in
+    let e = call-one a (drop (r₁ .taken) (s ++ later)) more (room + extra - length (r₁ .output)) (r₁ .held) (q .0) (o .answer) (q .1) t in
+    record { answer = R .0; called = R .1; same = behind-first (s ++ later) r₁ r₂ (o .answer) (R .0) (q .2 ∙ ap (answers-together r₁) e) (o .same) }
 
 -- and the visits told are those counted
 pub feeds-visits : (a : Sheet) (more : Bool) {whole : List ℕ} {room : ℕ} {h : Held} {r : Result} {v : ℕ} → Feeds (CallOf a) more whole room h r v → v ≡ r .held .run .store .env .count

@@ -9,10 +9,10 @@ use Prim.Native.Nat.{ℕ}
 use Rattle.tokens.specs.declared.Event.{Event}
 use Rattle.tokens.specs.declared.Event.the-variants.{Start, End, Empty, Character}
 use Rattle.tokens.specs.declared.Answer.the-variants.{Token}
-use Rattle.tokens.specs.Stream.{Reads}
+use Rattle.tokens.specs.Stream.{ReadAs, Reads}
 use Rattle.sheet.specs.Sheet.{Sheet, IsSheet}
 use Rattle.output.specs.Escape.{Piece, render, AllFit, events}
-use Rattle.output.proofs.ReadBack.{reads-back, pieces-back}
+use Rattle.output.proofs.ReadBack.{reads-back, pieces-back, never-cr}
 use Rattle.runs.specs.Visits.{grammar}
 use Rattle.runs.specs.Fits.{EventsFit, SheetFits, StoreFits}
 use Rattle.runs.specs.Machine.{State, took, answered, run}
@@ -23,21 +23,21 @@ use Rattle.runs.proofs.Fits.{run-fits}
 use Rattle.runs.proofs.SheetFits.{sheet-fits}
 use Rattle.calls.specs.Names.{tokenOf}
 use Rattle.calls.specs.Limits.{silent}
-use Rattle.calls.specs.Read.{ReadAs, ReadsAs}
 use Rattle.calls.specs.Call.{Result, CalledBy}
 use Rattle.calls.specs.ReadsBack.{ReadsBack, CallsReadBack}
 use Rattle.calls.proofs.Read.{read-char}
 use Rattle.calls.proofs.Steps.{RunToken, outOf, Steps, tokensOf, run-does}
 
 pub text-back : (ps : List Piece) → AllFit ps → ReadsBack (render ps)
-text-back ps f = record { printed = ps; is = refl; reads = λ p r. reads-back ps p r f; same = λ p r. pieces-back ps p r }
+text-back ps f = record { printed = ps; is = refl; no-cr = never-cr ps f; reads = λ p r. reads-back ps p r f; same = λ p r. pieces-back ps p r }
 
 module _ (a : Sheet) (fits : SheetFits a) (s : List ℕ) (more : Bool) where
   event-fits : (at next : ℕ) (e : Event) → ReadAs more s at (Token e (record { at = next })) → EventsFit (eventsOfToken (tokenOf a s e))
   event-fits at next (Start from len) m = tt
   event-fits at next (End from len) m = tt
   event-fits at next (Empty from len) m = tt
-  event-fits at next (Character c) m = (read-char more s at c next m, tt)
+  event-fits at next (Character c true) m = (read-char more s at c true next m, tt)
+  event-fits at next (Character c false) m = (read-char more s at c false next m, tt)
 
   token-fits : (z y : State) (k : RunToken) → StoreFits (z .store) → EventsFit (eventsOfToken k) → stepToken a z k ≡ took y → StoreFits (y .store)
   token-fits z y k f h e = by (isBlank k && passesAt (grammar a) (z .control)) e
@@ -49,7 +49,7 @@ module _ (a : Sheet) (fits : SheetFits a) (s : List ℕ) (more : Bool) where
   silent-fits : (y : State) → StoreFits (y .store) → StoreFits (silent y .store)
   silent-fits y f = record { values-fit = f .values-fit; kept-fit = f .kept-fit; output-fits = tt }
 
-  steps-fit : (es : List Event) (at to : ℕ) (z z″ : State) (p : List Piece) → StoreFits (z .store) → ReadsAs more s at es to → Steps a z (tokensOf a s es) z″ p → AllFit p
+  steps-fit : (es : List Event) (at to : ℕ) (z z″ : State) (p : List Piece) → StoreFits (z .store) → Reads more s at es to → Steps a z (tokensOf a s es) z″ p → AllFit p
   steps-fit [] at to z z″ p f rd (e, q) = subst AllFit (sym q) tt
   steps-fit (e ∷ es) at to z z″ p f (next, m, rd) (y, t, c, p′, st, q) =
       let g = token-fits z y (tokenOf a s e) f (event-fits at next e m) t in

@@ -12,7 +12,7 @@ use lib.ListN.{length, take, drop, length-append, length-take}
 use borrow.Author.Tests.{leb-true, le-leb}
 use Rattle.tokens.specs.declared.Event.{Event}
 use Rattle.tokens.specs.declared.Answer.{Answer}
-use Rattle.tokens.specs.declared.Answer.the-variants.{Token, Begun, Bad, Long}
+use Rattle.tokens.specs.declared.Answer.the-variants.{Token, Waiting, Begun, Bad, Long}
 use Rattle.output.specs.Escape.{Piece, render}
 use Rattle.output.proofs.Writing.{render-append}
 use Rattle.sheet.specs.Sheet.{Sheet}
@@ -22,7 +22,7 @@ use Rattle.calls.specs.Names.{tokenOf}
 use Rattle.runs.specs.Visits.{mostVisits}
 use Rattle.calls.specs.Limits.{silent, outputOf, Taking, taken, refuses, no-room, limited, within, oneToken}
 use Rattle.calls.specs.Held.{Held, handed}
-use Rattle.calls.specs.Read.{ReadAs, ReadsAs}
+use Rattle.tokens.specs.Stream.{ReadAs, Reads}
 use Rattle.calls.specs.Call.{Result, stopped-at, after-writing, atEnd, numberAt, Stop, stops, full, no-token, Runs, takes, halts}
 use Rattle.calls.proofs.Read.{none-read}
 use Rattle.calls.proofs.Frame.{state-behind, answer-behind, token-frame, countOf, tokens-count, token-number}
@@ -154,7 +154,7 @@ tokensOf a s (e ∷ es) = tokenOf a s e ∷ tokensOf a s es
 pub record Does (a : Sheet) (part : List ℕ) (more : Bool) (at room : ℕ) (z : State) (r : Result) : Type 0 where
   pub events : List Event
   pub printed : List Piece
-  pub reads : ReadsAs more part at events (r .taken)
+  pub reads : Reads more part at events (r .taken)
   pub steps : Steps a z (tokensOf a part events) (r .held .run) printed
   pub writes : r .output ≡ render printed
   pub fits : length (render printed) ≤ room
@@ -201,7 +201,7 @@ abbrev pub done-with : ℕ → ℕ → List Piece → State → Result
 done-with n to p z = record { number = n; taken = to; output = render p; held = handed n z }
 
 module _ (a : Sheet) (s : List ℕ) (more : Bool) where
-  pub steps-stop : (es : List Event) (at room : ℕ) (z : State) (to : ℕ) (last : State) (p : List Piece) (n : ℕ) → ReadsAs more s at es to → Steps a z (tokensOf a s es) last p →
+  pub steps-stop : (es : List Event) (at room : ℕ) (z : State) (to : ℕ) (last : State) (p : List Piece) (n : ℕ) → Reads more s at es to → Steps a z (tokensOf a s es) last p →
       length (render p) ≤ room → Stop a s more to (room - length (render p)) last n → Runs a s more at room z (done-with n to p last)
   steps-stop [] at room z to last p n rd (e, q) f st =
       let none : room - length (render p) ≡ room = omega (arith, ap (λ (l : List Piece). length (render l)) q) in
@@ -229,7 +229,7 @@ pub record Ends (a : Sheet) (s : List ℕ) (at room : ℕ) (z : State) (r : Resu
   pub to : ℕ
   pub last : State
   pub printed : List Piece
-  pub reads : ReadsAs false s at events to
+  pub reads : Reads false s at events to
   pub steps : Steps a z (tokensOf a s events) last printed
   pub root-closed : last .control ≡ after
   pub nothing-left : length (drop to s) ≡ 0
@@ -245,6 +245,7 @@ module _ (a : Sheet) (s : List ℕ) where
   -- 0 where no token comes next: nothing is left, and the root is closed
   all-taken : (left : ℕ) (c : Control) (x : Answer) → numberAt false left c x ≡ some 0 → (left ≡ 0) × (c ≡ after)
   all-taken left c (Token e next) q = absurd (let y : _≡_ {A = ℕ} 0 1 = cc in omega arith)
+  all-taken left c (Waiting e next) q = absurd (let y : _≡_ {A = ℕ} 0 1 = cc in omega arith)
   all-taken zero c Begun q = let h : atEnd c ≡ 0 = cc in (refl, closed-by-zero c h)
   all-taken (suc left) c Begun q = absurd (let y : _≡_ {A = ℕ} 27 0 = cc in omega arith)
   all-taken left c Bad q = absurd (let y : _≡_ {A = ℕ} 20 0 = cc in omega arith)
@@ -278,7 +279,7 @@ module _ (a : Sheet) (s : List ℕ) where
         is = λ k. record { number = h k; taken = r .taken; output = w k; held = record { run = r .held .run; closing = c k } };
       }
 
-  pub ends-run : (es : List Event) (at room : ℕ) (z : State) (to : ℕ) (last : State) (p : List Piece) → ReadsAs false s at es to → Steps a z (tokensOf a s es) last p →
+  pub ends-run : (es : List Event) (at room : ℕ) (z : State) (to : ℕ) (last : State) (p : List Piece) → Reads false s at es to → Steps a z (tokensOf a s es) last p →
       last .control ≡ after → length (drop to s) ≡ 0 → length (render p) ≤ room → Runs a s false at room z (ended to p last)
   ends-run es at room z to last p rd st c l f =
       let m : ReadAs false s to Begun = none-read false s to l in

@@ -8,14 +8,14 @@ use Prim.Native.Nat.{ℕ, zero, suc, _-_}
 use lib.ListN.{length, drop}
 use Rattle.tokens.specs.declared.Event.{Event}
 use Rattle.tokens.specs.declared.Answer.{Answer}
-use Rattle.tokens.specs.declared.Answer.the-variants.{Token, Begun, Bad, Long}
+use Rattle.tokens.specs.declared.Answer.the-variants.{Token, Waiting, Begun, Bad, Long}
+use Rattle.tokens.specs.Stream.{ReadAs}
 use Rattle.tokens.specs.Numbers.{numberOf}
 use Rattle.sheet.specs.Sheet.{Sheet}
 use Rattle.runs.specs.Options.{orElse}
 use Rattle.runs.specs.Machine.{Control, before, inside, after, State}
 use Rattle.calls.specs.Names.{tokenOf}
 use Rattle.calls.specs.Held.{Held, handed}
-use Rattle.calls.specs.Read.{ReadAs}
 use Rattle.calls.specs.Limits.{taken, refuses, no-room, oneToken}
 
 pub record Result : Type 0 where
@@ -42,9 +42,10 @@ atEnd before = 27
 atEnd (inside o os) = 27
 atEnd after = 0
 
--- the number where no whole token comes next, by whether more is to come and how many bytes are left
+-- the number where no whole token is read next, by whether more is to come and how many bytes are left. What is read never waits: that is settled
 abbrev pub numberAt : Bool → ℕ → Control → Answer → Option ℕ
 numberAt more left c (Token e next) = none
+numberAt more left c (Waiting e next) = none
 numberAt more left c Begun = orElse (numberOf more left Begun) (some (atEnd c))
 numberAt more left c Bad = numberOf more left Bad
 numberAt more left c Long = numberOf more left Long

@@ -1,12 +1,13 @@
 -- `<a/>` and `<a></a>` are equal: of one token and of two, and of streams with the one in place of the other.
 -- Assumes nothing.
 use mathlib.Core.Path.{_≡_}
-use mathlib.Core.List.{List, _∷_, _++_}
+use mathlib.Core.Bool.{false}
+use mathlib.Core.List.{List, [], _∷_, _++_}
 use mathlib.Core.Logic.{_↔_}
 use mathlib.Core.Option.{Option}
 use Prim.Native.Nat.{ℕ}
 use Rattle.tokens.specs.Tokens.{start, end, empty, Tok, tag}
-use Rattle.tokens.specs.Stream.{flat, AllGood, AllShort}
+use Rattle.tokens.specs.Stream.{flat, AllGood, AllShort, AllWhole}
 use Rattle.sheet.specs.Sheet.{Sheet}
 use Rattle.runs.specs.Visits.{Env}
 use Rattle.runs.specs.Machine.{State, Answer, took, refused}
@@ -23,9 +24,9 @@ then-token (refused n) f = refused n
 abbrev pub EmptyIsBoth : Sheet → Type 0
 EmptyIsBoth a = (z : State) (t : Option ℕ) → stepToken a z (empty-token t) ≡ then-token (stepToken a z (start-token t)) (λ y. stepToken a y (end-token t))
 
--- a row of tokens as a stream may have them
+-- a row of tokens as a stream may have them: no CR alone before an LF
 abbrev pub Stream : List Tok → Type 0
-Stream ts = AllGood ts × AllShort ts
+Stream ts = AllGood ts × AllShort ts × AllWhole false ts []
 
 -- a stream with the one in place of the other, whatever white space the tags hold, is accepted where it is, with the same output, visits and state
 abbrev pub EmptyForBoth : Sheet → Type 0

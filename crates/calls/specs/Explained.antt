@@ -8,7 +8,7 @@ use Prim.Native.Nat.{ℕ, _≤_, _<_}
 use lib.ListN.{length}
 use Rattle.tokens.specs.declared.Answer.the-variants.{Begun, Bad, Long}
 use Rattle.tokens.specs.Tokens.{Tok, Good, bytes}
-use Rattle.tokens.specs.Stream.{flat}
+use Rattle.tokens.specs.Stream.{ReadAs, flat, AllGood, AllShort, Followed, AllWhole}
 use Rattle.sheet.specs.Sheet.{Sheet}
 use Rattle.output.specs.Escape.{render}
 use Rattle.runs.specs.Visits.{mostVisits}
@@ -17,35 +17,36 @@ use Rattle.runs.specs.Taken.{RootClosed}
 use Rattle.runs.specs.SoFar.{SpelledSoFar, eventsSoFar, TokenRefused}
 use Rattle.calls.specs.Names.{tokenFor, tokensFor}
 use Rattle.calls.specs.Held.{fresh-held}
-use Rattle.calls.specs.Read.{ReadAs}
 use Rattle.calls.specs.Call.{Result, Called}
-use Rattle.calls.specs.Empty.{Stream}
 
 -- t is the next token of the bytes that are left, and `rest` comes after it
-pub record Next (left : List ℕ) (t : Tok) (rest : List ℕ) : Type 0 where
+pub record Next (more : Bool) (left : List ℕ) (t : Tok) (rest : List ℕ) : Type 0 where
   pub good : Good t
   pub short : length (bytes t) ≤ 32
+  pub whole : Followed more t rest
   pub are-bytes : left ≡ bytes t ++ rest
 
 -- why the call stops after the tokens ts, with `left` still to be read, and the number that it answers then
 pub data Why (a : Sheet) (more : Bool) (room : ℕ) (ts : List Tok) (left : List ℕ) {m : Store} (so : SpelledSoFar a (tokensFor a ts) m) : ℕ → Type 0 where
   all-taken : more ≡ false → left ≡ [] → RootClosed a (eventsSoFar so) → Why a more room ts left so 0
-  used-up : more ≡ true → ReadAs more left 0 Begun → Why a more room ts left so 16  -- nothing is left, or a begun token
-  no-space : (t : Tok) (rest : List ℕ) → Next left t rest → (m′ : Store) → SpelledSoFar a (tokensFor a (ts ++ t ∷ [])) m′ → m′ .env .count ≤ mostVisits →
+  used-up : more ≡ true → ReadAs more left 0 Begun → Why a more room ts left so 16  -- nothing is left, or a begun token, or a CR that waits
+  no-space : (t : Tok) (rest : List ℕ) → Next more left t rest → (m′ : Store) → SpelledSoFar a (tokensFor a (ts ++ t ∷ [])) m′ → m′ .env .count ≤ mostVisits →
       room < length (render (m′ .env .out)) → Why a more room ts left so 17
   begins-none : ReadAs more left 0 Bad → Why a more room ts left so 20
   too-long : ReadAs more left 0 Long → Why a more room ts left so 21
-  next-refused : (t : Tok) (rest : List ℕ) (n : ℕ) → Next left t rest → TokenRefused so (tokenFor a t) n → Why a more room ts left so n  -- 22 to 26
+  next-refused : (t : Tok) (rest : List ℕ) (n : ℕ) → Next more left t rest → TokenRefused so (tokenFor a t) n → Why a more room ts left so n  -- 22 to 26
   cut-off : more ≡ false → (left ≡ [] → ⊥) → ReadAs more left 0 Begun → Why a more room ts left so 27
   not-closed : more ≡ false → left ≡ [] → (RootClosed a (eventsSoFar so) → ⊥) → Why a more room ts left so 27
-  too-many : (t : Tok) (rest : List ℕ) → Next left t rest → (m′ : Store) → SpelledSoFar a (tokensFor a (ts ++ t ∷ [])) m′ → mostVisits < m′ .env .count →
+  too-many : (t : Tok) (rest : List ℕ) → Next more left t rest → (m′ : Store) → SpelledSoFar a (tokensFor a (ts ++ t ∷ [])) m′ → mostVisits < m′ .env .count →
       Why a more room ts left so 30
 
 -- the number, the bytes taken, the output and the visits of a call on the bytes s from a fresh state, with so much room
 pub record Explained (a : Sheet) (s : List ℕ) (more : Bool) (room number taken : ℕ) (output : List ℕ) (visits : ℕ) : Type 0 where
   pub tokens : List Tok
-  pub stream : Stream tokens
+  pub good : AllGood tokens
+  pub short : AllShort tokens
   pub left : List ℕ
+  pub whole : AllWhole more tokens left
   pub are-bytes : s ≡ flat tokens ++ left
   pub store : Store
   pub so-far : SpelledSoFar a (tokensFor a tokens) store

@@ -1,7 +1,6 @@
 pub mod Names
 pub mod Limits
 pub mod Held
-pub mod Read
 pub mod Call
 pub mod Reached
 pub mod Accepted

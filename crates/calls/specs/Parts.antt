@@ -7,8 +7,10 @@ use mathlib.Core.List.{List, [], _++_}
 use mathlib.Core.Option.{Option, none, some}
 use Prim.Native.Nat.{ℕ, _+_, _-_}
 use lib.ListN.{length, drop}
+use Rattle.text.specs.Chars.{Starts}
+use Rattle.tokens.specs.Parts.{CutNumber}
 use Rattle.sheet.specs.Sheet.{Sheet}
-use Rattle.calls.specs.Held.{Held}
+use Rattle.calls.specs.Held.{Held, handed}
 use Rattle.calls.specs.Call.{Result, Called}
 use Rattle.runs.specs.Visits.{Env}
 use Rattle.calls.specs.Accepted.{accepted}
@@ -21,12 +23,28 @@ answers-together r₁ r₂ = record { number = r₂ .number; taken = r₁ .taken
 abbrev pub Told : (moreThen : Bool) (later : List ℕ) (more : Bool) → Type 0
 Told b later more = (b ≡ true) ⊎ ((later ≡ []) × (b ≡ more))
 
+-- r with another number of a refusal
+abbrev pub refusedWith : ℕ → Result → Result
+refusedWith n r = record { number = n; taken = r .taken; output = r .output; held = handed n (r .held .run) }
+
+-- r is what calls on parts answer, r′ what one call on the whole does. Where a part ends 30 or 31 bytes into a reference by number which can only come to
+-- more than 32, that is 21; with the bytes behind it it may name nothing in Char, and the whole is 20. That is the one thing that a cut can change
+pub record CutOff (whole : List ℕ) (r r′ : Result) : Type 0 where
+  pub number : r .number ≡ 21
+  pub had : List ℕ
+  pub cut : CutNumber had
+  pub stands : Starts (drop (r .taken) whole) had
+  pub is : r′ ≡ refusedWith 20 r
+
+abbrev pub SameAnswer : List ℕ → Result → Result → Type 0
+SameAnswer whole r r′ = (r′ ≡ r) ⊎ CutOff whole r r′
+
 -- r₁ is a first call's answer, r that of one call on the whole: where the first closed the state, they are the same; where it left it open, a second
 -- call on the bytes and in the room that the first has left goes on, and the two together are the one
 abbrev pub Continued : Sheet → List ℕ → Bool → ℕ → Result → Result → Option ℕ → Type 0
 Continued a whole more room r₁ r none =
     (r₂ : Result) × Called a (drop (r₁ .taken) whole) more (room - length (r₁ .output)) (r₁ .held) r₂ × (r ≡ answers-together r₁ r₂)
-Continued a whole more room r₁ r (some n) = r ≡ r₁
+Continued a whole more room r₁ r (some n) = SameAnswer whole r₁ r
 
 -- calls one after another over a stream. Call says what one of them answers: of a part, whether more is to come, the room lent and what is handed in, what is
 -- handed back, its result, and the visits that it tells. whole is what is left of the stream and room what is left of all that is lent: each call gets some of

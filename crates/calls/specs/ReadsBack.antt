@@ -1,23 +1,25 @@
 -- What we write reads back: as the pieces that it was written as, wherever it stands.
 -- Assumes nothing.
 use mathlib.Core.Path.{_≡_}
-use mathlib.Core.Bool.{Bool}
+use mathlib.Core.Bool.{Bool, true}
 use mathlib.Core.List.{List, _++_}
 use Prim.Native.Nat.{ℕ, _+_}
 use lib.ListN.{length}
 use Rattle.tokens.specs.Stream.{Reads}
+use Rattle.tokens.specs.LineEnds.{NoCR}
 use Rattle.sheet.specs.Sheet.{Sheet}
 use Rattle.output.specs.Escape.{Piece, render, events, allPieces}
 use Rattle.runs.specs.Fits.{StoreFits}
 use Rattle.calls.specs.Held.{Held}
 use Rattle.calls.specs.Call.{Result, Called}
 
--- the bytes o are tags and characters, written; and wherever they stand in a stream, after p and before r, reading from their first byte gives one event for each
+-- the bytes o are tags and characters, written, without a CR byte; and wherever they stand in a stream, after p and before r, reading from their first byte gives one event for each
 -- of these and comes to their last, and the events stand for the same tags and characters
 pub record ReadsBack (o : List ℕ) : Type 0 where
   pub printed : List Piece
   pub is : o ≡ render printed
-  pub reads : (p r : List ℕ) → Reads (p ++ (o ++ r)) (length p) (events (length p) printed) (length p + length o)
+  pub no-cr : NoCR o
+  pub reads : (p r : List ℕ) → Reads true (p ++ (o ++ r)) (length p) (events (length p) printed) (length p + length o)
   pub same : (p r : List ℕ) → allPieces (p ++ (o ++ r)) (events (length p) printed) ≡ printed
 
 -- the output of every call, whatever it answers, from a state whose values are those of a sheet's programs

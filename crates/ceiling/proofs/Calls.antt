@@ -21,7 +21,7 @@ use Rattle.runs.specs.Machine.{State, Answer, took, run, answered, onward, fini
 use Rattle.runs.specs.Taken.{Passed}
 use Rattle.runs.specs.Spells.{Token, start-token, end-token, empty-token, literal, reference, eventsOfToken, isBlank, passesAt, unless-blank}
 use Rattle.runs.proofs.Moves.{run-through}
-use Rattle.calls.specs.Read.{ReadsAs}
+use Rattle.tokens.specs.Stream.{Reads}
 use Rattle.calls.specs.Call.{Result, CalledBy}
 use Rattle.calls.specs.Limits.{silent}
 use Rattle.calls.proofs.Steps.{tokensOf, Steps, run-does}
@@ -73,7 +73,7 @@ module _ (a : Sheet) (ok : Passed a) (nodes : FewNodes (grammar a)) where
   call-visits : CallVisits a
   call-visits part more room h r c = by (h .closing) c
     where
-      by : (o : Option ℕ) → CalledBy a part more room (h .run) o r → (es : List Read) × ReadsAs more part 0 es (r .taken) × (countIn (r .held .run) ≤ countIn (h .run) + forToken * length es)
+      by : (o : Option ℕ) → CalledBy a part more room (h .run) o r → (es : List Read) × Reads more part 0 es (r .taken) × (countIn (r .held .run) ≤ countIn (h .run) + forToken * length es)
       by none d =
           let t = run-does a part d in
           (t .events, t .reads, omega (arith, steps-visits (h .run) (tokensOf a part (t .events)) (r .held .run) (t .printed) (t .steps), tokens-length part (t .events)))

@@ -17,7 +17,7 @@ use Rattle.runs.specs.Machine.{Control, go, move, most, State, took, step}
 use Rattle.runs.specs.Taken.{Passed}
 use Rattle.runs.specs.Spells.{Token, eventsOfToken, stepToken}
 use Rattle.calls.specs.Held.{Held}
-use Rattle.calls.specs.Read.{ReadsAs}
+use Rattle.tokens.specs.Stream.{Reads}
 use Rattle.calls.specs.Call.{Result, Called}
 use Rattle.few.specs.Once.{Once}
 use Rattle.few.specs.Strings.{nodesAtMost}
@@ -66,7 +66,7 @@ TokenVisits a = (z z′ : State) (k : Token) → stepToken a z k ≡ took z′ �
 abbrev pub CallVisits : Sheet → Type 0
 CallVisits a =
     (part : List ℕ) (more : Bool) (room : ℕ) (h : Held) (r : Result) → Called a part more room h r →
-    (es : List Read) × ReadsAs more part 0 es (r .taken) × (countIn (r .held .run) ≤ countIn (h .run) + forToken * length es)
+    (es : List Read) × Reads more part 0 es (r .taken) × (countIn (r .held .run) ≤ countIn (h .run) + forToken * length es)
 
 -- all of it, of every sheet that bytes are and that passes
 pub record VisitsPromised (a : Sheet) : Type 0 where

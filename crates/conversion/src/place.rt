@@ -1,5 +1,5 @@
 // Where in a schedule: how many bytes come before, the line, and the column in characters, both from 1.
-ghost use Prim.Native.Nat.{_≤_};
+ghost use Prim.Native.Nat.{_≤_, _<_};
 ghost use lib.ListN.{length};
 use std::num::wrapping_add_u64;
 
@@ -11,17 +11,38 @@ pub struct Place {
 
 const LINE_FEED: u8 = 10;
 
+const CARRIAGE_RETURN: u8 = 13;
+
 // Whether a byte is a character's second, third or fourth: those are 80 to BF.
 fn goes_on(b: u8) -> bool {
     (b >= 0x80) & (b < 0xC0)
 }
 
+// Whether a line ends with the byte at a place: a line feed, or a carriage return with no line feed behind it. What is passed is whole
+// tokens, so a carriage return that is the last byte has none.
+fn ends_line(bytes: &[u8], i: usize) -> bool
+    requires { ⌜ i < length (now bytes) ⌝ }
+{
+    let b = bytes[i];
+    if b == LINE_FEED {
+        return true;
+    }
+    if b != CARRIAGE_RETURN {
+        return false;
+    }
+    let next = i + 1;
+    if next == bytes.len() {
+        return true;
+    }
+    bytes[next] != LINE_FEED
+}
+
 // How many lines end in some bytes.
-fn line_feeds(bytes: &[u8]) -> u64 {
+fn line_ends(bytes: &[u8]) -> u64 {
     let mut n: u64 = 0;
     let mut i = 0;
     while i < bytes.len() {
-        if bytes[i] == LINE_FEED {
+        if ends_line(bytes, i) {
             n = wrapping_add_u64(n, 1);
         }
         i += 1;
@@ -35,7 +56,7 @@ fn last_line(bytes: &[u8]) -> usize
 {
     let mut i = bytes.len();
     while 0 < i {
-        if bytes[i - 1] == LINE_FEED {
+        if ends_line(bytes, i - 1) {
             return i;
         }
         i -= 1;
@@ -66,13 +87,13 @@ impl Place {
         }
     }
 
-    // Past some bytes. A line ends with a line feed. No file is so long that a number here would begin again from 0.
+    // Past some bytes. A line ends with a line feed that is handed on: LF, CR LF or CR. No file is so long that a number here would begin again from 0.
     pub(crate) fn after(self, bytes: &[u8]) -> Place {
         let from = last_line(bytes);
         let column = if from == 0 { self.column } else { 1 };
         Place {
             offset: wrapping_add_u64(self.offset, bytes.len() as u64),
-            line: wrapping_add_u64(self.line, line_feeds(bytes)),
+            line: wrapping_add_u64(self.line, line_ends(bytes)),
             column: wrapping_add_u64(column, characters(&bytes[from..])),
         }
     }

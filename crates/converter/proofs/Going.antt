@@ -19,19 +19,19 @@ use Rattle.tokens.specs.declared.Cursor.{Cursor}
 use Rattle.tokens.specs.declared.Event.{Event}
 use Rattle.tokens.specs.declared.Event.the-variants.{Start, End, Empty, Character}
 use Rattle.tokens.specs.declared.Answer.{Answer}
-use Rattle.tokens.specs.declared.Answer.the-variants.{Token, Begun, Bad, Long}
-use Rattle.tokens.specs.Tokens.{start, end, empty}
+use Rattle.tokens.specs.declared.Answer.the-variants.{Token, Waiting, Begun, Bad, Long}
+use Rattle.tokens.specs.Tokens.{start, end, empty, front, Means}
+use Rattle.tokens.specs.Stream.{settled, ReadAs}
 use Rattle.sheet.specs.Sheet.{Sheet}
 use Rattle.runs.specs.Visits.{mostVisits}
 use Rattle.runs.specs.Machine.{Control, most, State as Standing, answered, run}
 use Rattle.runs.proofs.SheetFits.{sheet-fits}
 use Rattle.calls.specs.Names.{tokenOf}
-use Rattle.calls.specs.Read.{ReadAs}
 use Rattle.calls.specs.Limits.{Taking, taken, refuses, no-room, oneToken}
 use Rattle.runs.specs.Closing.{Closing, closed-by-end, closed-by-refusal, closed-by-count}
 use Rattle.calls.specs.Held.{Held, leavesOpen, closingOf, handed}
 use Rattle.calls.specs.Call.{Result, roomLeft, stopped-at, after-writing, numberAt, stops, full as no-space, no-token, Runs, takes, halts as run-halts, CalledBy, Called}
-use Rattle.calls.proofs.Read.{read-moves, read-name, read-char}
+use Rattle.calls.proofs.Read.{read-moves, read-name, read-char, never-waits}
 use Rattle.calls.proofs.Steps.{takes-one, refuses-over}
 use Rattle.calls.proofs.Exactly.{closing-fits}
 use Rattle.state.specs.Changes.{notClosed, closedWith, withEnv, tidied}
@@ -64,7 +64,7 @@ pub event-in : (more : Bool) (part : List ℕ) (at : ℕ) (e : Event) (next : �
 event-in more part at (Start from len) next m = read-name more start part at from len next m .within
 event-in more part at (End from len) next m = read-name more end part at from len next m .within
 event-in more part at (Empty from len) next m = read-name more empty part at from len next m .within
-event-in more part at (Character c) next m = read-char more part at c next m
+event-in more part at (Character c literal) next m = read-char more part at c literal next m
 
 -- z₀ is the state that was handed in; at the place `at` of the part the state is z, `put` bytes are written and the lent memory is d
 pub record Going (s : List ℕ) (z₀ : State) (part : List ℕ) (more : Bool) (lent d : List ℕ) (at put : ℕ) (z : State) : Type 0 where
@@ -316,15 +316,16 @@ module _ {s : List ℕ} {z₀ : State} {part : List ℕ} (ended-now : Bool) {len
       subst (λ (x : List ℕ). Ran s z₀ part ended-now lent x q) (h .1) (ends-with ended-now g (r .number) (h .0) q t)
 
 -- no token comes next
-pub no-whole-token : (x : Answer) → OneOf (1 ∷ 2 ∷ 3 ∷ []) (Declared.tagOf answer.the-type x) → (e : Event) (next : Cursor) → x ≡ Token e next → ⊥
-no-whole-token x h e next q = miss (1 ∷ 2 ∷ 3 ∷ []) 0 tt (subst (λ (y : Answer). OneOf (1 ∷ 2 ∷ 3 ∷ []) (Declared.tagOf answer.the-type y)) q h)
+pub no-whole-token : (x : Answer) → OneOf (1 ∷ 2 ∷ 3 ∷ 4 ∷ []) (Declared.tagOf answer.the-type x) → (e : Event) (next : Cursor) → x ≡ Token e next → ⊥
+no-whole-token x h e next q = miss (1 ∷ 2 ∷ 3 ∷ 4 ∷ []) 0 tt (subst (λ (y : Answer). OneOf (1 ∷ 2 ∷ 3 ∷ 4 ∷ []) (Declared.tagOf answer.the-type y)) q h)
 
-numbered : (more : Bool) (left : ℕ) (c : Control) (x : Answer) (n : ℕ) → ((e : Event) (next : Cursor) → x ≡ Token e next → ⊥) →
+numbered : (more : Bool) (part : List ℕ) (at left : ℕ) (c : Control) (x : Answer) (n : ℕ) → ReadAs more part at x → ((e : Event) (next : Cursor) → x ≡ Token e next → ⊥) →
     NumberedAs more left c x n → numberAt more left c x ≡ some n
-numbered more left c (Token e next) n w h = absurd (w e next refl)
-numbered more left c Begun n w h = h
-numbered more left c Bad n w h = h
-numbered more left c Long n w h = h
+numbered more part at left c (Token e next) n r w h = absurd (w e next refl)
+numbered more part at left c (Waiting e next) n r w h = absurd (never-waits more part at e next r)
+numbered more part at left c Begun n r w h = h
+numbered more part at left c Bad n r w h = h
+numbered more part at left c Long n r w h = h
 
 module _ {s : List ℕ} {z₀ : State} {part : List ℕ} (ended-now : Bool) {lent d : List ℕ} {at put : ℕ} {z : State} (g : Going s z₀ part (not ended-now) lent d at put z)
     (x : Answer) (n : ℕ) (means : ReadAs (not ended-now) part at x) (w : (e : Event) (next : Cursor) → x ≡ Token e next → ⊥)
@@ -334,7 +335,7 @@ module _ {s : List ℕ} {z₀ : State} {part : List ℕ} (ended-now : Bool) {len
       run-halts
       (no-token x n means
       (ap (λ (i : ℕ). numberAt (not ended-now) i (meaningOf z .control) x) (length-drop at part)
-      ∙ numbered (not ended-now) (length part - at) (meaningOf z .control) x n w h))
+      ∙ numbered (not ended-now) part at (length part - at) (meaningOf z .control) x n means w h))
 
   pub without-few : n ≤ 30
   without-few = few without
@@ -342,7 +343,25 @@ module _ {s : List ℕ} {z₀ : State} {part : List ℕ} (ended-now : Bool) {len
   pub ends-without : (q : Reply) → StopsAs n at put z q → Ran s z₀ part ended-now lent d q
   ends-without q t = ends-with ended-now g n without q t
 
--- what the reader answered is the token that was bound
+-- the reader's answer, settled: one that does not wait stays, one that waits is a token where the stream has ended, and else begun
+module _ (ended-now : Bool) (part : List ℕ) (at : ℕ) (y : Answer) (m : Means (front part at) at y) where
+  pub settled-same : OneOf (0 ∷ 2 ∷ 3 ∷ 4 ∷ []) (Declared.tagOf answer.the-type y) → ReadAs (not ended-now) part at y
+  settled-same h = (y, m, by y h)
+    where
+      by : (x : Answer) → OneOf (0 ∷ 2 ∷ 3 ∷ 4 ∷ []) (Declared.tagOf answer.the-type x) → x ≡ settled (not ended-now) x
+      by (Token e next) h = refl
+      by (Waiting e next) h = absurd (miss (0 ∷ 2 ∷ 3 ∷ 4 ∷ []) 1 tt h)
+      by Begun h = refl
+      by Bad h = refl
+      by Long h = refl
+
+  pub settled-token : (e : Event) (next : Cursor) → y ≡ Waiting e next → ended-now ≡ true → ReadAs (not ended-now) part at (Token e next)
+  settled-token e next q f = (y, m, sym (ap₂ (λ (b : Bool) (x : Answer). settled (not b) x) f q))
+
+  pub settled-begun : (e : Event) (next : Cursor) → y ≡ Waiting e next → ended-now ≡ false → ReadAs (not ended-now) part at Begun
+  settled-begun e next q f = (y, m, sym (ap₂ (λ (b : Bool) (x : Answer). settled (not b) x) f q))
+
+-- what was read is the token that was bound
 pub bound : (more : Bool) (part : List ℕ) (at : ℕ) (x : Answer) (e : Event) (next : Cursor) → ReadAs more part at x → x ≡ Token e next → ReadAs more part at (Token e next)
 bound more part at x e next m q = subst (ReadAs more part at) q m
 

@@ -3,6 +3,7 @@
 -- Each is the law of the calls, as a reply is a call's answer (`is-call`).
 -- Assumes nothing.
 use mathlib.Core.Path.{_≡_, refl, sym, ap, ap₂, _∙_, subst}
+use mathlib.Core.Logic.{inl, inr}
 use mathlib.Core.Bool.{Bool, true, false, not}
 use mathlib.Core.List.{List, _++_}
 use mathlib.Core.Option.{Option·none-ne-some as none-some}
@@ -15,7 +16,7 @@ use Rattle.runs.specs.Taken.{Passed}
 use Rattle.calls.specs.Held.{Held, fresh-held}
 use Rattle.calls.specs.Call.{Result, again, Called}
 use Rattle.calls.specs.Accepted.{Accepted, accepted}
-use Rattle.calls.specs.Parts.{Feeds, CallOf}
+use Rattle.calls.specs.Parts.{Feeds, CallOf, SameAnswer}
 use Rattle.calls.proofs.Main.{accepted-iff}
 use Rattle.calls.proofs.Answers.{call-one}
 use Rattle.calls.proofs.Parts.{feeds-as-one, feeds-visits, feeds-held, each-call}
@@ -167,12 +168,18 @@ module _ {s : List ℕ} {a : Sheet} (i : IsSheet s a) (ok : Passed a) where
   pub bytes-fed-accepted : BytesFedAccepts s a
   bytes-fed-accepted whole room x v d = of-calls.fed-accepted ok (bytes-fresh d)
 
-  -- a stream in parts gives what one call gives
+  same-visits : (whole : List ℕ) (x y : Result) → SameAnswer whole x y → x .held .run .store .env .count ≡ y .held .run .store .env .count
+  same-visits whole x y (inl q) = ap (λ (r : Result). r .held .run .store .env .count) (sym q)
+  same-visits whole x y (inr c) = ap (λ (r : Result). r .held .run .store .env .count) (sym (c .is))
+
+  -- a stream in parts gives what one call gives, but for a reference by number that a part has cut off
   pub parts-as-one : PartsAsOne s a
   parts-as-one ended whole lent after z x v r f d w =
       let t = feeds-value f d in
-      let e = call-one a whole (not ended) (length lent) (heldOf z) x (resultOf after r) (feeds-as-one a (not ended) t) (is-call i ok f w) in
-      (e, feeds-visits a (not ended) t ∙ ap (λ (y : Result). y .held .run .store .env .count) e ∙ sym (visits-held w))
+      let o = feeds-as-one a (not ended) t in
+      let e = call-one a whole (not ended) (length lent) (heldOf z) (o .answer) (resultOf after r) (o .called) (is-call i ok f w) in
+      let k = subst (SameAnswer whole x) e (o .same) in
+      (k, feeds-visits a (not ended) t ∙ same-visits whole x (resultOf after r) k ∙ sym (visits-held w))
 
   pub closed-repeats : ClosedRepeats s a
   closed-repeats z part ended lent after r n f c (as-given g k v) = let (m, e, q) = given-closed i ok f g in (q ∙ ap again (some-inj (sym e ∙ c)), k)

@@ -80,5 +80,6 @@ module _ {s : List ℕ} {a : Sheet} (i : IsSheet s a) (ok : Passed a) where
       )
 
   pub fed-exactly : FedExactly s a
-  fed-exactly whole ended room x w d n t o v =
-      explained-exactly a ok whole (not ended) room x (from-fresh (feeds-as-one a (not ended) (feeds-value i ok (fresh-fit (grammar a) (a .start-nonterminal)) d))) n t o v
+  fed-exactly whole ended room x w d =
+      let one = feeds-as-one a (not ended) (feeds-value i ok (fresh-fit (grammar a) (a .start-nonterminal)) d) in
+      record { answer = one .answer; same = one .same; exactly = explained-exactly a ok whole (not ended) room (one .answer) (from-fresh (one .called)) }

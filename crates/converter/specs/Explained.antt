@@ -12,7 +12,7 @@ use Rattle.calls.specs.Explained.{Explained, Answers}
 use Rattle.state.specs.Changes.{freshState}
 use Rattle.converter.specs.declared.Reply.{Reply}
 use Rattle.converter.specs.Answered.{AnsweredAs}
-use Rattle.calls.specs.Parts.{Feeds}
+use Rattle.calls.specs.Parts.{Feeds, SameAnswer}
 use Rattle.converter.specs.Fed.{ValueCall}
 
 -- the reply has this number, these bytes taken, this output first in the lent memory, and these visits
@@ -28,8 +28,12 @@ RepliesExactly s a =
     (part : List ℕ) (ended : Bool) (lent after : List ℕ) (r : Reply) → AnsweredAs s freshState part ended lent after r → (number taken : ℕ) (output : List ℕ) (visits : ℕ) →
     Replies after r number taken output visits ↔ Explained a part (not ended) (length lent) number taken output visits
 
--- in whatever parts and rooms
+-- in whatever parts and rooms: the answer of one call on the whole, but for a reference by number that a part has cut off (`SameAnswer`)
+pub record FedAs (a : Sheet) (whole : List ℕ) (more : Bool) (room : ℕ) (x : Result) : Type 0 where
+  pub answer : Result
+  pub same : SameAnswer whole x answer
+  pub exactly : (number taken : ℕ) (output : List ℕ) (visits : ℕ) → Answers answer number taken output visits ↔ Explained a whole more room number taken output visits
+
 abbrev pub FedExactly : List ℕ → Sheet → Type 0
 FedExactly s a =
-    (whole : List ℕ) (ended : Bool) (room : ℕ) (x : Result) (told : ℕ) → Feeds (ValueCall s) (not ended) whole room freshState x told → (number taken : ℕ) (output : List ℕ) (visits : ℕ) →
-    Answers x number taken output visits ↔ Explained a whole (not ended) room number taken output visits
+    (whole : List ℕ) (ended : Bool) (room : ℕ) (x : Result) (told : ℕ) → Feeds (ValueCall s) (not ended) whole room freshState x told → FedAs a whole (not ended) room x

@@ -6,7 +6,7 @@ use mathlib.Core.List.{List}
 use mathlib.Core.Option.{Option, some}
 use Prim.Native.Nat.{ℕ, _≤_}
 use Rattle.tokens.specs.declared.Answer.{Answer}
-use Rattle.tokens.specs.declared.Answer.the-variants.{Token, Begun, Bad, Long}
+use Rattle.tokens.specs.declared.Answer.the-variants.{Token, Waiting, Begun, Bad, Long}
 use Rattle.sheet.specs.Sheet.{Sheet, IsSheet}
 use Rattle.runs.specs.Taken.{Passed}
 use Rattle.runs.specs.Machine.{Control, most}
@@ -40,6 +40,7 @@ pub data Entered (s : List ℕ) (o : Option State) : ℕ → Type 0 where
 -- the number where no whole token comes next
 abbrev pub NumberedAs : Bool → ℕ → Control → Answer → ℕ → Type 0
 NumberedAs more left c (Token e next) n = Unit {0}
+NumberedAs more left c (Waiting e next) n = Unit {0}
 NumberedAs more left c Begun n = numberAt more left c Begun ≡ some n
 NumberedAs more left c Bad n = numberAt more left c Bad ≡ some n
 NumberedAs more left c Long n = numberAt more left c Long ≡ some n

@@ -13,7 +13,7 @@ use Rattle.output.specs.Escape.{render}
 use Rattle.runs.specs.Visits.{Env}
 use Rattle.calls.specs.Call.{Result, again}
 use Rattle.calls.specs.Accepted.{Accepted}
-use Rattle.calls.specs.Parts.{Feeds, Each, FedAccepted}
+use Rattle.calls.specs.Parts.{Feeds, Each, SameAnswer, FedAccepted}
 use Rattle.state.specs.Changes.{freshState}
 use Rattle.state.specs.Bytes.{bytesOf}
 use Rattle.state.specs.declared.State.{State}
@@ -73,11 +73,11 @@ BytesFedConverts s a =
     (whole : List ℕ) (room : ℕ) (x : Result) (v : ℕ) (d : Feeds (BytesCall s) false whole room (bytesOf freshState) x v) → (e : Env) → Accepted a whole e →
     length (render (e .out)) ≤ room → FedAccepted whole e x v × Each (BytesAsLent s) d
 
--- from any state that fits, a stream in parts gives what one call gives
+-- from any state that fits, a stream in parts gives what one call gives, but for a reference by number that a part has cut off
 abbrev pub PartsAsOne : List ℕ → Sheet → Type 0
 PartsAsOne s a =
     (ended : Bool) (whole lent after : List ℕ) (z : State) (x : Result) (v : ℕ) (r : Reply) → FitsSheet a z → Feeds (ValueCall s) (not ended) whole (length lent) z x v →
-    AnsweredAs s z whole ended lent after r → (x ≡ resultOf after r) × (v ≡ r .visits)
+    AnsweredAs s z whole ended lent after r → SameAnswer whole x (resultOf after r) × (v ≡ r .visits)
 
 -- a closed state repeats: 28 after 0, else the number again, and all is handed back as given
 abbrev pub ClosedRepeats : List ℕ → Sheet → Type 0

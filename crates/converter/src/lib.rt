@@ -7,6 +7,7 @@ ghost use Prim.Native.Nat.{ℕ, _≤_};
 ghost use lib.ListN.{length};
 ghost use Rattle.layout.specs.LaidOut.{LaidOut};
 ghost use Rattle.tokens.specs.declared.Answer.the-variants.{Begun};
+ghost use Rattle.tokens.specs.Stream.{ReadAs};
 ghost use Rattle.calls.specs.Call.{again, numberAt};
 ghost use Rattle.state.specs.Meaning.{meaningOf, Shaped};
 ghost use Rattle.state.specs.Bounds.{stackWidth};
@@ -103,12 +104,27 @@ fn number_begun(ended: bool, left: usize, z: Live) -> usize
     }
 }
 
+// What is read at a cursor, once it is known whether the stream has ended: a carriage return that is the last byte is whole only then.
+fn read_on(cursor: Cursor, part: &[u8], ended: bool) -> Answer
+    ensures { λ r. ⌜ ReadAs (not ended) (now (part .entry)) (cursor .at) r ⌝ }
+{
+    let answer = cursor.read(part);
+    let Answer::Waiting(event, next) = answer else {
+        return answer;
+    };
+    if ended {
+        return Answer::Token(event, next);
+    }
+    Answer::Begun
+}
+
 // The number where no whole token comes next.
 fn number_without_token(answer: Answer, ended: bool, left: usize, z: Live) -> usize
     ensures { λ r. ⌜ ((b : List ℕ) → Shaped (full z b) → NumberedAs (not ended) left (meaningOf (full z b) .control) answer r) ⌝ }
 {
     match answer {
         Answer::Token(_, _) => 0,
+        Answer::Waiting(_, _) => 0,
         Answer::Begun => number_begun(ended, left, z),
         Answer::Bad => 20,
         Answer::Long => 21,
@@ -166,7 +182,7 @@ fn run_live(
     let mut run = Run { at: 0, live: live };
     loop {
         let cursor = Cursor { at: at };
-        let answer = cursor.read(part);
+        let answer = read_on(cursor, part, ended);
         let Answer::Token(event, next) = answer else {
             let z = run.live;
             let number = number_without_token(answer, ended, part.len() - at, z);

@@ -7,7 +7,7 @@ use Prim.Native.Nat.{ℕ}
 use native.Mathlib.Omega.{arith}
 use lib.ListN.{length}
 use lib.Dec.{eqb}
-use Rattle.calls.specs.Read.{ReadsAs}
+use Rattle.tokens.specs.Stream.{Reads}
 use Rattle.calls.specs.Held.{Held}
 use Rattle.state.specs.Meaning.{meaningOf}
 use Rattle.state.specs.Bytes.{stateFrom}
@@ -32,7 +32,7 @@ ran-cost s z part ended lent after r w =
     let c = ceiling-kept s (w .sheet) (w .is-sheet) (w .passed) .of-calls part _ (length lent) (heldOf z) (w .answer) (w .called) in
     record {
       tokens = c .0;
-      are-taken = subst (ReadsAs (not ended) part 0 (c .0)) (sym (w .taken)) (c .1);
+      are-taken = subst (Reads (not ended) part 0 (c .0)) (sym (w .taken)) (c .1);
       few = omega (arith, c .2, count-held z, count-held (r .state), ap (λ (h : Held). countIn (h .run)) (w .held));
     }
 
@@ -46,7 +46,7 @@ bytes-cost s b b′ part ended lent after r (BytesAnsweredAs.runs i q w n e f) =
     let c = ran-cost s (stateFrom b) part ended lent after q w in
     record {
       tokens = c .tokens;
-      are-taken = subst (ReadsAs (not ended) part 0 (c .tokens)) (sym (n .taken)) (c .are-taken);
+      are-taken = subst (Reads (not ended) part 0 (c .tokens)) (sym (n .taken)) (c .are-taken);
       few = omega (arith, c .few, n .visits);
     }
 

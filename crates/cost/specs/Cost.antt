@@ -7,7 +7,7 @@ use Prim.Native.Nat.{ℕ, _+_, _*_, _≤_}
 use lib.ListN.{length}
 use lib.Dec.{eqb}
 use Rattle.tokens.specs.declared.Event.{Event}
-use Rattle.calls.specs.Read.{ReadsAs}
+use Rattle.tokens.specs.Stream.{Reads}
 use Rattle.state.specs.Bytes.{stateFrom}
 use Rattle.state.specs.declared.State.{State}
 use Rattle.ceiling.specs.Visits.{forToken}
@@ -20,7 +20,7 @@ use Rattle.capi.specs.RunAnswer.{RunAs}
 -- visits, where the count was `before` in front of the call: at most 130 more for each token of the bytes taken
 pub record AtMost (more : Bool) (part : List ℕ) (before taken visits : ℕ) : Type 0 where
   pub tokens : List Event
-  pub are-taken : ReadsAs more part 0 tokens taken
+  pub are-taken : Reads more part 0 tokens taken
   pub few : visits ≤ before + forToken * length tokens
 
 abbrev pub CallsCost : Type 0

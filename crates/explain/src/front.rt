@@ -79,7 +79,9 @@ fn say_of_angle(f: &[u8]) {
 fn say_of_ampersand(f: &[u8]) {
     let b = byte(f, 1);
     if b == b'#' {
-        say(b"It is a numbered reference, and schedules have none: write the character itself.\n");
+        say(
+            b"It is a reference by a number that is no character's, or none that is written right: as &#65; or &#x41; for A. Mend the number, or write the character itself.\n",
+        );
         return;
     }
     if text::name_first(b) {

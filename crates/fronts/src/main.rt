@@ -74,7 +74,7 @@ fn show(s: &[u8], out: &mut [u8])
         Event::Start { from, len } => start(s, from, len, at, out),
         Event::End { from, len } => end(s, from, len, at, out),
         Event::Empty { from, len } => empty(s, from, len, at, out),
-        Event::Character(c) => character(c, at, out),
+        Event::Character(c, literal) => character(c, literal, at, out),
     }
 }
 
@@ -107,20 +107,31 @@ fn empty(s: &[u8], from: usize, len: usize, next: usize, out: &mut [u8])
     hex(out, m);
 }
 
-fn character(c: u32, next: usize, out: &mut [u8])
+fn character(c: u32, literal: bool, next: usize, out: &mut [u8])
     requires { ⌜ Char c ⌝ }
 {
-    io::write_all(1, b"character ");
-    io::print_decimal(1, c as u64);
-    number(b" next ", next);
+    stood(c, literal, next);
     let n = output::put_char(out, 0, c, true);
     hex(out, n);
+}
+
+// A character, whether it stood there itself, and the next cursor.
+fn stood(c: u32, literal: bool, next: usize) {
+    io::write_all(1, b"character ");
+    io::print_decimal(1, c as u64);
+    if literal {
+        io::write_all(1, b" itself");
+    } else {
+        io::write_all(1, b" by reference");
+    }
+    number(b" next ", next);
 }
 
 // An answer that is no token, with the paper's numbers.
 fn refused(answer: Answer) {
     match answer {
         Answer::Token(_, _) => {}
+        Answer::Waiting(event, next) => waiting(event, next.at),
         Answer::Begun => {
             io::write_all(1, b"begun 16 27\n");
         }
@@ -131,6 +142,16 @@ fn refused(answer: Answer) {
             io::write_all(1, b"long 21\n");
         }
     }
+}
+
+// A token if nothing follows.
+fn waiting(event: Event, next: usize) {
+    let Event::Character(c, literal) = event else {
+        return;
+    };
+    io::write_all(1, b"waiting 16 or ");
+    stood(c, literal, next);
+    io::write_all(1, b"\n");
 }
 
 // A tag's kind, where its name stands, how long it is, and the next cursor.

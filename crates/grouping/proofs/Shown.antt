@@ -38,8 +38,8 @@ unions-change-the-count = record {
   right-passes = both-hold .1 .0 .0;
   under-left = ended (fresh .values) [] 8;
   under-right = ended (fresh .values) [] 10;
-  left-accepted = record { tokens = tokens; good = search; short = search arith; are-bytes = refl; spells = both-hold .0 .1; counts = omega arith };
-  right-accepted = record { tokens = tokens; good = search; short = search arith; are-bytes = refl; spells = both-hold .1 .0 .1; counts = omega arith };
+  left-accepted = record { tokens = tokens; good = search; short = search arith; whole = (tt, (tt, (tt, tt))); are-bytes = refl; spells = both-hold .0 .1; counts = omega arith };
+  right-accepted = record { tokens = tokens; good = search; short = search arith; whole = (tt, (tt, (tt, tt))); are-bytes = refl; spells = both-hold .1 .0 .1; counts = omega arith };
   left-count = refl;
   right-count = refl;
 }

@@ -6,7 +6,7 @@ use mathlib.Core.Bool.{true}
 use mathlib.Core.List.{List, [], _∷_}
 use Prim.Native.Nat.{ℕ, _*_, _≤_}
 use Rattle.expressions.specs.Grammar.{Production}
-use Rattle.tokens.specs.Tokens.{start, end, empty, Tok, tag, ref, char}
+use Rattle.tokens.specs.Tokens.{start, end, empty, Tok, tag, ref, numeric, line, char}
 use Rattle.tokens.proofs.Streams.{flat-one}
 use Rattle.sheet.specs.Sheet.{Sheet}
 use Rattle.runs.specs.Visits.{grammar, Env, fresh}
@@ -55,6 +55,8 @@ names-for a a′ e (t ∷ ts) = λ i. for t i ∷ names-for a a′ e ts i
     for (tag end n b) = ap (λ (ns : List (List ℕ)). end-token (tagNamed ns n)) e
     for (tag empty n b) = ap (λ (ns : List (List ℕ)). empty-token (tagNamed ns n)) e
     for (ref x) = refl
+    for (numeric k ds) = refl
+    for (line x) = refl
     for (char c) = refl
 
 -- the tree that tokens spell under a grouping, in the sheet without programs: what it comes to there, with its count
@@ -80,7 +82,7 @@ module _ (a b : Sheet) (r : RegroupedGrammar concatenations (grammar a) (grammar
 
 pub accepted-count-stays : AcceptedCountStays
 accepted-count-stays a a′ ok r s v v′ x x′ =
-    let same : x .tokens ≡ x′ .tokens = flat-one (x .tokens) (x′ .tokens) (x .good) (x′ .good) (sym (x .are-bytes) ∙ x′ .are-bytes) in
+    let same : x .tokens ≡ x′ .tokens = flat-one (x .tokens) (x′ .tokens) (x .good) (x′ .good) (x .whole) (x′ .whole) (sym (x .are-bytes) ∙ x′ .are-bytes) in
     let ts : List Token = tokensFor a′ (x′ .tokens) in
     let k : tokensFor a (x .tokens) ≡ ts = names-for a a′ (r .same-names) (x .tokens) ∙ ap (tokensFor a′) same in
     let y : Spelled a ts v = subst (λ (l : List Token). Spelled a l v) k (x .spells) in

@@ -16,8 +16,8 @@ use Rattle.tokens.specs.declared.Event.the-variants.{Start, End, Character}
 use Rattle.tokens.specs.declared.Answer.the-variants.{Token}
 use Rattle.tokens.specs.Tokens.{ref, lt, front, Means}
 use Rattle.tokens.specs.Stream.{Reads}
-use Rattle.tokens.proofs.Streams.{stands-at}
-use Rattle.output.specs.Escape.{escaped, Piece, start, end, render, characters, AllFit, events, allPieces}
+use Rattle.tokens.proofs.Streams.{token-at}
+use Rattle.output.specs.Escape.{escaped, Piece, start, end, character, render, characters, AllFit, events, allPieces}
 use Rattle.output.proofs.ReadBack.{reads-back, pieces-back, characters-fit}
 
 -- title
@@ -66,7 +66,7 @@ unfolding quiz title guess escaped utf8
 quiz-text = refl
 
 pub quiz-back : (p r : List ℕ)
-    → Reads (p ++ (render quiz ++ r)) (length p) (events (length p) quiz) (length p + length (render quiz)) × (allPieces (p ++ (render quiz ++ r)) (events (length p) quiz) ≡ quiz)
+    → Reads true (p ++ (render quiz ++ r)) (length p) (events (length p) quiz) (length p + length (render quiz)) × (allPieces (p ++ (render quiz ++ r)) (events (length p) quiz) ≡ quiz)
 unfolding quiz title guess plain
 quiz-back p r =
     (reads-back quiz p r ((title-name, omega arith), fit-append (characters guess) (end title ∷ []) (characters-fit guess (plain-chars guess refl)) ((title-name, omega arith), tt)), pieces-back quiz p r)
@@ -78,6 +78,12 @@ unfolding title
 empty-title = (refl, refl)
 
 -- The reference &lt; is read as the character <, which is written as &lt; again.
-pub reference-again : Means (front (38 ∷ 108 ∷ 116 ∷ 59 ∷ []) 0) 0 (Token (Character 60) (record { at = 4 })) × (escaped 60 ≡ 38 ∷ 108 ∷ 116 ∷ 59 ∷ [])
+pub reference-again : Means (front (38 ∷ 108 ∷ 116 ∷ 59 ∷ []) 0) 0 (Token (Character 60 false) (record { at = 4 })) × (escaped 60 ≡ 38 ∷ 108 ∷ 116 ∷ 59 ∷ [])
 unfolding escaped
-reference-again = (stands-at [] [] (ref lt) tt (omega arith), refl)
+reference-again = (token-at [] [] (ref lt) tt (omega arith) tt, refl)
+
+-- A CR that a reference names is written as a reference again; the LF after it is another character.
+pub cr-again : (render (character 13 ∷ character 10 ∷ []) ≡ 38 ∷ 35 ∷ 49 ∷ 51 ∷ 59 ∷ 10 ∷ [])
+    × (events 0 (character 13 ∷ character 10 ∷ []) ≡ Character 13 false ∷ Character 10 true ∷ [])
+unfolding escaped utf8
+cr-again = (refl, refl)

@@ -11,8 +11,8 @@ use borrow.Author.Tests.{ne-eqb}
 use Rattle.lent.specs.Put.{put, PutAs}
 use Rattle.lent.proofs.Laws.{put-append}
 use Rattle.text.specs.Chars.{utf8}
-use Rattle.tokens.specs.Tokens.{spelled, amp, lt, gt}
-use Rattle.output.specs.Escape.{escaped, Piece, written, render}
+use Rattle.tokens.specs.Tokens.{spelled, amp, lt, gt, bytes}
+use Rattle.output.specs.Escape.{crByNumber, escaped, Piece, written, render}
 
 -- one text after the other is the two together
 pub put-then : (w : Bool) (d : List ℕ) (at : ℕ) (xs ys d₁ d₂ : List ℕ) (r₁ r₂ : ℕ) → PutAs w d at xs d₁ r₁ → PutAs w d₁ r₁ ys d₂ r₂ → PutAs w d at (xs ++ ys) d₂ r₂
@@ -46,6 +46,10 @@ pub escaped-gt : (c : ℕ) → c ≡ 62 → spelled gt ≡ escaped c
 unfolding escaped
 escaped-gt c h = ap escaped (sym h)
 
-pub escaped-other : (c : ℕ) → (c ≡ 38 → ⊥) → (c ≡ 60 → ⊥) → (c ≡ 62 → ⊥) → utf8 c ≡ escaped c
+pub escaped-cr : (c : ℕ) → c ≡ 13 → bytes crByNumber ≡ escaped c
 unfolding escaped
-escaped-other c h k l = simp (ne-eqb c 38 h, ne-eqb c 60 k, ne-eqb c 62 l)
+escaped-cr c h = ap escaped (sym h)
+
+pub escaped-other : (c : ℕ) → (c ≡ 38 → ⊥) → (c ≡ 60 → ⊥) → (c ≡ 62 → ⊥) → (c ≡ 13 → ⊥) → utf8 c ≡ escaped c
+unfolding escaped
+escaped-other c h k l m = simp (ne-eqb c 38 h, ne-eqb c 60 k, ne-eqb c 62 l, ne-eqb c 13 m)

@@ -1,18 +1,30 @@
 -- The text we write: characters escaped, start tags and end tags, and what such a text is read as again. Definitions.
 -- Assumes nothing.
 use Prim.Native.Nat.{ℕ, _+_, _≤_}
+use mathlib.Core.Bool.{Bool, not, _||_}
 use mathlib.Core.List.{List, [], _∷_, _++_}
 use lib.ListN.{length, take, drop}
 use lib.Dec.{eqb}
 use Rattle.text.specs.Chars.{Char, utf8, pick}
 use Rattle.text.specs.Names.{Name}
-use Rattle.tokens.specs.Tokens.{spelled, amp, lt, gt}
+use Rattle.text.specs.Numerals.{decimal}
+use Rattle.tokens.specs.Tokens.{spelled, amp, lt, gt, Tok, numeric, bytes}
+use Rattle.tokens.specs.LineEnds.{NoCR}
 use Rattle.tokens.specs.declared.Event.{Event}
 use Rattle.tokens.specs.declared.Event.the-variants.{Start, End, Empty, Character}
 
--- & < > as &amp; &lt; &gt;, other characters as they are
+-- &#13;
+abbrev pub crByNumber : Tok
+crByNumber = numeric decimal (49 ∷ 51 ∷ [])
+
+-- & < > as &amp; &lt; &gt;, CR as &#13; (a CR byte would be read as LF), other characters as they are
 unfoldable pub escaped : ℕ → List ℕ
-escaped c = pick (eqb c 38) (spelled amp) (pick (eqb c 60) (spelled lt) (pick (eqb c 62) (spelled gt) (utf8 c)))
+escaped c =
+    pick (eqb c 38) (spelled amp) (pick (eqb c 60) (spelled lt) (pick (eqb c 62) (spelled gt) (pick (eqb c 13) (bytes crByNumber) (utf8 c))))
+
+-- a character that is written as itself, and so is literal where it is read again
+abbrev pub asItself : ℕ → Bool
+asItself c = not (eqb c 38 || (eqb c 60 || (eqb c 62 || eqb c 13)))
 
 -- <name>  </name>
 abbrev pub startTag : List ℕ → List ℕ
@@ -59,7 +71,7 @@ AllFit (p ∷ ps) = Fit p × AllFit ps
 abbrev pub eventAt : ℕ → Piece → Event
 eventAt at (start n) = Start (at + 1) (length n)
 eventAt at (end n) = End (at + 2) (length n)
-eventAt at (character c) = Character c
+eventAt at (character c) = Character c (asItself c)
 
 abbrev pub events : ℕ → List Piece → List Event
 events at [] = []
@@ -70,8 +82,12 @@ abbrev pub pieces : List ℕ → Event → List Piece
 pieces s (Start from len) = start (take len (drop from s)) ∷ []
 pieces s (End from len) = end (take len (drop from s)) ∷ []
 pieces s (Empty from len) = start (take len (drop from s)) ∷ end (take len (drop from s)) ∷ []
-pieces s (Character c) = character c ∷ []
+pieces s (Character c literal) = character c ∷ []
 
 abbrev pub allPieces : List ℕ → List Event → List Piece
 allPieces s [] = []
 allPieces s (e ∷ es) = pieces s e ++ allPieces s es
+
+-- no CR byte is ever written
+abbrev pub NeverCR : Type 0
+NeverCR = (ps : List Piece) → AllFit ps → NoCR (render ps)

@@ -22,6 +22,9 @@ pub fn put_char(out: &mut [u8], at: usize, c: u32, write: bool) -> usize
     if c == 62 {
         return lent::put_bytes(out, at, b"&gt;", write);
     }
+    if c == 13 {
+        return lent::put_bytes(out, at, b"&#13;", write);
+    }
     if c < 128 {
         let w = [c as u8];
         return lent::put_bytes(out, at, &w, write);

@@ -39,7 +39,8 @@ pub event-fits : (a : Sheet) (part : List ℕ) (e : Event) → EventIn part e �
 event-fits a part (Start from len) h = tt
 event-fits a part (End from len) h = tt
 event-fits a part (Empty from len) h = tt
-event-fits a part (Character c) h = (h, tt)
+event-fits a part (Character c true) h = (h, tt)
+event-fits a part (Character c false) h = (h, tt)
 
 pub taken-fits : (a : Sheet) → SheetFits a → (z : Standing) (room : ℕ) (k : Token) (y : Standing) (w : List ℕ) → EventsFit (eventsOfToken k) → RunFits a z → oneToken a z room k ≡ taken y w → RunFits a y
 taken-fits a ok z room k y w h f e =

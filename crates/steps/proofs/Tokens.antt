@@ -19,11 +19,11 @@ use Rattle.runs.specs.Visits.{grammar}
 use Rattle.runs.specs.Events.{Event, starts, ends, letter}
 use Rattle.runs.specs.Fits.{EventsFit}
 use Rattle.runs.specs.Machine.{before, after, State as Standing, Answer, took, refused, step, finished, onward, answered, run}
-use Rattle.runs.specs.Spells.{literal, empty-token, passesAt, unless-blank, stepToken}
+use Rattle.runs.specs.Spells.{empty-token, passesAt, unless-blank, stepToken}
 use Rattle.runs.proofs.SheetFits.{sheet-fits}
 use Rattle.sheet.specs.Tags.{TagAt}
 use Rattle.sheet.proofs.SheetLaws.{from-counted}
-use Rattle.calls.specs.Names.{tagNamed}
+use Rattle.calls.specs.Names.{tagNamed, characterToken}
 use Rattle.calls.proofs.Names.{named-is}
 use Rattle.calls.proofs.Frame.{step-number}
 use Rattle.fit.specs.RunFits.{RunFits}
@@ -132,7 +132,7 @@ module _ {s part : List ℕ} {z : State} {p : Pen} {r : Stepped} {d : List ℕ} 
           right = λ a i h f. subst (λ (o : Option ℕ). AnsweredAs (stepToken a (meaningOf z) (empty-token o)) z p r d) (tag-there i part from len named T) (S .right a i h f);
         }
 
-  pub text-as : {c : ℕ} → OneTokenAs s (literal c) z p r d → TokenAs s part (Character c) z p r d
+  pub text-as : {c : ℕ} {l : Bool} → OneTokenAs s (characterToken l c) z p r d → TokenAs s part (Character c l) z p r d
   text-as S = record { reach = S .reach; count = S .count; dry = S .dry; right = S .right }
 
 -- an empty tag's two events
@@ -165,40 +165,43 @@ module _ {s : List ℕ} {z : State} {p : Pen} {r : Stepped} {d : List ℕ} (t : 
             (join-events a r d (w .0) (w .2) (ends (tagIn t)) (E .right a i (g .0) (g .1)));
       }
 
--- a character, by whether it is white space that passes
-char-turn : (a : Sheet) (z : State) (c : ℕ) (b : Bool) → blank c && passesAt (grammar a) (meaningOf z .control) ≡ b →
-    stepToken a (meaningOf z) (literal c) ≡ unless-blank b (meaningOf z) (step a (meaningOf z) (letter c))
-char-turn a z c b e =
+-- a character, by whether it is white space that passes; by a reference it is none
+char-turn : (a : Sheet) (z : State) (l : Bool) (c : ℕ) (b : Bool) → (l && blank c) && passesAt (grammar a) (meaningOf z .control) ≡ b →
+    stepToken a (meaningOf z) (characterToken l c) ≡ unless-blank b (meaningOf z) (step a (meaningOf z) (letter c))
+char-turn a z true c b e =
+    ap (λ (k : Bool). unless-blank k (meaningOf z) (answered (run a (meaningOf z) (letter c ∷ [])))) e
+    ∙ ap (unless-blank b (meaningOf z)) (alone (meaningOf z) (letter c ∷ []) (step a (meaningOf z) (letter c)))
+char-turn a z false c b e =
     ap (λ (k : Bool). unless-blank k (meaningOf z) (answered (run a (meaningOf z) (letter c ∷ [])))) e
     ∙ ap (unless-blank b (meaningOf z)) (alone (meaningOf z) (letter c ∷ []) (step a (meaningOf z) (letter c)))
 
-module _ {s : List ℕ} {z : State} {p : Pen} {r : Stepped} {d : List ℕ} {c : ℕ} where
-  pub blank-passes : PassesAs s z true → blank c ≡ true → r ≡ refusedAt 0 z p → d ≡ p .lent → OneTokenAs s (literal c) z p r d
+module _ {s : List ℕ} {z : State} {p : Pen} {r : Stepped} {d : List ℕ} (l : Bool) (c : ℕ) where
+  pub blank-passes : PassesAs s z true → (l && blank c) ≡ true → r ≡ refusedAt 0 z p → d ≡ p .lent → OneTokenAs s (characterToken l c) z p r d
   blank-passes P w q same =
-      subst (λ (y : List ℕ). OneTokenAs s (literal c) z p r y) (sym same) (subst (λ (y : Stepped). OneTokenAs s (literal c) z p y (p .lent)) (sym q)
+      subst (λ (y : List ℕ). OneTokenAs s (characterToken l c) z p r y) (sym same) (subst (λ (y : Stepped). OneTokenAs s (characterToken l c) z p y (p .lent)) (sym q)
       (record {
         reach = omega arith;
         count = omega arith;
         dry = λ n. refl;
         right = λ a i h f.
             subst (λ (y : Answer). AnsweredAs y z p (refusedAt 0 z p) (p .lent))
-            (sym (char-turn a z c true (ap (λ (b : Bool). b && passesAt (grammar a) (meaningOf z .control)) w ∙ sym (P .is a i h f)))) (untouched z p h);
+            (sym (char-turn a z l c true (ap (λ (b : Bool). b && passesAt (grammar a) (meaningOf z .control)) w ∙ sym (P .is a i h f)))) (untouched z p h);
       }))
 
-  is-read : ((a : Sheet) → IsSheet s a → Shaped z → RunFits a (meaningOf z) → blank c && passesAt (grammar a) (meaningOf z .control) ≡ false) →
-      SteppedAs s (letter c) z p r d → OneTokenAs s (literal c) z p r d
+  is-read : ((a : Sheet) → IsSheet s a → Shaped z → RunFits a (meaningOf z) → (l && blank c) && passesAt (grammar a) (meaningOf z .control) ≡ false) →
+      SteppedAs s (letter c) z p r d → OneTokenAs s (characterToken l c) z p r d
   is-read e S =
       record {
         reach = omega (arith, S .reach);
         count = omega (arith, S .count);
         dry = S .dry;
-        right = λ a i h f. subst (λ (y : Answer). AnsweredAs y z p r d) (sym (char-turn a z c false (e a i h f))) (S .right a i h f);
+        right = λ a i h f. subst (λ (y : Answer). AnsweredAs y z p r d) (sym (char-turn a z l c false (e a i h f))) (S .right a i h f);
       }
 
-  pub not-blank : blank c ≡ false → SteppedAs s (letter c) z p r d → OneTokenAs s (literal c) z p r d
+  pub not-blank : (l && blank c) ≡ false → SteppedAs s (letter c) z p r d → OneTokenAs s (characterToken l c) z p r d
   not-blank w S = is-read (λ a i h f. ap (λ (b : Bool). b && passesAt (grammar a) (meaningOf z .control)) w) S
 
-  pub blank-read : PassesAs s z false → blank c ≡ true → SteppedAs s (letter c) z p r d → OneTokenAs s (literal c) z p r d
+  pub blank-read : PassesAs s z false → (l && blank c) ≡ true → SteppedAs s (letter c) z p r d → OneTokenAs s (characterToken l c) z p r d
   blank-read P w S = is-read (λ a i h f. ap (λ (b : Bool). b && passesAt (grammar a) (meaningOf z .control)) w ∙ sym (P .is a i h f)) S
 
 -- whether white space passes where the run stands

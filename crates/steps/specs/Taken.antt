@@ -23,7 +23,7 @@ abbrev pub EventIn : List ℕ → Event → Type 0
 EventIn part (Start from len) = from + len ≤ length part
 EventIn part (End from len) = from + len ≤ length part
 EventIn part (Empty from len) = from + len ≤ length part
-EventIn part (Character c) = Char c
+EventIn part (Character c literal) = Char c
 
 -- the token was taken: the state stands for m, and w was written from `at` on
 pub record Taken (m : Standing) (w : List ℕ) (z : State) (lent : List ℕ) (at : ℕ) (r : Stepped) (d : List ℕ) : Type 0 where

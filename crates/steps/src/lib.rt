@@ -13,7 +13,8 @@ ghost use Rattle.steps.specs.Seen.{whole};
 ghost use Rattle.steps.specs.Stepped.{tagIn, eventVisits, SteppedAs, TokenAs};
 ghost use Rattle.steps.specs.Taken.{EventIn, TakenAs};
 ghost use Rattle.steps.specs.Parts.{refusing, answeringLive, ReadyAt, Over, FollowsAs, PassesAs, OneTokenAs};
-ghost use Rattle.runs.specs.Spells.{empty-token, literal};
+ghost use Rattle.runs.specs.Spells.{empty-token};
+ghost use Rattle.calls.specs.Names.{characterToken};
 use acts::Acted;
 use layout::Layout;
 use live::Live;
@@ -399,16 +400,25 @@ impl Run {
         blanks_pass(s, l, f.production as usize)
     }
 
-    // A character, which is no event where it is white space that passes.
-    fn text(self, s: &[u8], l: Layout, c: u32, stack: &[u8], out: &mut [u8], write: bool) -> Stepped
+    // A character, which is no event where it is white space that passes; one by a reference is never white space.
+    fn text(
+        self,
+        s: &[u8],
+        l: Layout,
+        c: u32,
+        literal: bool,
+        stack: &[u8],
+        out: &mut [u8],
+        write: bool,
+    ) -> Stepped
         requires { ⌜ LaidOut (now s) l ⌝ }
         requires { ⌜ ReadyAt (now s) (self .live) (now stack) ⌝ }
         requires { ⌜ Char c ⌝ }
         requires { ⌜ self .at ≤ 2 ^ 57 ⌝ }
-        requires { ⌜ self .live .count ≤ 2 ^ 62 ⌝ }
-        ensures { λ r. ⌜ OneTokenAs (now (s .entry)) (literal c) (full (self .live) (now (stack .entry))) (record { write = write; lent = now (out .entry); at = self .at }) (whole r (now (stack .entry))) (now (out .exit)) ⌝ }
+        requires { ⌜ self .live .count ≤ mostVisits ⌝ }
+        ensures { λ r. ⌜ OneTokenAs (now (s .entry)) (characterToken literal c) (full (self .live) (now (stack .entry))) (record { write = write; lent = now (out .entry); at = self .at }) (whole r (now (stack .entry))) (now (out .exit)) ⌝ }
     {
-        if !is_blank(c) {
+        if !(literal & is_blank(c)) {
             return self.character(s, l, c, stack, out, write);
         }
         if self.passes(s, l, stack) {
@@ -451,7 +461,7 @@ impl Run {
                 let t = tag_named(s, l, &part[from..end]);
                 self.empty(s, l, t, stack, out, write)
             }
-            Event::Character(c) => self.text(s, l, c, stack, out, write),
+            Event::Character(c, literal) => self.text(s, l, c, literal, stack, out, write),
         }
     }
 

@@ -7,7 +7,7 @@ use mathlib.Core.List.{List, [], _∷_, _++_}
 use Prim.Native.Nat.{ℕ, suc, _+_, _-_, _≤_, _<_}
 use native.Mathlib.Omega.{arith}
 use lib.Dec.{leb, ltb, eqb}
-use lib.ListN.{length, take, drop, getD}
+use lib.ListN.{length, drop, getD}
 use lib.Seq.{drop-cons}
 use borrow.Author.Tests.{ne-eqb, eqb-true, eqb-false, leb-true, ltb-true, not-true}
 use Rattle.text.specs.Chars.{Char, utf8}
@@ -16,15 +16,16 @@ use Rattle.text.proofs.Shapes.{shape1}
 use Rattle.tokens.specs.Tokens.{front, Means, char}
 use Rattle.tokens.specs.declared.Cursor.{Cursor}
 use Rattle.tokens.specs.declared.Event.{Event}
-use Rattle.tokens.specs.declared.Event.the-variants.{Character}
+use Rattle.tokens.specs.declared.Event.the-variants.{Start, End, Empty, Character}
 use Rattle.tokens.specs.declared.Answer.{Answer}
-use Rattle.tokens.specs.declared.Answer.the-variants.{Token, Begun, Bad, Long}
+use Rattle.tokens.specs.declared.Answer.the-variants.{Token, Waiting, Begun, Bad, Long}
 use Rattle.tokens.proofs.Answer as answer
 use Rattle.tokens.proofs.Event as event
 use types.Run.{OneOf, miss}
 use denote.Enum.Declared
 use Rattle.tokens.proofs.Theory.{one-answer}
 use Rattle.tokens.proofs.Streams.{token-moves}
+use Rattle.calls.proofs.Read.{token-means}
 use Rattle.stretches.specs.declared.Next.{Next}
 use Rattle.stretches.specs.declared.Next.the-variants.{Character as Stands, Other}
 use Rattle.output.specs.Escape.{escaped}
@@ -33,9 +34,17 @@ use Rattle.stretches.specs.Next.{plain, space, NextIs}
 -- the event of a token
 abbrev eventIn : Answer → Event
 eventIn (Token e n) = e
-eventIn Begun = Character 0
-eventIn Bad = Character 0
-eventIn Long = Character 0
+eventIn (Waiting e n) = e
+eventIn Begun = Character 0 true
+eventIn Bad = Character 0 true
+eventIn Long = Character 0 true
+
+-- whether an event's character stood there itself
+abbrev literally : Event → Bool
+literally (Start from len) = true
+literally (End from len) = true
+literally (Empty from len) = true
+literally (Character c l) = l
 
 or-true : (a b : Bool) → (a || b) ≡ true → (a ≡ true) ⊎ (b ≡ true)
 or-true true b h = inl refl
@@ -51,6 +60,7 @@ pub record Alone (b : ℕ) : Type 0 where
   pub not-60 : b ≡ 60 → ⊥
   pub not-38 : b ≡ 38 → ⊥
   pub not-62 : b ≡ 62 → ⊥
+  pub not-13 : b ≡ 13 → ⊥
 
 pub alone-plain : (b : ℕ) → plain b ≡ true → Alone b
 alone-plain b h =
@@ -66,6 +76,7 @@ alone-plain b h =
       not-60 = eqb-false b 60 (not-true _ (r .0));
       not-38 = eqb-false b 38 (not-true _ (s .0));
       not-62 = eqb-false b 62 (not-true _ (s .1));
+      not-13 = λ q. omega arith;
     }
 
 spaces : (b : ℕ) → space b ≡ true → (b ≡ 32) ⊎ ((b ≡ 9) ⊎ (b ≡ 10))
@@ -75,12 +86,12 @@ spaces b h =
 
 pub alone-space : (b : ℕ) → space b ≡ true → Alone b
 alone-space b h =
-    ⊎-elim (λ e. by e (inr (inr (inr (inl (omega arith, omega arith))))) (omega arith))
-    (⊎-elim (λ e. by e (inl e) (omega arith)) (λ e. by e (inr (inl e)) (omega arith)))
+    ⊎-elim (λ e. by e (inr (inr (inr (inl (omega arith, omega arith))))) (omega arith) (λ q. omega arith))
+    (⊎-elim (λ e. by e (inl e) (omega arith) (λ q. omega arith)) (λ e. by e (inr (inl e)) (omega arith) (λ q. omega arith)))
     (spaces b h)
   where
-    by : {n : ℕ} → b ≡ n → Char b → n < 33 → Alone b
-    by e c s = record { small = omega arith; char-ok = c; not-60 = λ q. omega arith; not-38 = λ q. omega arith; not-62 = λ q. omega arith }
+    by : {n : ℕ} → b ≡ n → Char b → n < 33 → (b ≡ 13 → ⊥) → Alone b
+    by e c s h = record { small = omega arith; char-ok = c; not-60 = λ q. omega arith; not-38 = λ q. omega arith; not-62 = λ q. omega arith; not-13 = h }
 
 pub blank-space : (b : ℕ) → space b ≡ true → blank b ≡ true
 blank-space b h = ⊎-elim (λ e. rw e) (⊎-elim (λ e. rw e) (λ e. rw e)) (spaces b h)
@@ -91,22 +102,22 @@ one-byte b a = shape1 b (a .small)
 
 pub as-it-is : (b : ℕ) → Alone b → escaped b ≡ b ∷ []
 unfolding escaped
-as-it-is b a = rw (ne-eqb b 38 (a .not-38), ne-eqb b 60 (a .not-60), ne-eqb b 62 (a .not-62)) (one-byte b a)
+as-it-is b a = rw (ne-eqb b 38 (a .not-38), ne-eqb b 60 (a .not-60), ne-eqb b 62 (a .not-62), ne-eqb b 13 (a .not-13)) (one-byte b a)
 
 module _ (part : List ℕ) (at : ℕ) where
-  pub alone-next : at < length part → Alone (getD part at 0) → Means (front part at) at (Token (Character (getD part at 0)) (record { at = at + 1 }))
+  pub alone-next : at < length part → Alone (getD part at 0) → Means (front part at) at (Token (Character (getD part at 0) true) (record { at = at + 1 }))
   alone-next h a =
       let b : ℕ = getD part at 0 in
-      let left : List ℕ = take 31 (drop (suc at) part) in
       let bytes : utf8 b ≡ b ∷ [] = one-byte b a in
-      let starts : front part at ≡ b ∷ left = ap (take 32) (drop-cons part at 0 h) in
-      (char b, (a .char-ok, a .not-60, a .not-38, a .not-62), (left, starts ∙ ap (λ (w : List ℕ). w ++ left) (sym bytes)), refl, ap (λ (w : List ℕ). at + length w) (sym bytes))
+      let starts : drop at part ≡ utf8 b ++ drop (suc at) part = drop-cons part at 0 h ∙ ap (λ (w : List ℕ). w ++ drop (suc at) part) (sym bytes) in
+      let read = token-means part at (char b) (drop (suc at) part) starts (a .char-ok, a .not-60, a .not-38, a .not-62, a .not-13) (omega (arith, ap length bytes)) tt in
+      subst (λ (n : ℕ). Means (front part at) at (Token (Character b true) (record { at = at + n }))) (ap length bytes) read
 
   module _ (x : Answer) (m : Means (front part at) at x) where
-    pub no-token : OneOf (1 ∷ 2 ∷ 3 ∷ []) (Declared.tagOf answer.the-type x) → NextIs part at Other
+    pub no-token : OneOf (1 ∷ 2 ∷ 3 ∷ 4 ∷ []) (Declared.tagOf answer.the-type x) → NextIs part at Other
     no-token h c next n =
-        miss (1 ∷ 2 ∷ 3 ∷ []) 0 tt
-        (subst (λ (y : Answer). OneOf (1 ∷ 2 ∷ 3 ∷ []) (Declared.tagOf answer.the-type y)) (one-answer (front part at) at x (Token (Character c) next) m n) h)
+        miss (1 ∷ 2 ∷ 3 ∷ 4 ∷ []) 0 tt
+        (subst (λ (y : Answer). OneOf (1 ∷ 2 ∷ 3 ∷ 4 ∷ []) (Declared.tagOf answer.the-type y)) (one-answer (front part at) at x (Token (Character c true) next) m n) h)
 
     module _ (e : Event) (next : Cursor) (q : x ≡ Token e next) where
       token : Means (front part at) at (Token e next)
@@ -115,23 +126,29 @@ module _ (part : List ℕ) (at : ℕ) where
       pub no-character : OneOf (0 ∷ 1 ∷ 2 ∷ []) (Declared.tagOf event.the-type e) → NextIs part at Other
       no-character h c then n =
           miss (0 ∷ 1 ∷ 2 ∷ []) 3 tt
-          (subst (λ (y : Event). OneOf (0 ∷ 1 ∷ 2 ∷ []) (Declared.tagOf event.the-type y)) (ap eventIn (one-answer (front part at) at (Token e next) (Token (Character c) then) token n)) h)
+          (subst (λ (y : Event). OneOf (0 ∷ 1 ∷ 2 ∷ []) (Declared.tagOf event.the-type y)) (ap eventIn (one-answer (front part at) at (Token e next) (Token (Character c true) then) token n)) h)
 
-      module _ (h : at ≤ length part) (c : ℕ) (f : e ≡ Character c) where
-        there : Means (front part at) at (Token (Character c) next)
-        there = subst (λ (y : Event). Means (front part at) at (Token y next)) f token
+      pub by-reference : (c : ℕ) (l : Bool) → e ≡ Character c l → l ≡ false → NextIs part at Other
+      by-reference c l f k d then n =
+          true≢false (sym (ap (λ (y : Answer). literally (eventIn y)) (one-answer (front part at) at (Token e next) (Token (Character d true) then) token n)) ∙ ap literally f ∙ k)
+
+      module _ (h : at ≤ length part) (c : ℕ) (l : Bool) (f : e ≡ Character c l) (k : l ≡ true) where
+        there : Means (front part at) at (Token (Character c true) next)
+        there = subst (λ (y : Event). Means (front part at) at (Token y next)) (f ∙ ap (Character c) k) token
 
         pub reaches : at ≤ next .at
-        reaches = omega (arith, token-moves part at (Character c) next h there .0)
+        reaches = omega (arith, token-moves part at (Character c true) next h (there .0) .0)
 
         pub read-character : NextIs part at (Stands c (next .at - at))
-        read-character = (there .0, there .1, there .2, there .3, omega (arith, there .4, reaches))
+        read-character =
+            let n : next .at ≡ at + (next .at - at) = omega (arith, reaches) in
+            subst (λ (i : ℕ). Means (front part at) at (Token (Character c true) (record { at = i }))) n there
 
   -- what stands there is what the reader says, and takes a byte at least
-  pub stands : (r : Next) → NextIs part at r → (c n : ℕ) → r ≡ Stands c n → Means (front part at) at (Token (Character c) (record { at = at + n }))
+  pub stands : (r : Next) → NextIs part at r → (c n : ℕ) → r ≡ Stands c n → Means (front part at) at (Token (Character c true) (record { at = at + n }))
   stands r m c n q = subst (NextIs part at) q m
 
-  pub onward : (c n : ℕ) → at ≤ length part → Means (front part at) at (Token (Character c) (record { at = at + n })) → (0 < n) × (at + n ≤ length part)
+  pub onward : (c n : ℕ) → at ≤ length part → Means (front part at) at (Token (Character c true) (record { at = at + n })) → (0 < n) × (at + n ≤ length part)
   onward c n h m =
-      let moved = token-moves part at (Character c) (record { at = at + n }) h m in
+      let moved = token-moves part at (Character c true) (record { at = at + n }) h (m .0) in
       (omega (arith, moved .0), moved .1)

@@ -64,13 +64,13 @@ module _ (part : List ℕ) (from : ℕ) where
         }
 
     pub one-more : (at to count : ℕ) (d : List ℕ) → StretchedAs part from on k n lent put (record { at = at; put = to; count = count }) d → (c : ℕ) (next : Cursor) →
-        Means (front part at) at (Token (Character c) next) → count + k ≤ mostVisits → to + 5 ≤ length lent → (d′ : List ℕ) (to′ : ℕ) → PutAs true d to (shown on c) d′ to′ →
+        Means (front part at) at (Token (Character c true) next) → count + k ≤ mostVisits → to + 5 ≤ length lent → (d′ : List ℕ) (to′ : ℕ) → PutAs true d to (shown on c) d′ to′ →
         StretchedAs part from on k n lent put (record { at = next .at; put = to′; count = count + k }) d′
     one-more at to count d s c next means counted roomy d′ to′ P =
         let w : List ℕ = s .written in
         let v : List ℕ = shown on c in
         let short = shown-short on c in
-        let moves = token-moves part at (Character c) next (s .within) means in
+        let moves = token-moves part at (Character c true) next (s .within) (means .0) in
         let l : length (w ++ v) ≡ length w + length v = length-append w v in
         let front-is : take to d ≡ take put lent ++ w =
         let e : to ≡ length (take put lent ++ w) = omega (arith, s .next, length-append (take put lent) w, length-take put lent, s .room) in
@@ -105,7 +105,7 @@ module _ (part : List ℕ) (from : ℕ) where
               subst (Runs a part more from (length lent - put) (counting m n))
               (ap (λ (o : List ℕ). record { number = x .number; taken = x .taken; output = o; held = x .held }) (sym (append-assoc w v (x .output))))
               (s .rest a m steady more (after-writing v x)
-              (takes (Character c) (next .at) (counting m (count + k)) v (read-plain more part at (Token (Character c) next) means) taking
+              (takes (Character c true) (next .at) (counting m (count + k)) v (read-plain more part at (Character c true) (next .at) means) taking
               (subst (λ (i : ℕ). Runs a part more (next .at) i (counting m (count + k)) x) left-over run-on)));
         }
 
@@ -117,9 +117,9 @@ module _ (part : List ℕ) (from : ℕ) where
   pub no-blank-yet : from ≤ length part → BlanksAs part from from
   no-blank-yet h = record { forward = omega arith; within = h; rest = λ a m s g p more room x c. c }
 
-  pub one-blank : (at : ℕ) → BlanksAs part from at → (c : ℕ) (next : Cursor) → Means (front part at) at (Token (Character c) next) → blank c ≡ true → BlanksAs part from (next .at)
+  pub one-blank : (at : ℕ) → BlanksAs part from at → (c : ℕ) (next : Cursor) → Means (front part at) at (Token (Character c true) next) → blank c ≡ true → BlanksAs part from (next .at)
   one-blank at s c next means b =
-      let moves = token-moves part at (Character c) next (s .within) means in
+      let moves = token-moves part at (Character c true) next (s .within) (means .0) in
       record {
         forward = omega (arith, s .forward, moves .0);
         within = moves .1;
@@ -131,6 +131,6 @@ module _ (part : List ℕ) (from : ℕ) where
             let fits : length (outputOf m) ≤ room = omega (arith, ap length nothing) in
             let taking : oneToken a m room (literal c) ≡ taken m [] = one-takes a m room (literal c) m stepped counted fits ∙ ap₂ taken same nothing in
             s .rest a m silent-then counted passes more room x
-            (takes (Character c) (next .at) m [] (read-plain more part at (Token (Character c) next) means) taking
+            (takes (Character c true) (next .at) m [] (read-plain more part at (Character c true) (next .at) means) taking
             (let e : room ≡ room - 0 = omega arith in subst (λ (i : ℕ). Runs a part more (next .at) i m x) e run-on));
       }

@@ -24,7 +24,7 @@ space b = eqb b 32 || (eqb b 9 || eqb b 10)
 abbrev pub tagOrEnd : List ℕ → ℕ → Bool
 tagOrEnd part at = cond (ltb at (length part)) (eqb (getD part at 0) 60) true
 
--- a character stands there, as the reader says, and takes so many bytes; or none does
+-- a character stands there itself, as the reader says, and takes so many bytes; or none does: a reference, or a CR that waits, is none
 abbrev pub NextIs : List ℕ → ℕ → Next → Type 0
-NextIs part at (Stands c n) = Means (front part at) at (Token (Character c) (record { at = at + n }))
-NextIs part at Other = (c : ℕ) (next : Cursor) → Means (front part at) at (Token (Character c) next) → ⊥
+NextIs part at (Stands c n) = Means (front part at) at (Token (Character c true) (record { at = at + n }))
+NextIs part at Other = (c : ℕ) (next : Cursor) → Means (front part at) at (Token (Character c true) next) → ⊥

@@ -29,7 +29,7 @@ pub struct Stretch {
     pub count: u64,
 }
 
-// What stands at a place of the part: a character and how many bytes it takes, or no character.
+// What stands at a place of the part: a character itself, no reference, and how many bytes it takes; or no such.
 pub enum Next {
     Character(u32, usize),
     Other,
@@ -59,9 +59,12 @@ fn read_next(part: &[u8], at: usize) -> Next
     let Answer::Token(event, next) = answer else {
         return Next::Other;
     };
-    let Event::Character(c) = event else {
+    let Event::Character(c, literal) = event else {
         return Next::Other;
     };
+    if !literal {
+        return Next::Other;
+    }
     Next::Character(c, next.at - at)
 }
 

@@ -2,3 +2,4 @@ pub mod Shapes
 pub mod Decoding
 pub mod Unique
 pub mod NameLaws
+pub mod NumeralLaws

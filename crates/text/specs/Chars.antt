@@ -18,6 +18,11 @@ In a c b = (a ≤ c) × (c ≤ b)
 abbrev pub Char : ℕ → Type 0
 Char c = (c ≡ 0x9) ⊎ ((c ≡ 0xA) ⊎ ((c ≡ 0xD) ⊎ (In 0x20 c 0xD7FF ⊎ (In 0xE000 c 0xFFFD ⊎ In 0x10000 c 0x10FFFF))))
 
+-- what `is_char` answers
+abbrev pub CharIs : ℕ → Bool → Type 0
+CharIs c true = Char c
+CharIs c false = Char c → ⊥
+
 -- the first list where the test holds, else the second
 abbrev pub pick : Bool → List ℕ → List ℕ → List ℕ
 pick true a b = a

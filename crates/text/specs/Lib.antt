@@ -1,3 +1,4 @@
 pub mod Chars
 pub mod Names
+pub mod Numerals
 pub mod Characters

@@ -1,9 +1,10 @@
-// Characters and names, in bytes: UTF-8 (RFC 3629) within XML 1.0's Char set, the bytes of names, white space.
+// Characters and names, in bytes: UTF-8 (RFC 3629) within XML 1.0's Char set, the bytes of names, white space, digits.
 ghost use mathlib.Core.Path.{_≡_};
 ghost use Prim.Native.Nat.{_≤_, _<_};
 ghost use lib.ListN.{length, getD};
-ghost use Rattle.text.specs.Chars.{DecodedIs};
+ghost use Rattle.text.specs.Chars.{DecodedIs, CharIs};
 ghost use Rattle.text.specs.Names.{nameFirst, nameByte, blank};
+ghost use Rattle.text.specs.Numerals.{digitValue};
 
 pub enum Decoded {
     // The character, and how many bytes it takes.
@@ -155,4 +156,59 @@ pub fn blank(b: u8) -> bool
     ensures { λ r. ⌜ r ≡ blank b ⌝ }
 {
     (b == 32) | ((b == 9) | ((b == 13) | (b == 10)))
+}
+
+// Whether the number is a character of the Char set.
+pub fn is_char(c: u32) -> bool
+    ensures { λ r. ⌜ CharIs c r ⌝ }
+{
+    if c < 32 {
+        // Of the controls only tab, line feed and carriage return.
+        if c == 9 {
+            return true;
+        }
+        if c == 10 {
+            return true;
+        }
+        return c == 13;
+    }
+    if c < 55296 {
+        return true;
+    }
+    if c < 57344 {
+        // A surrogate.
+        return false;
+    }
+    if c < 65534 {
+        return true;
+    }
+    if c < 65536 {
+        return false;
+    }
+    c <= 1114111
+}
+
+// The value of a digit, decimal or hexadecimal; 16 for any other byte.
+pub fn digit(b: u8) -> u32
+    ensures { λ r. ⌜ r ≡ digitValue b ⌝ }
+{
+    if b < 48 {
+        return 16;
+    }
+    if b < 58 {
+        return b as u32 - 48;
+    }
+    if b < 65 {
+        return 16;
+    }
+    if b < 71 {
+        return b as u32 - 55;
+    }
+    if b < 97 {
+        return 16;
+    }
+    if b < 103 {
+        return b as u32 - 87;
+    }
+    16
 }

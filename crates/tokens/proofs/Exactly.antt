@@ -8,7 +8,7 @@ use mathlib.Core.Logic.{_↔_}
 use Prim.Native.Nat.{ℕ, zero, suc}
 use native.Mathlib.Omega.{arith}
 use Rattle.tokens.specs.declared.Answer.{Answer}
-use Rattle.tokens.specs.declared.Answer.the-variants.{Token, Begun, Bad, Long}
+use Rattle.tokens.specs.declared.Answer.the-variants.{Token, Waiting, Begun, Bad, Long}
 use Rattle.tokens.specs.Tokens.{Means}
 use Rattle.tokens.specs.Numbers.{numberOf}
 use Rattle.tokens.proofs.Theory.{one-answer}
@@ -21,6 +21,8 @@ plainly (some n) = n
 bad-only : (more : Bool) (left : ℕ) (a : Answer) → numberOf more left a ≡ some 20 → a ≡ Bad
 unfolding plainly
 bad-only more left (Token e n) p = absurd (omega (arith, ap plainly p))
+bad-only true left (Waiting e n) p = absurd (omega (arith, ap plainly p))
+bad-only false left (Waiting e n) p = absurd (omega (arith, ap plainly p))
 bad-only true left Begun p = absurd (omega (arith, ap plainly p))
 bad-only false zero Begun p = absurd (omega (arith, ap plainly p))
 bad-only false (suc n) Begun p = absurd (omega (arith, ap plainly p))
@@ -30,6 +32,8 @@ bad-only more left Long p = absurd (omega (arith, ap plainly p))
 long-only : (more : Bool) (left : ℕ) (a : Answer) → numberOf more left a ≡ some 21 → a ≡ Long
 unfolding plainly
 long-only more left (Token e n) p = absurd (omega (arith, ap plainly p))
+long-only true left (Waiting e n) p = absurd (omega (arith, ap plainly p))
+long-only false left (Waiting e n) p = absurd (omega (arith, ap plainly p))
 long-only true left Begun p = absurd (omega (arith, ap plainly p))
 long-only false zero Begun p = absurd (omega (arith, ap plainly p))
 long-only false (suc n) Begun p = absurd (omega (arith, ap plainly p))

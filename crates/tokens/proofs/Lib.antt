@@ -1,7 +1,10 @@
 pub mod Runs
 pub mod Theory
 pub mod Reading
+pub mod Numerals
+pub mod Readable
 pub mod Streams
 pub mod Parts
+pub mod LineEnds
 pub mod Exactly
 pub mod Examples

@@ -1,39 +1,36 @@
--- A stream that comes in parts: what the reader answers of a part, it answers of the whole, unless it answers Begun.
--- Begun is answered only of a front under 32 bytes, and Long only of one of 32.
+-- A stream that comes in parts: a whole token of a part is one of the stream, and bytes that begin none begin none; what waits settles with the next byte;
+-- what is begun is presented again. Begun is answered only of a front under 32 bytes, and Long only of one of 32, or of a number cut off at 30 or 31.
 -- Assumes nothing.
 use mathlib.Core.Path.{_≡_, refl, sym, ap, ap₂, _∙_, subst}
 use mathlib.Core.Logic.{_⊎_, inl, inr, ⊎-elim}
-use mathlib.Core.Bool.{Bool}
+use mathlib.Core.Bool.{Bool, true}
 use mathlib.Core.List.{List, [], _∷_, _++_, append-assoc, append-nil, append-cancel-left, head-eq-of-cons-eq, tail-eq-of-cons-eq}
 use Prim.Native.Nat.{ℕ, _+_, _-_, _≤_, _<_}
 use native.Mathlib.Omega.{arith}
-use native.Mathlib.Decide.{decLt}
+use native.Mathlib.Decide.{decLt, ℕ-discrete}
 use native.Mathlib.Nat.{add-assoc}
-use lib.ListN.{length, take, drop, length-append, length-take, length-drop, drop-of-length-le}
+use lib.ListN.{length, take, drop, length-append, length-take, drop-of-length-le}
 use lib.Seq.{drop-append-le, drop-append-seam, drop-drop, take-append-le, take-append-add, take-all}
-use Rattle.text.specs.Chars.{Starts, Begins}
+use Rattle.text.specs.Chars.{Char, Starts, Begins}
 use Rattle.text.specs.Names.{nameByte, blank, All, Name}
+use Rattle.text.specs.Numerals.{Base, decimal, hex, radix, digitBelow, valueFrom, valueOf}
 use Rattle.text.proofs.NameLaws.{name-all}
-use Rattle.text.proofs.Shapes.{cons≢[]}
-use Rattle.tokens.specs.Tokens.{Kind, start, end, empty, Tok, tag, ref, char, Good, opens, closes, bytes, eventOf, front, Means}
-use Rattle.tokens.specs.Stream.{Reads, movedEvent, moved}
+use Rattle.text.proofs.NumeralLaws.{value-append, value-grows}
+use Rattle.text.proofs.Shapes.{cons≢[], char-most}
+use Rattle.tokens.specs.Tokens.{Kind, start, end, empty, lt, crlf, cr, Tok, tag, ref, numeric, line, char, Good, opens, closes, mark, bytes, eventOf, front, Longest, BeginsOne, Means}
+use Rattle.tokens.specs.Stream.{settled, ReadAs, Reads, movedEvent, moved}
+use Rattle.tokens.specs.Parts.{CutNumber, Settles, WaitingSettles, Alike, InParts}
 use Rattle.tokens.specs.declared.Cursor.{Cursor}
 use Rattle.tokens.specs.declared.Event.{Event}
 use Rattle.tokens.specs.declared.Event.the-variants.{Start, End, Empty}
 use Rattle.tokens.specs.declared.Answer.{Answer}
-use Rattle.tokens.specs.declared.Answer.the-variants.{Token, Begun, Bad, Long}
-use Rattle.tokens.proofs.Theory.{one-answer, nil-right}
-use Rattle.tokens.proofs.Reading.{utf8-most, spelled-most, begins-length, regroup}
-
--- of two lists that agree as far as both go, one starts with the other or begins it
-pub either : (f w x v : List ℕ) → f ++ x ≡ w ++ v → Starts f w ⊎ Begins f w
-either [] [] x v e = inl ([], refl)
-either [] (y ∷ w) x v e = inr (y ∷ w, refl, cons≢[])
-either (a ∷ f) [] x v e = inl (a ∷ f, refl)
-either (a ∷ f) (y ∷ w) x v e =
-    let h = head-eq-of-cons-eq e in
-    ⊎-elim (λ s. inl (s .0, ap₂ (λ (z : ℕ) (l : List ℕ). z ∷ l) h (s .1)))
-    (λ s. inr (s .0, ap₂ (λ (z : ℕ) (l : List ℕ). z ∷ l) (sym h) (s .1), s .2)) (either f w x v (tail-eq-of-cons-eq e))
+use Rattle.tokens.specs.declared.Answer.the-variants.{Token, Waiting, Begun, Bad, Long}
+use Rattle.tokens.proofs.Theory.{either, one-answer, nil-right, whole, followed-ended}
+use Rattle.tokens.proofs.Runs.{all-append}
+use Rattle.tokens.proofs.Reading.{utf8-most, spelled-most, begins-length, starts-length, regroup}
+use Rattle.tokens.proofs.Numerals.{some-fewest}
+use Rattle.tokens.proofs.Readable.{some-answer}
+use Rattle.tokens.proofs.Streams.{followed-append, token-followed, waiting-is}
 
 -- the first part of bytes that all pass
 all-left : (p : ℕ → Bool) (l m : List ℕ) → All p (l ++ m) → All p l
@@ -104,34 +101,96 @@ last-two n b v hn hb more (x ∷ []) e s =
 last-two n b [] hn hb more (x ∷ y ∷ r) e s = absurd (more refl)
 last-two n b (z ∷ v) hn hb more (x ∷ y ∷ r) e s = absurd (omega (arith, ap length e, length-append r (z ∷ v)))
 
--- A front under 32 bytes that begins a token begins one of at most 32 bytes.
-pub short : (f : List ℕ) (t : Tok) → Good t → Begins f (bytes t) → length f < 32 → Short f
-short f (ref x) ok b s = (ref x, ok, b, spelled-most x)
-short f (char c) ok b s = (char c, ok, b, omega (arith, utf8-most c))
-short [] (tag k n g) ok b s = short-none
+-- a reference by number: &, &#, and its digits so far
+short-amp : Short (38 ∷ [])
+short-amp = (ref lt, tt, (108 ∷ 116 ∷ 59 ∷ [], refl, cons≢[]), omega arith)
+
+short-hash : Short (38 ∷ 35 ∷ [])
+short-hash = (numeric decimal (57 ∷ []), ((refl, tt), inl refl), (57 ∷ 59 ∷ [], refl, cons≢[]), omega arith)
+
+-- digits that are cut off from ; are the first of them
+first-digits : (g ds v : List ℕ) → g ++ v ≡ ds ++ (59 ∷ []) → (v ≡ [] → ⊥) → (m : List ℕ) × (ds ≡ g ++ m)
+first-digits [] ds v e n = (ds, refl)
+first-digits (x ∷ g) [] v e n = absurd (n (nil-right g v (tail-eq-of-cons-eq e)))
+first-digits (x ∷ g) (y ∷ ds) v e n =
+    let (m, q) = first-digits g ds v (tail-eq-of-cons-eq e) n in
+    (m, ap₂ {A = ℕ} (λ z l. z ∷ l) (sym (head-eq-of-cons-eq e)) q)
+
+short-number : (k : Base) (g m : List ℕ) → Good (numeric k (g ++ m)) → length (38 ∷ 35 ∷ (mark k ++ g)) ≤ 29 → Short (38 ∷ 35 ∷ (mark k ++ g))
+short-number k g m ok s =
+    let n : ℕ = valueOf k g in
+    let (j, F, few) = some-fewest k n (at-most n (valueFrom (radix k) n m) (value-grows k n m) (char-most (subst (λ (x : ℕ). Char x) (value-append (radix k) 0 g m) (ok .1)))) in
+    let t : Tok = numeric k (g ++ F .digits) in
+    let w : List ℕ = F .digits ++ (59 ∷ []) in
+    let e : bytes t ≡ (38 ∷ 35 ∷ (mark k ++ g)) ++ w =
+    ap (λ (x : List ℕ). 38 ∷ 35 ∷ x) (ap (λ (x : List ℕ). mark k ++ x) (append-assoc g (F .digits) (59 ∷ [])) ∙ sym (append-assoc (mark k) g w)) in (
+      t,
+      (all-append (digitBelow (radix k)) g (F .digits) (all-left (digitBelow (radix k)) g m (ok .0)) (F .are-digits), subst (λ (x : ℕ). Char x) (sym (value-append (radix k) 0 g (F .digits))) (F .name-one)),
+      (w, e, λ z. omega (arith, ap length z, length-append (F .digits) (59 ∷ []))),
+      omega (arith, ap length e, length-append (38 ∷ 35 ∷ (mark k ++ g)) w, length-append (F .digits) (59 ∷ []), F .many, few, s),
+    )
+  where
+    at-most : (x y : ℕ) → x ≤ y → y ≤ 0x10FFFF → x ≤ 0x10FFFF
+    at-most x y a b = omega arith
+
+-- under 30 bytes a number can still come to 32; at 30 and 31 it may not
+number-short : (k : Base) (g m f : List ℕ) → Good (numeric k (g ++ m)) → 38 ∷ 35 ∷ (mark k ++ g) ≡ f → length f < 32 → Short f ⊎ CutNumber f
+number-short k g m f ok e s = go (decLt (length f) 30)
+  where
+    go : Dec (length f < 30) → Short f ⊎ CutNumber f
+    go (yes h) = inl (subst (λ (l : List ℕ). Short l) e (short-number k g m ok (omega (arith, ap length e))))
+    go (no h) = inr (record { opened = (mark k ++ g, sym e); long = which (decLt (length f) 31) })
+      where
+        which : Dec (length f < 31) → (length f ≡ 30) ⊎ (length f ≡ 31)
+        which (yes l) = inl (omega arith)
+        which (no l) = inr (omega arith)
+
+-- A front under 32 bytes that begins a token begins one of at most 32 bytes, or is a number cut off.
+pub short : (f : List ℕ) (t : Tok) → Good t → Begins f (bytes t) → length f < 32 → Short f ⊎ CutNumber f
+short f (ref x) ok b s = inl (ref x, ok, b, spelled-most x)
+short f (line crlf) ok b s = inl (line crlf, ok, b, omega arith)
+short f (line cr) ok b s = inl (line cr, ok, b, omega arith)
+short f (char c) ok b s = inl (char c, ok, b, omega (arith, utf8-most c))
+short [] (tag k n g) ok b s = inl short-none
 short (x ∷ f) (tag start n g) ok b s =
     let e = b .1 in
-    subst (λ (y : ℕ). Short (y ∷ f)) (head-eq-of-cons-eq e)
-    (short-tag start refl short-start (b .0) (62 ∷ []) (b .2) f n g (ok .0) (ok .1) (sym (tail-eq-of-cons-eq e)) s (last-one start refl n g (b .0) (ok .0) (ok .1) (b .2)))
+    inl (subst (λ (y : ℕ). Short (y ∷ f)) (head-eq-of-cons-eq e)
+    (short-tag start refl short-start (b .0) (62 ∷ []) (b .2) f n g (ok .0) (ok .1) (sym (tail-eq-of-cons-eq e)) s (last-one start refl n g (b .0) (ok .0) (ok .1) (b .2))))
 short (x ∷ f) (tag empty n g) ok b s =
     let e = b .1 in
-    subst (λ (y : ℕ). Short (y ∷ f)) (head-eq-of-cons-eq e)
-    (short-tag start refl short-start (b .0) (47 ∷ 62 ∷ []) (b .2) f n g (ok .0) (ok .1) (sym (tail-eq-of-cons-eq e)) s (last-two n g (b .0) (ok .0) (ok .1) (b .2)))
-short (x ∷ []) (tag end n g) ok b s = subst (λ (y : ℕ). Short (y ∷ [])) (head-eq-of-cons-eq (b .1)) short-start
+    inl (subst (λ (y : ℕ). Short (y ∷ f)) (head-eq-of-cons-eq e)
+    (short-tag start refl short-start (b .0) (47 ∷ 62 ∷ []) (b .2) f n g (ok .0) (ok .1) (sym (tail-eq-of-cons-eq e)) s (last-two n g (b .0) (ok .0) (ok .1) (b .2))))
+short (x ∷ []) (tag end n g) ok b s = inl (subst (λ (y : ℕ). Short (y ∷ [])) (head-eq-of-cons-eq (b .1)) short-start)
 short (x ∷ z ∷ f) (tag end n g) ok b s =
     let e = b .1 in
-    subst (λ (l : List ℕ). Short l) (ap₂ (λ (p q : ℕ). p ∷ q ∷ f) (head-eq-of-cons-eq e) (head-eq-of-cons-eq (tail-eq-of-cons-eq e)))
-    (short-tag end refl short-end (b .0) (62 ∷ []) (b .2) f n g (ok .0) (ok .1) (sym (tail-eq-of-cons-eq (tail-eq-of-cons-eq e))) s (last-one end refl n g (b .0) (ok .0) (ok .1) (b .2)))
+    inl (subst (λ (l : List ℕ). Short l) (ap₂ (λ (p q : ℕ). p ∷ q ∷ f) (head-eq-of-cons-eq e) (head-eq-of-cons-eq (tail-eq-of-cons-eq e)))
+    (short-tag end refl short-end (b .0) (62 ∷ []) (b .2) f n g (ok .0) (ok .1) (sym (tail-eq-of-cons-eq (tail-eq-of-cons-eq e))) s (last-one end refl n g (b .0) (ok .0) (ok .1) (b .2))))
+short [] (numeric k ds) ok b s = inl short-none
+short (x ∷ []) (numeric k ds) ok b s = inl (subst (λ (y : ℕ). Short (y ∷ [])) (head-eq-of-cons-eq (b .1)) short-amp)
+short (x ∷ y ∷ f) (numeric decimal ds) ok b s =
+    let e = b .1 in
+    let (m, q) = first-digits f ds (b .0) (sym (tail-eq-of-cons-eq (tail-eq-of-cons-eq e))) (b .2) in
+    number-short decimal f m (x ∷ y ∷ f) (subst (λ (l : List ℕ). Good (numeric decimal l)) q ok)
+    (ap₂ (λ (p q : ℕ). p ∷ q ∷ f) (head-eq-of-cons-eq e) (head-eq-of-cons-eq (tail-eq-of-cons-eq e))) s
+short (x ∷ y ∷ []) (numeric hex ds) ok b s =
+    let e = b .1 in
+    inl (subst (λ (l : List ℕ). Short l) (ap₂ (λ (p q : ℕ). p ∷ q ∷ []) (head-eq-of-cons-eq e) (head-eq-of-cons-eq (tail-eq-of-cons-eq e))) short-hash)
+short (x ∷ y ∷ z ∷ f) (numeric hex ds) ok b s =
+    let e = b .1 in
+    let e′ = tail-eq-of-cons-eq (tail-eq-of-cons-eq e) in
+    let (m, q) = first-digits f ds (b .0) (sym (tail-eq-of-cons-eq e′)) (b .2) in
+    number-short hex f m (x ∷ y ∷ z ∷ f) (subst (λ (l : List ℕ). Good (numeric hex l)) q ok)
+    (ap₂ (λ (p q : ℕ). p ∷ q ∷ 120 ∷ f) (head-eq-of-cons-eq e) (head-eq-of-cons-eq (tail-eq-of-cons-eq e)) ∙ ap (λ (p : ℕ). x ∷ y ∷ p ∷ f) (head-eq-of-cons-eq e′)) s
 
 pub begun-short : (f : List ℕ) (at : ℕ) → Means f at Begun → length f < 32
-begun-short f at m = omega (arith, begins-length f (bytes (m .0)) (m .2), m .3)
+begun-short f at m = omega (arith, begins-length f (bytes (m .1 .0)) (m .1 .2), m .1 .3)
 
-pub long-full : (f : List ℕ) (at : ℕ) → Means f at Long → 32 ≤ length f
+pub long-full : (f : List ℕ) (at : ℕ) → Means f at Long → (32 ≤ length f) ⊎ CutNumber f
 long-full f at m = go (decLt (length f) 32)
   where
-    go : Dec (length f < 32) → 32 ≤ length f
-    go (no h) = omega arith
-    go (yes h) = let w = short f (m .0 .0) (m .0 .1) (m .0 .2) h in absurd (omega (arith, w .3, m .1 (w .0) (w .1) (w .2)))
+    go : Dec (length f < 32) → (32 ≤ length f) ⊎ CutNumber f
+    go (no h) = inl (omega arith)
+    go (yes h) = ⊎-elim (λ w. absurd (omega (arith, w .3, m .2 (w .0) (w .1) (w .2)))) (λ w. inr w) (short f (m .1 .0) (m .1 .1) (m .1 .2) h)
 
 -- more bytes behind: the front goes on, unless it is full
 abbrev Further : List ℕ → List ℕ → ℕ → Type 0
@@ -171,54 +230,117 @@ front-more s r at = go (decLt (length s) at)
 begins-more : (f x w : List ℕ) → Begins (f ++ x) w → Begins f w
 begins-more f x w (v, e, n) = (x ++ v, e ∙ append-assoc f x v, λ z. n (nil-right x v z))
 
-not-apart : (f x w : List ℕ) → (Starts f w → ⊥) × (Begins f w → ⊥) → (Starts (f ++ x) w → ⊥) × (Begins (f ++ x) w → ⊥)
-not-apart f x w a = ((λ s. ⊎-elim (a .0) (a .1) (either f w x (s .0) (s .1))), (λ b. a .1 (begins-more f x w b)))
+-- a token that the longer front starts with or begins
+starts-more : (f x w : List ℕ) → Starts (f ++ x) w → Starts f w ⊎ Begins f w
+starts-more f x w s = either f w x (s .0) (s .1)
 
-means-more : (f x : List ℕ) (at : ℕ) (a : Answer) → (a ≡ Begun → ⊥) → (32 ≤ length f → x ≡ []) → Means f at a → Means (f ++ x) at a
-means-more f x at (Token e n) h k (t, ok, s, p, q) = (t, ok, (s .0 ++ x, ap (λ (l : List ℕ). l ++ x) (s .1) ∙ append-assoc (bytes t) (s .0) x), p, q)
-means-more f x at Begun h k m = absurd (h refl)
-means-more f x at Bad h k m = λ t ok. not-apart f x (bytes t) (m t ok)
-means-more f x at Long h k m = subst (λ (l : List ℕ). Means l at Long) (sym (append-nil f) ∙ ap (λ (l : List ℕ). f ++ l) (sym (k (long-full f at m)))) m
+token-more : (f x : List ℕ) (at : ℕ) (e : Event) (n : Cursor) → Means f at (Token e n) → Means (f ++ x) at (Token e n)
+token-more f x at e n m =
+    let L = m .0 in
+    let t : Tok = L .token in
+    let u : List ℕ = L .starts .0 in
+    let g = followed-append t u x (token-followed f at e n m t refl u (L .starts .1)) in
+    whole (f ++ x) at t (u ++ x) (L .good) (ap (λ (l : List ℕ). l ++ x) (L .starts .1) ∙ append-assoc (bytes t) u x) e n g (followed-ended t (u ++ x) g) (L .event) (L .ends)
 
--- An answer other than Begun stays as it is when more of the stream comes.
-pub stays : (s r : List ℕ) (at : ℕ) (a : Answer) → (a ≡ Begun → ⊥) → Means (front s at) at a → Means (front (s ++ r) at) at a
-stays s r at a n m =
-    let w = front-more s r at in
-    subst (λ (l : List ℕ). Means l at a) (sym (w .1)) (means-more (front s at) (w .0) at a n (w .2) m)
+bad-more : (f x : List ℕ) (at : ℕ) → Means f at Bad → Means (f ++ x) at Bad
+bad-more f x at m = (
+  λ t ok s. ⊎-elim (λ a. m .0 t ok a) (λ b. m .1 (t, ok, b)) (starts-more f x (bytes t) s),
+  λ (b : BeginsOne (f ++ x)). m .1 (b .0, b .1, begins-more f x (bytes (b .0)) (b .2)),
+)
 
+-- A whole token stays as it is when more of the stream comes, and so do bytes that begin none.
+module _ (s r : List ℕ) (at : ℕ) where
+  pub stays : (e : Event) (n : Cursor) → Means (front s at) at (Token e n) → Means (front (s ++ r) at) at (Token e n)
+  stays e n m = let w = front-more s r at in subst (λ (l : List ℕ). Means l at (Token e n)) (sym (w .1)) (token-more (front s at) (w .0) at e n m)
+
+  pub bad-stays : Means (front s at) at Bad → Means (front (s ++ r) at) at Bad
+  bad-stays m = let w = front-more s r at in subst (λ (l : List ℕ). Means l at Bad) (sym (w .1)) (bad-more (front s at) (w .0) at m)
+
+-- What waits settles with the next byte.
+pub waiting-settles : WaitingSettles
+waiting-settles f at e next m =
+    let w = waiting-is f at e next m in
+    record {
+      is-cr = w .1;
+      is-lf = w .2;
+      past-it = w .3;
+      with-lf = λ l. whole (13 ∷ 10 ∷ l) at (line crlf) l tt refl e (record { at = at + 2 }) tt tt (w .2) refl;
+      with-other = λ b l n. whole (13 ∷ b ∷ l) at (line cr) (b ∷ l) tt refl e next n n (w .2) (w .3);
+    }
+
+-- a front and a longer one
+module _ (f x : List ℕ) (at : ℕ) (full : 32 ≤ length f → x ≡ []) (most : length (f ++ x) ≤ 32) where
+  no-start : Means f at Long → (e : Event) (n : Cursor) → Longest (f ++ x) at e n → ⊥
+  no-start m e n L =
+      ⊎-elim (λ a. m .0 (L .token) (L .good) a)
+      (λ b. omega (arith, m .2 (L .token) (L .good) b, starts-length (f ++ x) (bytes (L .token)) (L .starts))) (starts-more f x (bytes (L .token)) (L .starts))
+
+  long-alike : Means f at Long → (later : Answer) → Means (f ++ x) at later → (later ≡ Long) ⊎ ((later ≡ Bad) × CutNumber f)
+  long-alike m (Token e n) m′ = absurd (no-start m e n (m′ .0))
+  long-alike m (Waiting e n) m′ = absurd (no-start m e n (m′ .0))
+  long-alike m Begun m′ = absurd (omega (arith, m′ .1 .3, m .2 (m′ .1 .0) (m′ .1 .1) (begins-more f x (bytes (m′ .1 .0)) (m′ .1 .2))))
+  long-alike m Bad m′ =
+      ⊎-elim (λ h. inl (one-answer f at Bad Long (subst (λ (l : List ℕ). Means l at Bad) (ap (λ (l : List ℕ). f ++ l) (full h) ∙ append-nil f) m′) m)) (λ c. inr (refl, c))
+      (long-full f at m)
+  long-alike m Long m′ = inl refl
+
+  waiting-alike : (e : Event) (n : Cursor) → Means f at (Waiting e n) → (later : Answer) → Means (f ++ x) at later
+      → (f ≡ 13 ∷ []) × ((later ≡ Waiting e n) ⊎ ((later ≡ Token e n) ⊎ (later ≡ Token e (record { at = n .at + 1 }))))
+  waiting-alike e n m later m′ =
+      let S = waiting-settles f at e n m in
+      (S .is-cr, by S x (subst (λ (l : List ℕ). Means (l ++ x) at later) (S .is-cr) m′))
+    where
+      by : Settles f at e n → (y : List ℕ) → Means (13 ∷ y) at later → (later ≡ Waiting e n) ⊎ ((later ≡ Token e n) ⊎ (later ≡ Token e (record { at = n .at + 1 })))
+      by S [] k = inl (one-answer (13 ∷ []) at later (Waiting e n) k (subst (λ (l : List ℕ). Means l at (Waiting e n)) (S .is-cr) m))
+      by S (b ∷ y) k = which (ℕ-discrete b 10)
+        where
+          which : Dec (b ≡ 10) → (later ≡ Waiting e n) ⊎ ((later ≡ Token e n) ⊎ (later ≡ Token e (record { at = n .at + 1 })))
+          which (yes h) =
+              let q : at + 2 ≡ n .at + 1 = omega (arith, S .past-it) in
+              inr (inr (one-answer (13 ∷ b ∷ y) at later (Token e (record { at = n .at + 1 })) k
+              (subst (λ (i : ℕ). Means (13 ∷ b ∷ y) at (Token e (record { at = i }))) q (subst (λ (z : ℕ). Means (13 ∷ z ∷ y) at (Token e (record { at = at + 2 }))) (sym h) (S .with-lf y)))))
+          which (no h) = inr (inl (one-answer (13 ∷ b ∷ y) at later (Token e n) k (S .with-other b y h)))
+
+  alike : (a later : Answer) → Means f at a → Means (f ++ x) at later → Alike f a later
+  alike (Token e n) later m m′ = one-answer (f ++ x) at later (Token e n) m′ (token-more f x at e n m)
+  alike (Waiting e n) later m m′ = waiting-alike e n m later m′
+  alike Begun later m m′ = tt
+  alike Bad later m m′ = one-answer (f ++ x) at later Bad m′ (bad-more f x at m)
+  alike Long later m m′ = long-alike m later m′
+
+-- what is read where more is to come, other than what is begun, is read of the stream; but for a number that is cut off
+pub read-stays : (more : Bool) (s r : List ℕ) (at : ℕ) (a : Answer) → (a ≡ Begun → ⊥) → ReadAs true s at a
+    → ReadAs more (s ++ r) at a ⊎ ((a ≡ Long) × ReadAs more (s ++ r) at Bad × CutNumber (front s at))
+read-stays more s r at a n (b, m, e) = by b m e
+  where
+    long-stays : Means (front s at) at Long → (later : Answer) × Means (front (s ++ r) at) at later → (later : Answer) × Means (front (s ++ r) at) at later × ((later ≡ Long) ⊎ ((later ≡ Bad) × CutNumber (front s at)))
+    long-stays k (later, m′) =
+        let w = front-more s r at in
+        let q : length (front s at ++ w .0) ≤ 32 = omega (arith, ap length (w .1), length-take 32 (drop at (s ++ r))) in
+        (later, m′, long-alike (front s at) (w .0) at (w .2) q k later (subst (λ (l : List ℕ). Means l at later) (w .1) m′))
+
+    by : (c : Answer) → Means (front s at) at c → a ≡ settled true c → ReadAs more (s ++ r) at a ⊎ ((a ≡ Long) × ReadAs more (s ++ r) at Bad × CutNumber (front s at))
+    by (Token e′ n′) k q = inl (Token e′ n′, stays s r at e′ n′ k, q)
+    by (Waiting e′ n′) k q = absurd (n q)
+    by Begun k q = absurd (n q)
+    by Bad k q = inl (Bad, bad-stays s r at k, q)
+    by Long k q =
+        let (later, m′, o) = long-stays k (some-answer (s ++ r) at) in
+        ⊎-elim (λ z. inl (Long, subst (λ (c : Answer). Means (front (s ++ r) at) at c) z m′, q))
+        (λ z. inr (q, (Bad, subst (λ (c : Answer). Means (front (s ++ r) at) at c) (z .0) m′, refl), z .1)) o
+
+-- The same for runs of tokens.
 token≢begun : (e : Event) (n : Cursor) → Token e n ≡ Begun → ⊥
 token≢begun e n p = let z : _≡_ {A = ℕ} 0 1 = cc in omega arith
 
-isBegun : (a : Answer) → (a ≡ Begun) ⊎ (a ≡ Begun → ⊥)
-isBegun (Token e n) = inr (token≢begun e n)
-isBegun Begun = inl refl
-isBegun Bad = inr (λ p. let z : _≡_ {A = ℕ} 0 1 = cc in omega arith)
-isBegun Long = inr (λ p. let z : _≡_ {A = ℕ} 0 1 = cc in omega arith)
+token≢long : (e : Event) (n : Cursor) → Token e n ≡ Long → ⊥
+token≢long e n p = let z : _≡_ {A = ℕ} 0 1 = cc in omega arith
 
--- A token that lies in a part whole is what is read of the part.
-pub whole-in-part : (s r : List ℕ) (at : ℕ) (e : Event) (n : Cursor) → Means (front (s ++ r) at) at (Token e n) → n .at ≤ length s → Means (front s at) at (Token e n)
-whole-in-part s r at e n (t, ok, v, p, q) h =
-    let w = front-more s r at in
-    let k : at ≤ length s = omega (arith, q) in
-    ⊎-elim (λ x. (t, ok, x, p, q))
-    (λ x.
-    absurd (omega (arith, q, begins-length (front s at) (bytes t) x, length-take 32 (drop at s), length-drop at s, ap length (v .1), length-append (bytes t) (v .0), length-take 32 (drop at (s ++ r)))))
-    (either (front s at) (bytes t) (w .0) (v .0) (sym (w .1) ∙ v .1))
-
--- The same for runs of tokens.
-pub reads-more : (s r : List ℕ) (at : ℕ) (es : List Event) (to : ℕ) → Reads s at es to → Reads (s ++ r) at es to
-reads-more s r at [] to w = w
-reads-more s r at (e ∷ es) to (next, m, w) =
-    (next, stays s r at (Token e (record { at = next })) (token≢begun e (record { at = next })) m, reads-more s r next es to w)
-
-reads-on : (s : List ℕ) (at : ℕ) (es : List Event) (to : ℕ) → Reads s at es to → at ≤ to
-reads-on s at [] to r = omega (arith, r)
-reads-on s at (e ∷ es) to (next, m, r) = omega (arith, m .4, reads-on s next es to r)
-
-pub reads-in-part : (s r : List ℕ) (at : ℕ) (es : List Event) (to : ℕ) → Reads (s ++ r) at es to → to ≤ length s → Reads s at es to
-reads-in-part s r at [] to w h = w
-reads-in-part s r at (e ∷ es) to (next, m, w) h =
-    (next, whole-in-part s r at e (record { at = next }) m (omega (arith, reads-on (s ++ r) next es to w)), reads-in-part s r next es to w h)
+pub reads-more : (more : Bool) (s r : List ℕ) (at : ℕ) (es : List Event) (to : ℕ) → Reads true s at es to → Reads more (s ++ r) at es to
+reads-more more s r at [] to w = w
+reads-more more s r at (e ∷ es) to (next, m, w) =
+    let n : Cursor = record { at = next } in
+    (next, ⊎-elim (λ x. x) (λ x. absurd (token≢long e n (x .0))) (read-stays more s r at (Token e n) (token≢begun e n) m), reads-more more s r next es to w)
 
 -- What stands in front of a part changes an answer's places only.
 moved-event : (n at : ℕ) (t : Tok) → movedEvent n (eventOf at t) ≡ eventOf (n + at) t
@@ -226,10 +348,24 @@ moved-event n at (tag start m b) = ap (λ (i : ℕ). Start i (length m)) (sym (a
 moved-event n at (tag end m b) = ap (λ (i : ℕ). End i (length m)) (sym (add-assoc n at 2))
 moved-event n at (tag empty m b) = ap (λ (i : ℕ). Empty i (length m)) (sym (add-assoc n at 1))
 moved-event n at (ref x) = refl
+moved-event n at (numeric k ds) = refl
+moved-event n at (line x) = refl
 moved-event n at (char c) = refl
 
+moved-longest : (f : List ℕ) (n at : ℕ) (e : Event) (next : Cursor) → Longest f at e next → Longest f (n + at) (movedEvent n e) (record { at = n + next .at })
+moved-longest f n at e next L =
+    record {
+      token = L .token;
+      good = L .good;
+      starts = L .starts;
+      event = ap (movedEvent n) (L .event) ∙ moved-event n at (L .token);
+      ends = omega (arith, L .ends);
+      longest = L .longest;
+    }
+
 moves : (f : List ℕ) (n at : ℕ) (a : Answer) → Means f at a → Means f (n + at) (moved n a)
-moves f n at (Token e next) (t, ok, s, p, q) = (t, ok, s, ap (movedEvent n) p ∙ moved-event n at t, omega (arith, q))
+moves f n at (Token e next) m = (moved-longest f n at e next (m .0), m .1)
+moves f n at (Waiting e next) m = (moved-longest f n at e next (m .0), m .1)
 moves f n at Begun m = m
 moves f n at Bad m = m
 moves f n at Long m = m
@@ -237,13 +373,11 @@ moves f n at Long m = m
 front-behind : (p s : List ℕ) (at : ℕ) → front (p ++ s) (length p + at) ≡ front s at
 front-behind p s at = ap (take 32) (sym (drop-drop at (length p) (p ++ s)) ∙ ap (drop at) (drop-append-seam p s))
 
--- How a stream is cut into parts changes nothing: what is read of a part s, with p before it and r still to come, is what is read of the
--- whole stream there, or it is Begun, and the caller presents the bytes again with more.
-pub in-parts : (p s r : List ℕ) (at : ℕ) (a a′ : Answer) → Means (front s at) at a → Means (front (p ++ (s ++ r)) (length p + at)) (length p + at) a′
-    → (a′ ≡ moved (length p) a) ⊎ (a ≡ Begun)
-in-parts p s r at a a′ m m′ =
-    ⊎-elim (λ e. inr e)
-    (λ e.
-    inl (one-answer (front (p ++ (s ++ r)) (length p + at)) (length p + at) a′ (moved (length p) a) m′
-    (subst (λ (l : List ℕ). Means l (length p + at) (moved (length p) a)) (sym (front-behind p (s ++ r) at)) (moves (front (s ++ r) at) (length p) at a (stays s r at a e m)))))
-    (isBegun a)
+-- How a stream is cut into parts changes nothing, but for the one number.
+pub in-parts : InParts
+in-parts p s r at a later m m′ =
+    let w = front-more s r at in
+    let i : ℕ = length p + at in
+    let q : length (front s at ++ w .0) ≤ 32 = omega (arith, ap length (w .1), length-take 32 (drop at (s ++ r))) in
+    alike (front s at) (w .0) i (w .2) q (moved (length p) a) later (moves (front s at) (length p) at a m)
+    (subst (λ (l : List ℕ). Means l i later) (front-behind p (s ++ r) at ∙ w .1) m′)

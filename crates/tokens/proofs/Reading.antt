@@ -16,13 +16,13 @@ use Rattle.text.specs.declared.Decoded.{Decoded}
 use Rattle.text.specs.Names.{nameFirst, nameByte, blank, All, Name}
 use Rattle.text.proofs.Shapes.{front1, front2, front3, none-left, lead, range, shape1, shape2, shape3, shape4, cons≢[]}
 use Rattle.tokens.specs.Inner.{Stops, Run, WordIs, cutAt}
-use Rattle.tokens.specs.Tokens.{Kind, start, end, empty, Ref, amp, lt, gt, apos, quot, Tok, tag, ref, char, Good, opens, closes, spelled, stands, bytes, tagEvent, Means, front}
+use Rattle.tokens.specs.Tokens.{Kind, start, end, empty, Ref, amp, lt, gt, apos, quot, crlf, cr, Tok, tag, ref, line, char, Good, opens, closes, spelled, stands, bytes, tagEvent, BeginsOne, Means, front}
 use Rattle.tokens.specs.declared.Word.{Word}
 use Rattle.tokens.specs.declared.Word.the-variants.{Whole, No}
 use Rattle.tokens.specs.declared.Event.the-variants.{Start, End, Empty, Character}
 use Rattle.tokens.specs.declared.Answer.{Answer}
-use Rattle.tokens.specs.declared.Answer.the-variants.{Token, Begun, Bad}
-use Rattle.tokens.proofs.Theory.{open-is, end-is, ref-is, char-is, char-head, none-of, no-open, no-end}
+use Rattle.tokens.specs.declared.Answer.the-variants.{Token, Waiting, Begun, Bad}
+use Rattle.tokens.proofs.Theory.{open-is, end-is, ref-is, char-is, char-head, none-of, no-open, no-end, whole, waits, begun, begins-only, no-line}
 
 -- `compare`: the first i bytes agree
 module _ (f w : List ℕ) (i : ℕ) (e : take i f ≡ take i w) where
@@ -48,15 +48,16 @@ begins-length f w (v, e, n) = go v e n
     go [] e n = absurd (n refl)
     go (x ∷ v) e n = omega (arith, ap length e, length-append f (x ∷ v))
 
--- `cut`: a front that begins a token one byte longer is begun, or over-long at 32 bytes
-pub cut-means : (f : List ℕ) (at : ℕ) (t : Tok) → Good t → Begins f (bytes t) → length (bytes t) ≡ length f + 1 → length f ≤ 32 → Means f at (cutAt (length f))
-cut-means f at t ok b l s = go (decLt (length f) 32)
+-- `cut`: a front that begins a token of n + 1 bytes, and none shorter, is begun, or over-long from n = 32 on
+pub cut-means : (f : List ℕ) (at : ℕ) (t : Tok) (n : ℕ) → Good t → (t ≡ line crlf → ⊥) → Begins f (bytes t) → length (bytes t) ≡ n + 1
+    → ((t′ : Tok) → Good t′ → Begins f (bytes t′) → n < length (bytes t′)) → Means f at (cutAt n)
+cut-means f at t n ok o b l s = go (decLt n 32)
   where
-    go : Dec (length f < 32) → Means f at (cutAt (length f))
-    go (yes h) = rw (lt-ltb (length f) 32 h) (t, ok, b, omega arith)
+    go : Dec (n < 32) → Means f at (cutAt n)
+    go (yes h) = rw (lt-ltb n 32 h) (begun f at t ok o b (omega arith))
     go (no h) =
-        let k : 32 ≤ length f = omega arith in
-        rw (le-ltb (length f) 32 k) ((t, ok, b), λ t′ ok′ b′. omega (arith, begins-length f (bytes t′) b′))
+        let k : 32 ≤ n = omega arith in
+        rw (le-ltb n 32 k) (begins-only f t ok o b, (t, ok, b), λ t′ ok′ b′. omega (arith, s t′ ok′ b′))
 
 -- a whole tag
 pub tag-length : (k : Kind) (n b : List ℕ) → length (bytes (tag k n b)) ≡ length (opens k) + (length n + (length b + length (closes k)))
@@ -70,15 +71,18 @@ pub tag-token : (k : Kind) (f n b r : List ℕ) (at len next : ℕ) → Name n �
     → len ≡ length n → next ≡ at + (length (opens k) + (length n + (length b + length (closes k))))
     → Means f at (Token (tagEvent k (at + length (opens k)) len) (record { at = next }))
 tag-token k f n b r at len next hn hb e l m =
-    (tag k n b, (hn, hb), (r, e ∙ regroup (opens k) n b (closes k) r), ap (tagEvent k (at + length (opens k))) l, m ∙ ap (λ (x : ℕ). at + x) (sym (tag-length k n b)))
+    whole f at (tag k n b) r (hn, hb) (e ∙ regroup (opens k) n b (closes k) r) (tagEvent k (at + length (opens k)) len) (record { at = next }) tt tt
+    (ap (tagEvent k (at + length (opens k))) l) (m ∙ ap (λ (x : ℕ). at + x) (sym (tag-length k n b)))
 
 -- a tag that is cut off one byte before its end
 pub tag-cut : (k : Kind) (f n b : List ℕ) (at : ℕ) → Name n → All blank b → bytes (tag k n b) ≡ f ++ (62 ∷ []) → length f ≤ 32 → Means f at (cutAt (length f))
-tag-cut k f n b at hn hb e s = cut-means f at (tag k n b) (hn, hb) (62 ∷ [], e, cons≢[]) (ap length e ∙ length-append f (62 ∷ [])) s
+tag-cut k f n b at hn hb e s =
+    cut-means f at (tag k n b) (length f) (hn, hb) (no-line (tag k n b) crlf refl) (62 ∷ [], e, cons≢[]) (ap length e ∙ length-append f (62 ∷ []))
+    (λ t′ ok′ b′. begins-length f (bytes t′) b′)
 
 -- a front that agrees with no token
 pub bad : (f : List ℕ) (at : ℕ) → ((t : Tok) → Good t → Apart f (bytes t)) → Means f at Bad
-bad f at a t ok = none-of f (bytes t) (a t ok)
+bad f at a = ((λ t ok s. none-of f (bytes t) (a t ok) .0 s), (λ (b : BeginsOne f). none-of f (bytes (b .0)) (a (b .0) (b .1)) .1 (b .2)))
 
 -- the parts of a tag that the functions found: the name from `from` to `to`, the white space up to `close`
 pub record Tag (f : List ℕ) (from to close : ℕ) : Type 0 where
@@ -123,10 +127,10 @@ module _ (f : List ℕ) (from to close : ℕ) (T : Tag f from to close) (h : clo
   rests-more = stops-append blank (drop close f) v (omega (arith, length-drop close f)) (T .rests)
 
 -- the bytes from `close` on
-at-one : (f : List ℕ) (i : ℕ) (x : ℕ) → i < length f → getD f i 0 ≡ x → drop i f ≡ x ∷ drop (i + 1) f
+pub at-one : (f : List ℕ) (i : ℕ) (x : ℕ) → i < length f → getD f i 0 ≡ x → drop i f ≡ x ∷ drop (i + 1) f
 at-one f i x h e = drop-cons f i 0 h ∙ ap₂ (λ (y j : ℕ). y ∷ drop j f) e (sym (add-one i))
 
-nothing-left : (f : List ℕ) (i : ℕ) → i ≡ length f → drop i f ≡ []
+pub nothing-left : (f : List ℕ) (i : ℕ) → i ≡ length f → drop i f ≡ []
 nothing-left f i e = drop-of-length-le f {i = i} (omega arith)
 
 -- f after <, a name and white space
@@ -216,24 +220,28 @@ end-none f at h e e′ k =
 pub begun-open : (f : List ℕ) (at : ℕ) → length f ≡ 1 → getD f 0 0 ≡ 60 → Means f at Begun
 begun-open f at l e =
     let s : f ≡ 60 ∷ [] = at-one f 0 60 (omega arith) e ∙ ap (λ (r : List ℕ). 60 ∷ r) (nothing-left f 1 (sym l)) in
-    (tag start (97 ∷ []) [], ((refl, tt), tt), (97 ∷ 62 ∷ [], ap (λ (r : List ℕ). r ++ (97 ∷ 62 ∷ [])) (sym s), cons≢[]), omega arith)
+    begun f at (tag start (97 ∷ []) []) ((refl, tt), tt) (no-line (tag start (97 ∷ []) []) crlf refl)
+    (97 ∷ 62 ∷ [], ap (λ (r : List ℕ). r ++ (97 ∷ 62 ∷ [])) (sym s), cons≢[]) (omega arith)
 
 pub begun-end : (f : List ℕ) (at : ℕ) → length f ≡ 2 → getD f 0 0 ≡ 60 → getD f 1 0 ≡ 47 → Means f at Begun
 begun-end f at l e e′ =
     let s : f ≡ 60 ∷ 47 ∷ [] = at-one f 0 60 (omega arith) e ∙ ap (λ (r : List ℕ). 60 ∷ r) (at-one f 1 47 (omega arith) e′ ∙ ap (λ (r : List ℕ). 47 ∷ r) (nothing-left f 2 (sym l))) in
-    (tag end (97 ∷ []) [], ((refl, tt), tt), (97 ∷ 62 ∷ [], ap (λ (r : List ℕ). r ++ (97 ∷ 62 ∷ [])) (sym s), cons≢[]), omega arith)
+    begun f at (tag end (97 ∷ []) []) ((refl, tt), tt) (no-line (tag end (97 ∷ []) []) crlf refl)
+    (97 ∷ 62 ∷ [], ap (λ (r : List ℕ). r ++ (97 ∷ 62 ∷ [])) (sym s), cons≢[]) (omega arith)
 
 -- what `cut` answers
-pub by-cut : (f : List ℕ) (at : ℕ) (r : Answer) → r ≡ cutAt (length f) → Means f at (cutAt (length f)) → Means f at r
-by-cut f at r e m = subst (λ (a : Answer). Means f at a) (sym e) m
+pub by-cut : (f : List ℕ) (at n : ℕ) (r : Answer) → r ≡ cutAt n → Means f at (cutAt n) → Means f at r
+by-cut f at n r e m = subst (λ (a : Answer). Means f at a) (sym e) m
 
 -- characters
-good-char : (x c : ℕ) (g u : List ℕ) → (x ≡ 60 → ⊥) → (x ≡ 38 → ⊥) → (x ≡ 62 → ⊥) → Char c → x ∷ g ≡ utf8 c ++ u → Good (char c)
-good-char x c g u h k l ok e =
-    ⊎-elim (λ w. (ok, (λ q. h (w .1 ∙ q)), (λ q. k (w .1 ∙ q)), (λ q. l (w .1 ∙ q))))
-    (⊎-elim (λ w. (ok, (λ q. omega arith), (λ q. omega arith), (λ q. omega arith)))
-    (⊎-elim (λ w. (ok, (λ q. omega arith), (λ q. omega arith), (λ q. omega arith))) (λ w. (ok, (λ q. omega arith), (λ q. omega arith), (λ q. omega arith)))))
+good-char : (x c : ℕ) (g u : List ℕ) → (x ≡ 60 → ⊥) → (x ≡ 38 → ⊥) → (x ≡ 62 → ⊥) → (x ≡ 13 → ⊥) → Char c → x ∷ g ≡ utf8 c ++ u → Good (char c)
+good-char x c g u h k l m ok e =
+    ⊎-elim (λ w. (ok, (λ q. h (w .1 ∙ q)), (λ q. k (w .1 ∙ q)), (λ q. l (w .1 ∙ q)), (λ q. m (w .1 ∙ q))))
+    (⊎-elim (λ w. high (omega (arith, w .0 .0))) (⊎-elim (λ w. high (omega (arith, w .0 .0))) (λ w. high (omega (arith, w .0)))))
     (lead x g c u e)
+  where
+    high : 0x80 ≤ c → Good (char c)
+    high w = (ok, (λ q. omega arith), (λ q. omega arith), (λ q. omega arith), (λ q. omega arith))
 
 pub utf8-most : (c : ℕ) → length (utf8 c) ≤ 4
 utf8-most c =
@@ -245,20 +253,23 @@ utf8-most c =
 pub whole-fits : (f : List ℕ) (c n : ℕ) → DecodedIs f (Decoded.Whole c n) → n ≤ length f
 whole-fits f c n d = omega (arith, d .2, ap length (d .1 .1), length-append (utf8 c) (d .1 .0))
 
-module _ (f : List ℕ) (at : ℕ) (h : 1 ≤ length f) (k : getD f 0 0 ≡ 60 → ⊥) (l : getD f 0 0 ≡ 38 → ⊥) (m : getD f 0 0 ≡ 62 → ⊥) where
-  pub char-token : (c n : ℕ) → DecodedIs f (Decoded.Whole c n) → Means f at (Token (Character c) (record { at = at + n }))
+module _ (f : List ℕ) (at : ℕ) (h : 1 ≤ length f) (k : getD f 0 0 ≡ 60 → ⊥) (l : getD f 0 0 ≡ 38 → ⊥) (m : getD f 0 0 ≡ 62 → ⊥) (o : getD f 0 0 ≡ 13 → ⊥) where
+  pub char-token : (c n : ℕ) → DecodedIs f (Decoded.Whole c n) → Means f at (Token (Character c true) (record { at = at + n }))
   char-token c n d =
-      (char c, good-char (getD f 0 0) c (drop 1 f) (d .1 .0) k l m (d .0) (sym (front1 f h) ∙ d .1 .1), d .1, refl, ap (λ (x : ℕ). at + x) (d .2))
+      whole f at (char c) (d .1 .0) (good-char (getD f 0 0) c (drop 1 f) (d .1 .0) k l m o (d .0) (sym (front1 f h) ∙ d .1 .1)) (d .1 .1)
+      (Character c true) (record { at = at + n }) tt tt refl (ap (λ (x : ℕ). at + x) (d .2))
 
   pub char-begun : DecodedIs f Decoded.Begun → Means f at Begun
   char-begun d =
-      (char (d .0), good-char (getD f 0 0) (d .0) (drop 1 f ++ d .2 .0) [] k l m (d .1) (ap (λ (r : List ℕ). r ++ d .2 .0) (sym (front1 f h)) ∙ sym (d .2 .1) ∙ sym (append-nil (utf8 (d .0)))), d .2, omega (arith, utf8-most (d .0)))
+      begun f at (char (d .0))
+      (good-char (getD f 0 0) (d .0) (drop 1 f ++ d .2 .0) [] k l m o (d .1) (ap (λ (r : List ℕ). r ++ d .2 .0) (sym (front1 f h)) ∙ sym (d .2 .1) ∙ sym (append-nil (utf8 (d .0)))))
+      (no-line (char (d .0)) crlf refl) (d .2) (omega (arith, utf8-most (d .0)))
 
   pub char-bad : DecodedIs f Decoded.Bad → Means f at Bad
   char-bad d =
       bad f at
       (λ t ok v u e.
-      let w = char-is (getD f 0 0) (drop 1 f ++ v) k l t ok u (ap (λ (r : List ℕ). r ++ v) (sym (front1 f h)) ∙ e) in
+      let w = char-is (getD f 0 0) (drop 1 f ++ v) k l o t ok u (ap (λ (r : List ℕ). r ++ v) (sym (front1 f h)) ∙ e) in
       d (w .0) (w .2 .0) v u (ap (λ (r : List ℕ). r ++ v) (front1 f h) ∙ w .3))
 
 -- a > by itself
@@ -266,13 +277,28 @@ pub greater-bad : (f : List ℕ) (at : ℕ) → 1 ≤ length f → getD f 0 0 �
 greater-bad f at h e =
     bad f at
     (λ t ok v u q.
-    let w = char-is 62 (drop 1 f ++ v) (λ z. omega arith) (λ z. omega arith) t ok u (ap (λ (r : List ℕ). r ++ v) (sym (front1 f h ∙ ap (λ (x : ℕ). x ∷ drop 1 f) e)) ∙ q) in
+    let w = char-is 62 (drop 1 f ++ v) (λ z. omega arith) (λ z. omega arith) (λ z. omega arith) t ok u (ap (λ (r : List ℕ). r ++ v) (sym (front1 f h ∙ ap (λ (x : ℕ). x ∷ drop 1 f) e)) ∙ q) in
     char-head (w .0) 62 (drop 1 f ++ v) u (w .2) (w .3) .2 refl)
 
 -- nothing at all begins any token
 pub begun-none : (f : List ℕ) (at : ℕ) → length f ≡ 0 → Means f at Begun
 begun-none f at e =
-    (tag start (97 ∷ []) [], ((refl, tt), tt), (60 ∷ 97 ∷ 62 ∷ [], ap (λ (r : List ℕ). r ++ (60 ∷ 97 ∷ 62 ∷ [])) (sym (none-left f e)), cons≢[]), omega arith)
+    begun f at (tag start (97 ∷ []) []) ((refl, tt), tt) (no-line (tag start (97 ∷ []) []) crlf refl)
+    (60 ∷ 97 ∷ 62 ∷ [], ap (λ (r : List ℕ). r ++ (60 ∷ 97 ∷ 62 ∷ [])) (sym (none-left f e)), cons≢[]) (omega arith)
+
+-- line ends
+module _ (f : List ℕ) (at : ℕ) (h : 1 ≤ length f) (zero-is : getD f 0 0 ≡ 13) where
+  pub cr-waits : length f ≡ 1 → Means f at (Waiting (Character 10 true) (record { at = at + 1 }))
+  cr-waits l = waits f at (at-one f 0 13 (omega arith) zero-is ∙ ap (λ (r : List ℕ). 13 ∷ r) (nothing-left f 1 (sym l)))
+
+  pub cr-lf : 2 ≤ length f → getD f 1 0 ≡ 10 → Means f at (Token (Character 10 true) (record { at = at + 2 }))
+  cr-lf l e =
+      whole f at (line crlf) (drop 2 f) tt (front2 f l ∙ ap₂ (λ (x y : ℕ). x ∷ y ∷ drop 2 f) zero-is e) (Character 10 true) (record { at = at + 2 }) tt tt refl refl
+
+  pub cr-alone : 2 ≤ length f → (getD f 1 0 ≡ 10 → ⊥) → Means f at (Token (Character 10 true) (record { at = at + 1 }))
+  cr-alone l n =
+      whole f at (line cr) (getD f 1 0 ∷ drop 2 f) tt (front2 f l ∙ ap (λ (x : ℕ). x ∷ getD f 1 0 ∷ drop 2 f) zero-is)
+      (Character 10 true) (record { at = at + 1 }) n n refl refl
 
 -- references
 pub starts-length : (f w : List ℕ) → Starts f w → length w ≤ length f
@@ -293,22 +319,30 @@ module _ (f : List ℕ) (at : ℕ) (x : Ref) (r : Word) (h : WordIs f (spelled x
   pub ref-fits : r ≡ Whole → length (spelled x) ≤ length f
   ref-fits e = starts-length f (spelled x) (ref-is-whole e)
 
-  pub ref-token : r ≡ Whole → Means f at (Token (Character (stands x)) (record { at = at + length (spelled x) }))
-  ref-token e = (ref x, tt, ref-is-whole e, refl, refl)
+  pub ref-token : r ≡ Whole → Means f at (Token (Character (stands x) false) (record { at = at + length (spelled x) }))
+  ref-token e =
+      let w = ref-is-whole e in
+      whole f at (ref x) (w .0) tt (w .1) (Character (stands x) false) (record { at = at + length (spelled x) }) tt tt refl refl
 
   pub ref-begun : r ≡ Word.Begun → Means f at Begun
-  ref-begun e = (ref x, tt, subst (λ (w : Word). WordIs f (spelled x) w) e h, spelled-most x)
+  ref-begun e = begun f at (ref x) tt (no-line (ref x) crlf refl) (subst (λ (w : Word). WordIs f (spelled x) w) e h) (spelled-most x)
 
   pub ref-apart : r ≡ No → Apart f (spelled x)
   ref-apart e = subst (λ (w : Word). WordIs f (spelled x) w) e h
 
-pub ref-bad : (f : List ℕ) (at : ℕ) → 1 ≤ length f → getD f 0 0 ≡ 38 → ((x : Ref) → Apart f (spelled x)) → Means f at Bad
-ref-bad f at h e a =
+pub ref-bad : (f : List ℕ) (at : ℕ) → 2 ≤ length f → getD f 0 0 ≡ 38 → (getD f 1 0 ≡ 35 → ⊥) → ((x : Ref) → Apart f (spelled x)) → Means f at Bad
+ref-bad f at h e n a =
     bad f at
     (λ t ok v u q.
-    let s : f ≡ 38 ∷ drop 1 f = front1 f h ∙ ap (λ (x : ℕ). x ∷ drop 1 f) e in
-    let w = ref-is (drop 1 f ++ v) t ok u (ap (λ (r : List ℕ). r ++ v) (sym s) ∙ q) in
+    let s : f ≡ 38 ∷ getD f 1 0 ∷ drop 2 f = front2 f h ∙ ap (λ (x : ℕ). x ∷ getD f 1 0 ∷ drop 2 f) e in
+    let w = ref-is (getD f 1 0) (drop 2 f ++ v) n t ok u (ap (λ (r : List ℕ). r ++ v) (sym s) ∙ q) in
     a (w .0) v u (ap (λ (r : List ℕ). r ++ v) s ∙ w .2))
+
+-- & alone
+pub begun-amp : (f : List ℕ) (at : ℕ) → length f ≡ 1 → getD f 0 0 ≡ 38 → Means f at Begun
+begun-amp f at l e =
+    let s : f ≡ 38 ∷ [] = at-one f 0 38 (omega arith) e ∙ ap (λ (r : List ℕ). 38 ∷ r) (nothing-left f 1 (sym l)) in
+    begun f at (ref lt) tt (no-line (ref lt) crlf refl) (108 ∷ 116 ∷ 59 ∷ [], ap (λ (r : List ℕ). r ++ (108 ∷ 116 ∷ 59 ∷ [])) (sym s), cons≢[]) (omega arith)
 
 -- past the end the front is empty
 pub begun-past : (s : List ℕ) (at : ℕ) → length s < at → Means (front s at) at Begun

@@ -21,9 +21,13 @@ pub record Going (p : ℕ → Bool) (f : List ℕ) (at i : ℕ) : Type 0 where
   pub count : at + length run ≡ i
   pub within : i ≤ length f
 
-all-snoc : (p : ℕ → Bool) (x : ℕ) (l : List ℕ) → All p l → p x ≡ true → All p (l ++ (x ∷ []))
+pub all-snoc : (p : ℕ → Bool) (x : ℕ) (l : List ℕ) → All p l → p x ≡ true → All p (l ++ (x ∷ []))
 all-snoc p x [] a h = (h, tt)
 all-snoc p x (y ∷ l) a h = (a .0, all-snoc p x l (a .1) h)
+
+pub all-append : (p : ℕ → Bool) (l m : List ℕ) → All p l → All p m → All p (l ++ m)
+all-append p [] m a b = b
+all-append p (x ∷ l) m a b = (a .0, all-append p l m (a .1) b)
 
 module _ (p : ℕ → Bool) (f : List ℕ) (at : ℕ) where
   pub going-none : at ≤ length f → Going p f at at

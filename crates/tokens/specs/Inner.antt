@@ -1,13 +1,15 @@
--- What the reader's inner functions answer: runs of bytes that pass a test, words, and a tag that is cut off. Definitions.
+-- What the reader's inner functions answer: runs of bytes that pass a test, words, digits, and a token that is cut off. Definitions.
 -- Assumes nothing.
 use Prim.Native.Nat.{ℕ, _+_, _≤_, _<_, _^_}
 use mathlib.Core.Path.{_≡_}
 use mathlib.Core.Bool.{Bool, true, false}
 use mathlib.Core.List.{List, [], _∷_, _++_}
-use lib.ListN.{length, drop}
+use lib.ListN.{length, getD, drop}
 use lib.Dec.{ltb}
-use Rattle.text.specs.Chars.{Starts, Begins, Apart}
+use Rattle.text.specs.Chars.{Char, Starts, Begins, Apart}
 use Rattle.text.specs.Names.{All}
+use Rattle.text.specs.Numerals.{Base, decimal, radix, digitBelow, valueFrom}
+use Rattle.tokens.specs.Tokens.{mark}
 use Rattle.tokens.specs.declared.Word.{Word}
 use Rattle.tokens.specs.declared.Word.the-variants.{Whole, No}
 use Rattle.tokens.specs.declared.Answer.{Answer}
@@ -42,6 +44,22 @@ abbrev pub pickAnswer : Bool → Answer → Answer → Answer
 pickAnswer true a b = a
 pickAnswer false a b = b
 
--- what a front of n bytes is that a tag was cut off from
+-- what a front is that a token was cut off from, where the shortest such token has n bytes and one more
 abbrev pub cutAt : ℕ → Answer
 cutAt n = pickAnswer (ltb n 32) Answer.Begun Long
+
+-- f starts with what opens a reference by number, its digits are of the base r, and they come next, from `from` on
+pub record Opened (f : List ℕ) (from r : ℕ) : Type 0 where
+  pub base : Base
+  pub radix-is : r ≡ radix base
+  pub place : from ≡ 2 + length (mark base)
+  pub opened : f ≡ 38 ∷ 35 ∷ (mark base ++ drop from f)
+  pub no-mark : base ≡ decimal → (from < length f) × (getD f from 0 ≡ 120 → ⊥)
+
+-- the fewest digits that, after those which name n, come to a number of Char, are k
+pub record Fewest (r n k : ℕ) : Type 0 where
+  pub digits : List ℕ
+  pub are-digits : All (digitBelow r) digits
+  pub name-one : Char (valueFrom r n digits)
+  pub many : length digits ≡ k
+  pub fewest : (ds : List ℕ) → All (digitBelow r) ds → Char (valueFrom r n ds) → k ≤ length ds

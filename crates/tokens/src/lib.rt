@@ -1,10 +1,11 @@
 // The stream's token reader: what stands at a cursor, in the next bytes, 32 at most.
 ghost use mathlib.Core.Path.{_≡_};
+ghost use mathlib.Core.Logic.{_⊎_};
 ghost use Prim.Native.Nat.{_≤_};
 ghost use lib.ListN.{length, getD};
 ghost use Rattle.text.specs.Names.{nameByte, blank};
 ghost use Rattle.tokens.specs.Tokens.{Means, front};
-ghost use Rattle.tokens.specs.Inner.{Front, Run, WordIs, cutAt};
+ghost use Rattle.tokens.specs.Inner.{Front, Run, WordIs, cutAt, Opened, Fewest};
 
 // A place in a stream.
 pub struct Cursor {
@@ -16,13 +17,16 @@ pub enum Event {
     Start { from: usize, len: usize },
     End { from: usize, len: usize },
     Empty { from: usize, len: usize },
-    Character(u32),
+    // Its code, and whether it is literal: not by a reference.
+    Character(u32, bool),
 }
 
 // What stands at a cursor.
 pub enum Answer {
     // A token, and the cursor past it.
     Token(Event, Cursor),
+    // A token if nothing follows: a carriage return that is the last byte there is.
+    Waiting(Event, Cursor),
     // A token that is only begun.
     Begun,
     // No token, whole or begun.
@@ -67,7 +71,16 @@ fn read_front(f: &[u8], at: usize) -> Answer
         return open_tag(f, at);
     }
     if b == 38 {
+        if f.len() == 1 {
+            return Answer::Begun;
+        }
+        if f[1] == 35 {
+            return numeric(f, at);
+        }
         return reference(f, at);
+    }
+    if b == 13 {
+        return line_end(f, at);
     }
     if b == 62 {
         return Answer::Bad;
@@ -85,7 +98,7 @@ fn open_tag(f: &[u8], at: usize) -> Answer
         let to = name_end(f, 2);
         let close = blank_end(f, to);
         if close == f.len() {
-            return cut(f);
+            return cut(f.len());
         }
         let from = at + 1;
         let len = to - 1;
@@ -95,7 +108,7 @@ fn open_tag(f: &[u8], at: usize) -> Answer
         }
         if b == 47 {
             if close + 1 == f.len() {
-                return cut(f);
+                return cut(f.len());
             }
             if f[close + 1] == 62 {
                 return Answer::Token(Event::Empty { from, len }, Cursor { at: at + close + 2 });
@@ -119,7 +132,7 @@ fn end_tag(f: &[u8], at: usize) -> Answer
         let to = name_end(f, 3);
         let close = blank_end(f, to);
         if close == f.len() {
-            return cut(f);
+            return cut(f.len());
         }
         let from = at + 2;
         let len = to - 2;
@@ -131,11 +144,11 @@ fn end_tag(f: &[u8], at: usize) -> Answer
     Answer::Bad
 }
 
-// A tag that f was cut off from: begun, unless all that f begins is too long.
-fn cut(f: &[u8]) -> Answer
-    ensures { λ r. ⌜ r ≡ cutAt (length (now (f .entry))) ⌝ }
+// A token that a front was cut off from, the shortest having `len` bytes and one more: begun, unless that is too long.
+fn cut(len: usize) -> Answer
+    ensures { λ r. ⌜ r ≡ cutAt len ⌝ }
 {
-    if f.len() < 32 {
+    if len < 32 {
         Answer::Begun
     } else {
         Answer::Long
@@ -174,38 +187,115 @@ fn blank_end(f: &[u8], from: usize) -> usize
     i
 }
 
-// A reference: f starts with &.
+// A reference by name: f starts with &, and no # follows.
 fn reference(f: &[u8], at: usize) -> Answer
     requires { ⌜ Front (now f) at ⌝ }
-    requires { ⌜ (1 ≤ length (now f)) × (getD (now f) 0 0 ≡ 38) ⌝ }
+    requires { ⌜ (2 ≤ length (now f)) × (getD (now f) 0 0 ≡ 38) × (getD (now f) 1 0 ≡ 35 → ⊥) ⌝ }
     ensures { λ r. ⌜ Means (now (f .entry)) at r ⌝ }
 {
     match compare(f, b"&amp;") {
-        Word::Whole => return Answer::Token(Event::Character(38), Cursor { at: at + 5 }),
+        Word::Whole => return Answer::Token(Event::Character(38, false), Cursor { at: at + 5 }),
         Word::Begun => return Answer::Begun,
         Word::No => {}
     }
     match compare(f, b"&lt;") {
-        Word::Whole => return Answer::Token(Event::Character(60), Cursor { at: at + 4 }),
+        Word::Whole => return Answer::Token(Event::Character(60, false), Cursor { at: at + 4 }),
         Word::Begun => return Answer::Begun,
         Word::No => {}
     }
     match compare(f, b"&gt;") {
-        Word::Whole => return Answer::Token(Event::Character(62), Cursor { at: at + 4 }),
+        Word::Whole => return Answer::Token(Event::Character(62, false), Cursor { at: at + 4 }),
         Word::Begun => return Answer::Begun,
         Word::No => {}
     }
     match compare(f, b"&apos;") {
-        Word::Whole => return Answer::Token(Event::Character(39), Cursor { at: at + 6 }),
+        Word::Whole => return Answer::Token(Event::Character(39, false), Cursor { at: at + 6 }),
         Word::Begun => return Answer::Begun,
         Word::No => {}
     }
     match compare(f, b"&quot;") {
-        Word::Whole => return Answer::Token(Event::Character(34), Cursor { at: at + 6 }),
+        Word::Whole => return Answer::Token(Event::Character(34, false), Cursor { at: at + 6 }),
         Word::Begun => return Answer::Begun,
         Word::No => {}
     }
     Answer::Bad
+}
+
+// A reference by number: f starts with &#.
+fn numeric(f: &[u8], at: usize) -> Answer
+    requires { ⌜ Front (now f) at ⌝ }
+    requires { ⌜ (2 ≤ length (now f)) × (getD (now f) 0 0 ≡ 38) × (getD (now f) 1 0 ≡ 35) ⌝ }
+    ensures { λ r. ⌜ Means (now (f .entry)) at r ⌝ }
+{
+    if f.len() == 2 {
+        return Answer::Begun;
+    }
+    if f[2] == 120 {
+        return number(f, at, 3, 16);
+    }
+    number(f, at, 2, 10)
+}
+
+// Its digits, from `from` on, up to ; or to the end of f. A number past the last character is none at once: it would only grow, and in the end wrap.
+fn number(f: &[u8], at: usize, from: usize, radix: u32) -> Answer
+    requires { ⌜ Front (now f) at ⌝ }
+    requires { ⌜ Opened (now f) from radix ⌝ }
+    ensures { λ r. ⌜ Means (now (f .entry)) at r ⌝ }
+{
+    let mut i = from;
+    let mut n = 0;
+    while i < f.len() {
+        let b = f[i];
+        if b == 59 {
+            if text::is_char(n) {
+                return Answer::Token(Event::Character(n, false), Cursor { at: at + i + 1 });
+            }
+            return Answer::Bad;
+        }
+        let d = text::digit(b);
+        if radix <= d {
+            return Answer::Bad;
+        }
+        n = n * radix + d;
+        if 1114111 < n {
+            return Answer::Bad;
+        }
+        i += 1;
+    }
+    cut(f.len() + wanted(n, radix))
+}
+
+// The fewest digits that come to a character after those which name n.
+fn wanted(n: u32, radix: u32) -> usize
+    requires { ⌜ (n ≤ 0x10FFFF) × ((radix ≡ 10) ⊎ (radix ≡ 16)) ⌝ }
+    ensures { λ r. ⌜ Fewest radix n r ⌝ }
+{
+    if text::is_char(n) {
+        return 0;
+    }
+    // All that one digit more comes to lies between carriage return and space.
+    let low = n * radix;
+    if 13 < low {
+        if low + radix <= 32 {
+            return 2;
+        }
+    }
+    1
+}
+
+// A line end: f starts with carriage return.
+fn line_end(f: &[u8], at: usize) -> Answer
+    requires { ⌜ Front (now f) at ⌝ }
+    requires { ⌜ (1 ≤ length (now f)) × (getD (now f) 0 0 ≡ 13) ⌝ }
+    ensures { λ r. ⌜ Means (now (f .entry)) at r ⌝ }
+{
+    if f.len() == 1 {
+        return Answer::Waiting(Event::Character(10, true), Cursor { at: at + 1 });
+    }
+    if f[1] == 10 {
+        return Answer::Token(Event::Character(10, true), Cursor { at: at + 2 });
+    }
+    Answer::Token(Event::Character(10, true), Cursor { at: at + 1 })
 }
 
 // How a word compares with what f starts with.
@@ -235,14 +325,17 @@ fn compare(f: &[u8], w: &[u8]) -> Word
     Word::Whole
 }
 
-// A character: f starts with none of < & >.
+// A character: f starts with none of < & > and carriage return.
 fn character(f: &[u8], at: usize) -> Answer
     requires { ⌜ Front (now f) at ⌝ }
-    requires { ⌜ (1 ≤ length (now f)) × (getD (now f) 0 0 ≡ 60 → ⊥) × (getD (now f) 0 0 ≡ 38 → ⊥) × (getD (now f) 0 0 ≡ 62 → ⊥) ⌝ }
+    requires { ⌜ (1 ≤ length (now f)) × (getD (now f) 0 0 ≡ 60 → ⊥) × (getD (now f) 0 0 ≡ 38 → ⊥) × (getD (now f) 0 0 ≡ 62 → ⊥) × (getD (now f) 0 0 ≡ 13 → ⊥) ⌝ }
     ensures { λ r. ⌜ Means (now (f .entry)) at r ⌝ }
 {
     match text::decode(f) {
-        text::Decoded::Whole(c, n) => Answer::Token(Event::Character(c), Cursor { at: at + n }),
+        text::Decoded::Whole(c, n) => Answer::Token(
+            Event::Character(c, true),
+            Cursor { at: at + n },
+        ),
         text::Decoded::Begun => Answer::Begun,
         text::Decoded::Bad => Answer::Bad,
     }

@@ -16,12 +16,12 @@ use Rattle.text.specs.Chars.{pick, utf8, Starts, DecodedIs}
 use Rattle.text.specs.Characters.{utf8s, WholeCharacters}
 use Rattle.text.specs.declared.Decoded.the-variants.{Whole}
 use Rattle.text.proofs.Shapes.{Range, range, shape1, shape2, shape3, shape4}
-use Rattle.tokens.specs.Tokens.{spelled, amp, lt, gt}
+use Rattle.tokens.specs.Tokens.{spelled, amp, lt, gt, bytes}
 use Rattle.programs.specs.Program.{Statement, become, copy, recall, reject, print-start, print-end, print-text, echo, branch, statementBytes, conditionBytes, programBytes}
 use Rattle.programs.specs.Limits.{Printable}
 use Rattle.programs.proofs.Characters.{tail, step-on}
 use Rattle.programs.proofs.Reading.{behind, byte-of, first-byte, starts-length}
-use Rattle.output.specs.Escape.{escaped, render, text, startTag, endTag}
+use Rattle.output.specs.Escape.{crByNumber, escaped, render, text, startTag, endTag}
 use Rattle.runs.specs.Characters.{charactersOf}
 use Rattle.runs.specs.Execute.{Effect, nameOf, executeOne}
 use Rattle.runs.proofs.Characters.{characters-of}
@@ -46,9 +46,11 @@ utf8-short c = go (range c)
 pub escaped-short : (c : ℕ) → length (escaped c) ≤ 5
 unfolding escaped
 escaped-short c =
-    pick-short (eqb c 38) (spelled amp) (pick (eqb c 60) (spelled lt) (pick (eqb c 62) (spelled gt) (utf8 c))) (omega arith)
-    (pick-short (eqb c 60) (spelled lt) (pick (eqb c 62) (spelled gt) (utf8 c)) (omega arith)
-    (pick-short (eqb c 62) (spelled gt) (utf8 c) (omega arith) (utf8-short c)))
+    let cr : List ℕ = pick (eqb c 13) (bytes crByNumber) (utf8 c) in
+    pick-short (eqb c 38) (spelled amp) (pick (eqb c 60) (spelled lt) (pick (eqb c 62) (spelled gt) cr)) (omega arith)
+    (pick-short (eqb c 60) (spelled lt) (pick (eqb c 62) (spelled gt) cr) (omega arith)
+    (pick-short (eqb c 62) (spelled gt) cr (omega arith)
+    (pick-short (eqb c 13) (bytes crByNumber) (utf8 c) (omega arith) (utf8-short c))))
 
 -- ---- text, one character from the front
 pub one-more : (f : List ℕ) (i c k : ℕ) → DecodedIs (take (length f - i) (drop i f)) (Whole c k) → WholeCharacters (drop i f)

@@ -43,10 +43,10 @@ fn say_of_sheet(number: usize) {
 fn say_of_token(number: usize) {
     match number {
         20 => say(
-            b"What stands there is no tag and no text: a bare & or < or >, bytes that are no UTF-8, a control character, or markup that schedules do not have (tag attributes, comments, declarations, CDATA, numbered references). Take it out, or write it as text: & is &amp; and < is &lt; and > is &gt;",
+            b"What stands there is no tag and no text: a bare & or < or >, bytes that are no UTF-8, a control character, a reference by a number that is no character's, or markup that schedules do not have (tag attributes, comments, declarations, CDATA). Take it out, or write it as text: & is &amp; and < is &lt; and > is &gt;",
         ),
         21 => say(
-            b"A tag is longer than 32 bytes, the white space in it counted. Look for a > that is missing, or shorten the tag.",
+            b"A tag or a reference is longer than 32 bytes, white space and zeros counted. Look for a > or a ; that is missing, or shorten it.",
         ),
         22 => say(
             b"An end tag is not that of the innermost open element. Close that element first, or take this end tag out.",

@@ -8,7 +8,7 @@ use Prim.Native.Nat.{ℕ, _≤_}
 use native.Mathlib.Omega.{arith}
 use lib.ListN.{length}
 use Rattle.tokens.specs.Tokens.{start, end, empty, Tok, tag, Good, bytes}
-use Rattle.tokens.specs.Stream.{flat, AllGood, AllShort}
+use Rattle.tokens.specs.Stream.{flat, AllGood, AllShort, Followed, AllWhole}
 use Rattle.sheet.specs.Sheet.{Sheet}
 use Rattle.output.specs.Escape.{render}
 use Rattle.runs.specs.Visits.{Env, mostVisits}
@@ -29,6 +29,7 @@ pub record TakenWhole (a : Sheet) (s o : List ℕ) (n : ℕ) : Type 0 where
   pub tokens : List Tok
   pub good : AllGood tokens
   pub short : AllShort tokens
+  pub whole : AllWhole false tokens []
   pub are-bytes : s ≡ flat tokens
   pub value : Env
   pub runs : of-tokens (runTokens a fresh-state (tokensFor a tokens)) ≡ some value
@@ -43,6 +44,7 @@ taken-whole a ok s o n t = (
     tokens = t .tokens;
     good = t .good;
     short = t .short;
+    whole = t .whole;
     are-bytes = t .are-bytes;
     spells = spelled-iff a ok (tokensFor a (t .tokens)) (t .value) .0 (tokens-are (runTokens a fresh-state (tokensFor a (t .tokens))) (t .value) (t .runs));
     counts = omega (arith, t .visits, t .few);
@@ -60,6 +62,8 @@ pub record RefusedAt (a : Sheet) (s : List ℕ) (k at : ℕ) (o : List ℕ) : Ty
   pub short : AllShort tokens
   pub next-good : Good next
   pub next-short : length (bytes next) ≤ 32
+  pub whole : AllWhole false tokens (bytes next ++ rest)
+  pub next-whole : Followed false next rest
   pub are-bytes : s ≡ flat tokens ++ (bytes next ++ rest)
   pub place : length (flat tokens) ≡ at
   pub state : State
@@ -70,7 +74,7 @@ pub record RefusedAt (a : Sheet) (s : List ℕ) (k at : ℕ) (o : List ℕ) : Ty
 
 pub refused-at : (a : Sheet) → Passed a → (s : List ℕ) (k at : ℕ) (o : List ℕ) → RefusedAt a s k at o → (n : ℕ) × ((room : ℕ) → length o ≤ room → Explained a s false room k at o n)
 refused-at a ok s k at o t =
-    (t .state .store .env .count, λ room f. halt-explained a ok s false room k at o (t .tokens) (t .good, t .short) (t .next) (t .rest) (record { good = t .next-good; short = t .next-short; are-bytes = refl }) (t .are-bytes) (t .state) (t .runs) (t .refuses) (t .few) (t .place) (t .writes) f)
+    (t .state .store .env .count, λ room f. halt-explained a ok s false room k at o (t .tokens) (t .good) (t .short) (t .next) (t .rest) (t .whole) (record { good = t .next-good; short = t .next-short; whole = t .next-whole; are-bytes = refl }) (t .are-bytes) (t .state) (t .runs) (t .refuses) (t .few) (t .place) (t .writes) f)
 
 -- what is computed of a run's row
 abbrev pub RunFits : Row → Type 0
@@ -86,6 +90,7 @@ smallest-stream =
       tokens = tag empty (97 ∷ []) [] ∷ [];
       good = search arith;
       short = search arith;
+      whole = (tt, tt);
       are-bytes = refl;
       value = _;
       runs = refl;
@@ -103,6 +108,7 @@ stream28 =
           ∷ tag end bib [] ∷ [];
       good = search arith depth 40 fits 5000;
       short = search arith depth 40 fits 5000;
+      whole = search arith depth 40 fits 5000;
       are-bytes = refl;
       value = _;
       runs = refl;
@@ -121,6 +127,7 @@ stream27 =
       tokens = before-second ++ tag empty book [] ∷ tag end bib [] ∷ [];
       good = search arith depth 40 fits 5000;
       short = search arith depth 40 fits 5000;
+      whole = search arith depth 40 fits 5000;
       are-bytes = refl;
       value = _;
       runs = refl;
@@ -139,6 +146,8 @@ stream27-rejected =
       short = search arith depth 40 fits 5000;
       next-good = search arith depth 40 fits 5000;
       next-short = omega arith;
+      whole = search arith depth 40 fits 5000;
+      next-whole = tt;
       are-bytes = refl;
       place = refl;
       state = _;

@@ -92,12 +92,19 @@ impl Walk<'_> {
         match &node.body {
             Body::Nonterminal(_, nonterminal) => self.element(*nonterminal, depth + 1),
             Body::Character(_) => {
-                let character = streams::character(self.random);
+                let mut character = streams::character(self.random);
+                if character == b"\r" {
+                    character.push(b'\n'); // alone it would be one character with an LF behind it
+                }
                 self.stream.extend(&character);
                 let echoed = match &character[..] {
                     b"&apos;" => b"'".to_vec(),
                     b"&quot;" => b"\"".to_vec(),
-                    as_it_is => as_it_is.to_vec(),
+                    b"\r\n" => b"\n".to_vec(),
+                    other => match streams::NUMBERS.iter().find(|(spelled, _)| spelled.as_bytes() == other) {
+                        Some((_, written)) => written.as_bytes().to_vec(),
+                        None => other.to_vec(),
+                    },
                 };
                 self.echoed(&echoed);
             }
@@ -179,6 +186,7 @@ impl Walk<'_> {
                 b'&' => self.output.extend(b"&amp;"),
                 b'<' => self.output.extend(b"&lt;"),
                 b'>' => self.output.extend(b"&gt;"),
+                b'\r' => self.output.extend(b"&#13;"),
                 other => self.output.push(*other),
             }
         }

@@ -213,6 +213,34 @@ fn places_of_refusals() {
     }
 }
 
+/// The change requests' section 2: line ends, and references by number.
+#[test]
+fn line_ends_and_numbers() {
+    let sheet = text_sheet();
+    let fresh = State::fresh().write();
+    let title = |text: &str| format!("<r><title>{text}</title></r>");
+    for (text, written) in [
+        ("x\r\ny\rz\n", "x\ny\nz\n"), ("\r\r\n\n", "\n\n\n"), ("&#13;&#10;&#xd;\r", "&#13;\n&#13;\n"), ("&#13;\n", "&#13;\n"), ("\r&#10;", "\n\n"),
+        ("&#32;&#9;", " \t"), ("&#60;&#38;&#x3E;", "&lt;&amp;&gt;"), ("&#x20aC;&#8364;", "\u{20AC}\u{20AC}"), ("&#00000000000000000000000000065;", "A"),
+    ] {
+        let call = whole(&sheet, &title(text));
+        assert_eq!((call.number, call.output), (0, title(written).into_bytes()), "{text:?}");
+    }
+    let ended = |part: &str, ended: bool| {
+        let call = run(&sheet, &fresh, part.as_bytes(), ended, 100);
+        (call.number, call.taken)
+    };
+    assert_eq!((ended("<r/>\r", false), ended("<r/>\r", true), ended("<r>\r", true)), ((16, 4), (0, 5), (27, 4)));
+    assert_eq!((ended("<r><title>\r", false), ended("<r>&#32;</r>", true), ended("&#32;<r/>", true), ended("<r/>&#10;", true)), ((16, 10), (23, 3), (23, 0), (26, 4)));
+    for (text, expected) in [
+        ("&#0;", 20), ("&#xD800;", 20), ("&#xFFFE;", 20), ("&#x110000", 20), ("&#X41;", 20), ("&#;", 20), ("&#x;", 20), ("&#+1;", 20), ("&#4294967361;", 20), ("&#xD800", 16),
+        ("&#11", 16), ("&#", 16), ("&#x", 16), ("&#0000000000000000000000000000", 16), ("&#00000000000000000000000000000", 21), ("&#0000000000000000000000000001", 16),
+        ("&#0000000000000000000000000002", 21), ("&#x000000000000000000000000001", 21), ("&#000000000000000000000000000065;", 21),
+    ] {
+        assert_eq!(ended(&format!("<r><title>{text}"), false), (expected, 10), "{text}");
+    }
+}
+
 #[test]
 fn parts_rooms_and_repeats() {
     let sheet = text_sheet();
@@ -309,9 +337,9 @@ fn a_state_is_written_as_it_is_read() {
 #[test]
 fn every_beginning_of_a_character_begins_one_of_the_char_set() {
     let mut beginnings = BTreeSet::new();
-    for c in ('\0'..=char::MAX).filter(|&c| tokens::is_char(c) && !"<&>".contains(c)) {
+    for c in ('\0'..=char::MAX).filter(|&c| tokens::is_char(c) && !"<&>\r".contains(c)) {
         let bytes = c.to_string().into_bytes();
-        assert_eq!(tokens::read(&bytes), Answer::Token(Event::Literal(c), bytes.len()));
+        assert_eq!(tokens::read(&bytes, false), Answer::Token(Event::Literal(c), bytes.len()));
         (1..bytes.len()).for_each(|length| {
             beginnings.insert(bytes[..length].to_vec());
         });
@@ -319,9 +347,9 @@ fn every_beginning_of_a_character_begins_one_of_the_char_set() {
     for a in 0..=255u8 {
         for b in 0..=255u8 {
             for front in [vec![a], vec![a, b], vec![a, b, 0x80], vec![a, b, 0xBF], vec![0xF0, a, b], vec![0xF4, a, b]] {
-                let begun = beginnings.contains(&front) || front[0] == b'<' || front[0] == b'&';
-                assert!(tokens::read(&front) != Answer::Begun || begun, "{front:?}");
-                assert!(tokens::read(&front) == Answer::Begun || !beginnings.contains(&front), "{front:?}");
+                let begun = beginnings.contains(&front) || front[0] == b'<' || front[0] == b'&' || front == b"\r";
+                assert!(tokens::read(&front, false) != Answer::Begun || begun, "{front:?}");
+                assert!(tokens::read(&front, false) == Answer::Begun || !beginnings.contains(&front), "{front:?}");
             }
         }
     }

@@ -6,7 +6,7 @@ use Prim.Native.Nat.{_-_}
 use native.Mathlib.Omega.{arith}
 use lib.ListN.{length}
 use borrow.Author.Needs.{needs}
-use Rattle.calls.proofs.Read.{read-plain, read-moves}
+use Rattle.calls.proofs.Read.{read-moves}
 use Rattle.live.specs.declared.Live.{Live}
 use Rattle.live.specs.Live.{full}
 use Rattle.live.proofs.Stacks.{full-same}
@@ -36,7 +36,7 @@ stop-requires c κs =
     let at-match = c .before .before in
     let at-number-without-token = c in
     let g = at-loop .loop .inv .1 in
-    without-few (start .args .ended) g (at-read .read .result) (at-number-without-token .number-without-token .result) (read-plain (not (start .args .ended)) (start .args .part .now) (at-loop .loop .at) (at-read .read .result) (at-read .read .ensures)) (no-whole-token (at-read .read .result) (at-match .match .keys2))
+    without-few (start .args .ended) g (at-read .read-on .result) (at-number-without-token .number-without-token .result) (at-read .read-on .ensures) (no-whole-token (at-read .read-on .result) (at-match .match .keys2))
     (at-number-without-token .number-without-token .ensures (at-loop .loop .stack) (g .shaped))
 
 same-length : tie.Need-same-length Inv-loop μ-loop
@@ -56,7 +56,7 @@ returns c =
     let g = at-loop .loop .inv .1 in
     let b = at-loop .loop .stack in
     ran-live (at-stop .stop .ensures) b (g .shaped .deep)
-    (ends-without (start .args .ended) g (at-read .read .result) (at-number-without-token .number-without-token .result) (read-plain (not (start .args .ended)) (start .args .part .now) (at-loop .loop .at) (at-read .read .result) (at-read .read .ensures)) (no-whole-token (at-read .read .result) (at-match .match .keys2))
+    (ends-without (start .args .ended) g (at-read .read-on .result) (at-number-without-token .number-without-token .result) (at-read .read-on .ensures) (no-whole-token (at-read .read-on .result) (at-match .match .keys2))
     (at-number-without-token .number-without-token .ensures b (g .shaped)) (seen (at-stop .stop .result) b) (stops-seen (at-stop .stop .ensures) b _ refl))
 
 take-requires : tie.Need-take-requires Inv-loop μ-loop
@@ -74,7 +74,7 @@ take-requires c κs =
           long = omega (arith, start .pre .1 .1, at-loop .loop .inv .0);
         },
         (
-          event-in (not (start .args .ended)) (start .args .part .now) (at-loop .loop .at) (t .0 .0) (t .0 .1 .0 .at) (bound (not (start .args .ended)) (start .args .part .now) (at-loop .loop .at) (at-read .read .result) (t .0 .0) (t .0 .1 .0) (read-plain (not (start .args .ended)) (start .args .part .now) (at-loop .loop .at) (at-read .read .result) (at-read .read .ensures)) (t .1)),
+          event-in (not (start .args .ended)) (start .args .part .now) (at-loop .loop .at) (t .0 .0) (t .0 .1 .0 .at) (bound (not (start .args .ended)) (start .args .part .now) (at-loop .loop .at) (at-read .read-on .result) (t .0 .0) (t .0 .1 .0) (at-read .read-on .ensures) (t .1)),
           (omega (arith, g .room, g .long), g .count),
         ),
       ),
@@ -90,7 +90,7 @@ stop-requires-2 c κs =
     let at-if1 = c in
     let t = at-answer .answer .given in
     let b = at-take .take .last .1 .1 .1 .1 .1 .0 in
-    refused-few (start .args .ended) (at-loop .loop .inv .1) (t .0 .0) (t .0 .1 .0 .at) (bound (not (start .args .ended)) (start .args .part .now) (at-loop .loop .at) (at-read .read .result) (t .0 .0) (t .0 .1 .0) (read-plain (not (start .args .ended)) (start .args .part .now) (at-loop .loop .at) (at-read .read .result) (at-read .read .ensures)) (t .1))
+    refused-few (start .args .ended) (at-loop .loop .inv .1) (t .0 .0) (t .0 .1 .0 .at) (bound (not (start .args .ended)) (start .args .part .now) (at-loop .loop .at) (at-read .read-on .result) (t .0 .0) (t .0 .1 .0) (at-read .read-on .ensures) (t .1))
     (whole (at-take .take .result) b) (at-take .take .last .1 .1 .1 .1 .1 .1 .0) (at-take .take .ensures .stepped) (at-if1 .if1 .taken)
 
 same-length-3 : tie.Need-same-length-3 Inv-loop μ-loop
@@ -112,7 +112,7 @@ returns-2 c =
     let g = at-loop .loop .inv .1 in
     let b = at-take .take .last .1 .1 .1 .1 .1 .0 in
     ran-live (at-stop2 .stop2 .ensures) b (g .shaped .deep)
-    (ends-at-token (start .args .ended) g (t .0 .0) (t .0 .1 .0 .at) (bound (not (start .args .ended)) (start .args .part .now) (at-loop .loop .at) (at-read .read .result) (t .0 .0) (t .0 .1 .0) (read-plain (not (start .args .ended)) (start .args .part .now) (at-loop .loop .at) (at-read .read .result) (at-read .read .ensures)) (t .1))
+    (ends-at-token (start .args .ended) g (t .0 .0) (t .0 .1 .0 .at) (bound (not (start .args .ended)) (start .args .part .now) (at-loop .loop .at) (at-read .read-on .result) (t .0 .0) (t .0 .1 .0) (at-read .read-on .ensures) (t .1))
     (whole (at-take .take .result) b) (at-take .take .last .1 .1 .1 .1 .1 .1 .0) (at-take .take .ensures .stepped) (at-if1 .if1 .taken)
     (seen (at-stop2 .stop2 .result) b) (stops-seen (at-stop2 .stop2 .ensures) b _ (full-same (at-loop .loop .run .live) (at-loop .loop .stack) b (at-take .take .ensures .below))))
 
@@ -126,7 +126,7 @@ onward-requires c κs =
     let at-if1 = c .before .before .before in
     let t = at-answer .answer .given in
     let b = at-take .take .last .1 .1 .1 .1 .1 .0 in
-    let g = goes-on (at-loop .loop .inv .1) (t .0 .0) (t .0 .1 .0 .at) (bound (not (start .args .ended)) (start .args .part .now) (at-loop .loop .at) (at-read .read .result) (t .0 .0) (t .0 .1 .0) (read-plain (not (start .args .ended)) (start .args .part .now) (at-loop .loop .at) (at-read .read .result) (at-read .read .ensures)) (t .1))
+    let g = goes-on (at-loop .loop .inv .1) (t .0 .0) (t .0 .1 .0 .at) (bound (not (start .args .ended)) (start .args .part .now) (at-loop .loop .at) (at-read .read-on .result) (t .0 .0) (t .0 .1 .0) (at-read .read-on .ensures) (t .1))
     (whole (at-take .take .result) b) (at-take .take .last .1 .1 .1 .1 .1 .1 .0) (at-take .take .ensures .stepped) (at-if1 .if1 .left) in (
       start .pre .0,
       (
@@ -149,7 +149,7 @@ loop-less c =
     omega (
       arith,
       read-moves (not (start .args .ended)) (start .args .part .now) (at-loop .loop .at) (t .0 .0) (t .0 .1 .0 .at)
-          (bound (not (start .args .ended)) (start .args .part .now) (at-loop .loop .at) (at-read .read .result) (t .0 .0) (t .0 .1 .0) (read-plain (not (start .args .ended)) (start .args .part .now) (at-loop .loop .at) (at-read .read .result) (at-read .read .ensures)) (t .1)) (at-loop .loop .inv .1 .within),
+          (bound (not (start .args .ended)) (start .args .part .now) (at-loop .loop .at) (at-read .read-on .result) (t .0 .0) (t .0 .1 .0) (at-read .read-on .ensures) (t .1)) (at-loop .loop .inv .1 .within),
       at-onward .onward .ensures .forward,
       at-onward .onward .ensures .within,
     )
@@ -169,7 +169,7 @@ loop-again c =
       at-take .take .ensures .long ∙ at-loop .loop .inv .0,
       at-state (ap (λ (h : Live). full h b) (at-with-env .with-env .ensures))
           (goes-far
-          (goes-on (at-loop .loop .inv .1) (t .0 .0) (t .0 .1 .0 .at) (bound (not (start .args .ended)) (start .args .part .now) (at-loop .loop .at) (at-read .read .result) (t .0 .0) (t .0 .1 .0) (read-plain (not (start .args .ended)) (start .args .part .now) (at-loop .loop .at) (at-read .read .result) (at-read .read .ensures)) (t .1))
+          (goes-on (at-loop .loop .inv .1) (t .0 .0) (t .0 .1 .0 .at) (bound (not (start .args .ended)) (start .args .part .now) (at-loop .loop .at) (at-read .read-on .result) (t .0 .0) (t .0 .1 .0) (at-read .read-on .ensures) (t .1))
           (whole (at-take .take .result) b) (at-take .take .last .1 .1 .1 .1 .1 .1 .0) (at-take .take .ensures .stepped) (at-if1 .if1 .left))
           (at-onward .onward .result) _ (at-onward .onward .ensures)),
     )

@@ -15,7 +15,7 @@ empty-requires : tie.Need-empty-requires
 empty-requires c κs = (read-tag Kind.empty (c .before .before .before .before .before .before .before .before .before .before .args .s .now) 0 (c .before .before .before .before .before .before .before .read .result) _ _ _ _ (c .before .before .before .before .before .before .before .read .ensures) (c .before .before .before .before .before .answer .given .1) (c .before .before .event3 .given .1) .within, c .before .before .before .before .before .before .before .before .before .before .pre)
 
 character-requires : tie.Need-character-requires
-character-requires c κs = read-char (c .before .before .before .before .before .before .before .before .before .before .args .s .now) 0 (c .before .before .before .before .before .before .before .read .result) _ _ _ (c .before .before .before .before .before .before .before .read .ensures) (c .before .before .before .before .before .answer .given .1) (c .before .before .event4 .given .1)
+character-requires c κs = read-char (c .before .before .before .before .before .before .before .before .before .before .args .s .now) 0 (c .before .before .before .before .before .before .before .read .result) _ _ _ _ (c .before .before .before .before .before .before .before .read .ensures) (c .before .before .before .before .before .answer .given .1) (c .before .before .event4 .given .1)
 
 pub show-spec : {M : Type 1} → statement M
 show-spec =

@@ -1,4 +1,5 @@
 -- The loop takes a stretch of plain bytes, and then one character that the reader tells.
+use mathlib.Core.Bool.{true}
 use Prim.Native.Nat.{_-_}
 use native.Mathlib.Omega.{arith}
 use lib.ListN.{length}
@@ -78,7 +79,7 @@ show-requires c κs =
     let part = start .args .part .now in
     let e = p .plains .ensures .carries _ _ _ _ (p .before .before .loop .inv) in
     let here = stands part (p .plains .result .at) (r .read-next .result) (r .read-next .ensures) _ _ (c .before .before .before .before .before .before .before .before .next .given .1) in
-    (omega (arith, c .before .if4 .left), event-char (front part (p .plains .result .at)) (p .plains .result .at) _ _ here)
+    (omega (arith, c .before .if4 .left), event-char (front part (p .plains .result .at)) (p .plains .result .at) _ true _ (here .0))
 
 add-count : tie.Need-add-count Inv-loop μ-loop
 add-count c = let p = c .before .before .before .before .before .before .before .before .before .before .before .before .before .before .before .before .before .before .before in let e = p .plains .ensures .carries _ _ _ _ (p .before .before .loop .inv) in omega (arith, e .count, p .before .before .before .before .before .pre .1 .1 .0)

@@ -1,5 +1,6 @@
 -- As for `open_tag`.
 use native.Mathlib.Omega.{arith}
+use lib.ListN.{length}
 use mathlib.Core.Path.{sym, _∙_}
 use Rattle.tokens.proofs.Reading
 use borrow.Author.Needs.{needs}
@@ -16,7 +17,7 @@ returns : tie.Need-returns
 returns c = let s = c .before .before in Reading.begun-end (s .args .f .now) (s .args .at) (c .if1 .taken) (s .pre .1 .1) (s .pre .1 .2)
 
 returns-2 : tie.Need-returns-2
-returns-2 c = let s = c .before .before .before .before .before .before .before .before .before in let t = c .before .before in Reading.by-cut (s .args .f .now) (s .args .at) _ (c .cut .ensures) (Reading.end-cut (s .args .f .now) (s .args .at) (t .before .name-end .result) (t .blank-end .result) (s .pre .0 .short) (s .pre .1 .0) (s .pre .1 .1) (s .pre .1 .2) (tagged t) (c .before .if3 .taken))
+returns-2 c = let s = c .before .before .before .before .before .before .before .before .before in let t = c .before .before in Reading.by-cut (s .args .f .now) (s .args .at) (length (s .args .f .now)) _ (c .cut .ensures) (Reading.end-cut (s .args .f .now) (s .args .at) (t .before .name-end .result) (t .blank-end .result) (s .pre .0 .short) (s .pre .1 .0) (s .pre .1 .1) (s .pre .1 .2) (tagged t) (c .before .if3 .taken))
 
 returns-3 : tie.Need-returns-3
 returns-3 c = let s = c .before .before .before .before .before .before .before .before .before .before in let t = c .before .before .before in Reading.end-token (s .args .f .now) (s .args .at) (t .before .name-end .result) (t .blank-end .result) (s .pre .0 .short) (s .pre .1 .0) (s .pre .1 .1) (s .pre .1 .2) (tagged t) (omega (arith, t .blank-end .ensures .within)) (c .if4 .taken)

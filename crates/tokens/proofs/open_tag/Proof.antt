@@ -1,5 +1,6 @@
 -- Each return cites the law of `Reading` for the place it comes to; `tagged` is the name and the white space found, shared by all of them.
 use native.Mathlib.Omega.{arith}
+use lib.ListN.{length}
 use mathlib.Core.Path.{sym, _∙_}
 use Rattle.tokens.proofs.Reading
 use borrow.Author.Needs.{needs}
@@ -13,13 +14,13 @@ tagged c =
     (sym (c .before .before .before .name-first .ensures) ∙ c .before .before .if1 .taken) (c .before .name-end .ensures) (c .blank-end .ensures)
 
 returns : tie.Need-returns
-returns c = let s = c .before .before .before .before .before .before .before .before in let t = c .before .before in Reading.by-cut (s .args .f .now) (s .args .at) _ (c .cut .ensures) (Reading.open-cut (s .args .f .now) (s .args .at) (t .before .name-end .result) (t .blank-end .result) (s .pre .0 .short) (omega (arith, s .pre .1 .0)) (s .pre .1 .1) (tagged t) (c .before .if2 .taken))
+returns c = let s = c .before .before .before .before .before .before .before .before in let t = c .before .before in Reading.by-cut (s .args .f .now) (s .args .at) (length (s .args .f .now)) _ (c .cut .ensures) (Reading.open-cut (s .args .f .now) (s .args .at) (t .before .name-end .result) (t .blank-end .result) (s .pre .0 .short) (omega (arith, s .pre .1 .0)) (s .pre .1 .1) (tagged t) (c .before .if2 .taken))
 
 returns-2 : tie.Need-returns-2
 returns-2 c = let s = c .before .before .before .before .before .before .before .before .before in let t = c .before .before .before in Reading.open-start (s .args .f .now) (s .args .at) (t .before .name-end .result) (t .blank-end .result) (s .pre .0 .short) (omega (arith, s .pre .1 .0)) (s .pre .1 .1) (tagged t) (omega (arith, t .blank-end .ensures .within)) (c .if3 .taken)
 
 returns-3 : tie.Need-returns-3
-returns-3 c = let s = c .before .before .before .before .before .before .before .before .before .before .before .before in let t = c .before .before .before .before .before .before in Reading.by-cut (s .args .f .now) (s .args .at) _ (c .cut2 .ensures) (Reading.open-slash (s .args .f .now) (s .args .at) (t .before .name-end .result) (t .blank-end .result) (s .pre .0 .short) (omega (arith, s .pre .1 .0)) (s .pre .1 .1) (tagged t) (c .before .before .if4 .taken) (c .before .if5 .taken))
+returns-3 c = let s = c .before .before .before .before .before .before .before .before .before .before .before .before in let t = c .before .before .before .before .before .before in Reading.by-cut (s .args .f .now) (s .args .at) (length (s .args .f .now)) _ (c .cut2 .ensures) (Reading.open-slash (s .args .f .now) (s .args .at) (t .before .name-end .result) (t .blank-end .result) (s .pre .0 .short) (omega (arith, s .pre .1 .0)) (s .pre .1 .1) (tagged t) (c .before .before .if4 .taken) (c .before .if5 .taken))
 
 returns-4 : tie.Need-returns-4
 returns-4 c = let s = c .before .before .before .before .before .before .before .before .before .before .before .before .before in let t = c .before .before .before .before .before .before .before in Reading.open-empty (s .args .f .now) (s .args .at) (t .before .name-end .result) (t .blank-end .result) (s .pre .0 .short) (omega (arith, s .pre .1 .0)) (s .pre .1 .1) (tagged t) (omega (arith, t .blank-end .ensures .within)) (c .before .before .before .if4 .taken) (c .if6 .taken)

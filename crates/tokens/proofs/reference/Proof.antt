@@ -52,7 +52,7 @@ returns-10 : tie.Need-returns-10
 returns-10 c = let s = c .before .before .before .before .before .before .before .before .before .before .before .before .before .before .before .before .before .before .before .before .before in Reading.ref-begun (s .args .f .now) (s .args .at) quot _ (c .before .before .compare5 .ensures) (c .enum-told14 .given .1)
 
 returns-11 : tie.Need-returns-11
-returns-11 c = let s = c .before .before .before .before .before .before .before .before .before .before .before .before .before .before .before .before .before .before .before .before .before in Reading.ref-bad (s .args .f .now) (s .args .at) (s .pre .1 .0) (s .pre .1 .1) (Reading.each-ref (s .args .f .now) (Reading.ref-apart (s .args .f .now) (s .args .at) amp _ (c .before .before .before .before .before .before .before .before .before .before .before .before .before .before .before .before .before .before .compare .ensures) (c .before .before .before .before .before .before .before .before .before .before .before .before .before .before .before .before .enum-told3 .given .1)) (Reading.ref-apart (s .args .f .now) (s .args .at) lt _ (c .before .before .before .before .before .before .before .before .before .before .before .before .before .before .compare2 .ensures) (c .before .before .before .before .before .before .before .before .before .before .before .before .enum-told6 .given .1)) (Reading.ref-apart (s .args .f .now) (s .args .at) gt _ (c .before .before .before .before .before .before .before .before .before .before .compare3 .ensures) (c .before .before .before .before .before .before .before .before .enum-told9 .given .1)) (Reading.ref-apart (s .args .f .now) (s .args .at) apos _ (c .before .before .before .before .before .before .compare4 .ensures) (c .before .before .before .before .enum-told12 .given .1)) (Reading.ref-apart (s .args .f .now) (s .args .at) quot _ (c .before .before .compare5 .ensures) (c .enum-told15 .given .1)))
+returns-11 c = let s = c .before .before .before .before .before .before .before .before .before .before .before .before .before .before .before .before .before .before .before .before .before in Reading.ref-bad (s .args .f .now) (s .args .at) (s .pre .1 .0) (s .pre .1 .1) (s .pre .1 .2) (Reading.each-ref (s .args .f .now) (Reading.ref-apart (s .args .f .now) (s .args .at) amp _ (c .before .before .before .before .before .before .before .before .before .before .before .before .before .before .before .before .before .before .compare .ensures) (c .before .before .before .before .before .before .before .before .before .before .before .before .before .before .before .before .enum-told3 .given .1)) (Reading.ref-apart (s .args .f .now) (s .args .at) lt _ (c .before .before .before .before .before .before .before .before .before .before .before .before .before .before .compare2 .ensures) (c .before .before .before .before .before .before .before .before .before .before .before .before .enum-told6 .given .1)) (Reading.ref-apart (s .args .f .now) (s .args .at) gt _ (c .before .before .before .before .before .before .before .before .before .before .compare3 .ensures) (c .before .before .before .before .before .before .before .before .enum-told9 .given .1)) (Reading.ref-apart (s .args .f .now) (s .args .at) apos _ (c .before .before .before .before .before .before .compare4 .ensures) (c .before .before .before .before .enum-told12 .given .1)) (Reading.ref-apart (s .args .f .now) (s .args .at) quot _ (c .before .before .compare5 .ensures) (c .enum-told15 .given .1)))
 
 pub reference-spec : {M : Type 1} → statement M
 reference-spec =

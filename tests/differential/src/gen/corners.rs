@@ -101,7 +101,7 @@ fn empty_tags() -> Vec<Case> {
 
 /// Every front up to five bytes of an alphabet, as far as it takes to decide it.
 fn fronts() -> Vec<Case> {
-    let alphabet = b"</>a1- \r&lt;\xED\xA0\xE2\x82\xAC\xEF\xBF\xBE\xF4\x8F\x7F\x0B";
+    let alphabet = b"</>a1- \r\n&#x0d;lt\xED\xA0\xE2\x82\xAC\xEF\xBF\xBE\xF4\x8F\x7F\x0B";
     let sheet = Plan {
         tags: vec![b"r".to_vec(), b"a".to_vec()],
         productions: vec![rule(0, 0, Some(star(or(character(), n(1)))), Some(0)), rule(1, 1, None, None)],
@@ -114,7 +114,7 @@ fn fronts() -> Vec<Case> {
     let mut strings = begun.clone();
     for _ in 0..5 {
         let longer: Vec<Vec<u8>> = begun.iter().flat_map(|s| alphabet.iter().map(move |&b| [&s[..], &[b]].concat())).collect();
-        begun = longer.iter().filter(|s| tokens::read(s) == Answer::Begun).cloned().collect();
+        begun = longer.iter().filter(|s| tokens::read(s, false) == Answer::Begun).cloned().collect();
         strings.extend(longer);
     }
     let case = |(i, part): (usize, Vec<u8>)| Case { sheet: sheet.clone(), state: state.clone(), part, ended: i % 2 == 0, room: 100 };

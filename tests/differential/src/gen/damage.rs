@@ -56,15 +56,15 @@ pub fn sheet(random: &mut Random, sheet: &mut Vec<u8>) {
 }
 
 /// Bytes that are no token, or only begin one.
-const WRONG: [&[u8]; 20] = [
-    b">", b"<", b"&", b"&amp", b"&#38;", b"<!--", b"<?x?>", b"<a / >", b"</a/>", b"< a>", b"</ a>", b"<1>", b"\x00", b"\x0B",
+const WRONG: [&[u8]; 28] = [
+    b">", b"<", b"&", b"&amp", b"&#0;", b"&#xD800;", b"&#x110000;", b"&#;", b"&#", b"&#x", b"&#X41;", b"&#4294967361;", b"&#xFFFF;", b"<!--", b"<?x?>", b"<a / >", b"</a/>", b"< a>", b"</ a>", b"<1>", b"\x00", b"\x0B",
     b"\xED\xA0\x80", b"\xEF\xBF\xBE", b"\xC0\x80", b"\xE2\x82", b"\xF4\x90\x80\x80", b"\xFF",
 ];
 
 /// Changes the order or choice of tokens.
 pub fn tokens(random: &mut Random, sheet: &Sheet, tokens: &mut Vec<Vec<u8>>) {
     let at = random.below(tokens.len() + 1);
-    match random.below(8) {
+    match random.below(9) {
         0 if at < tokens.len() => {
             tokens.remove(at);
         }
@@ -73,6 +73,7 @@ pub fn tokens(random: &mut Random, sheet: &Sheet, tokens: &mut Vec<Vec<u8>>) {
         3 if at < tokens.len() => tokens[at] = stray(random, sheet),
         4 => tokens.insert(at, random.pick(&WRONG).to_vec()),
         5 | 6 => widen(random, tokens),
+        7 => tokens.insert(at, long_number(random)),
         _ => tokens.insert(at, stray(random, sheet)),
     }
 }
@@ -83,12 +84,23 @@ pub fn soup(random: &mut Random, stream: &mut Vec<u8>) {
     let alphabet = *random.pick(&[
         &b"<>/a "[..],
         b"&;ampltgquos",
+        b"&&##xx000009AfdD;;",
+        b"\r\n\r\n&#13;x",
         b"\xE2\x82\xAC\xF0\x9F\xED\xEF\xBF\xBD\xC2\x80\xF4\x8F",
         b"<</aA_-.0 \t\r\n>>&;\x7F\x01\xC3\xA4",
     ]);
     for _ in 0..random.within(1, 40) {
         stream.insert(at, *random.pick(alphabet));
     }
+}
+
+/// A reference by number about as long as a token may be, or the beginning of one.
+fn long_number(random: &mut Random) -> Vec<u8> {
+    let mark = *random.pick(&["", "x"]);
+    let digits = *random.pick(&["", "1", "2", "9", "11", "32", "65", "d", "D800", "1114111", "1114112"]);
+    let zeros = random.within(20, 29);
+    let end = *random.pick(&["", ";"]);
+    format!("&#{mark}{}{digits}{end}", "0".repeat(zeros)).into_bytes()
 }
 
 /// Makes a tag about as long as a token may be, by white space or by its name.

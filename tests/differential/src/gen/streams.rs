@@ -6,6 +6,11 @@ use crate::random::Random;
 const NEVER: usize = usize::MAX;
 const SPACES: [&str; 5] = [" ", "\t", "\r", "\n", "\r\n"];
 const REFERENCES: [&str; 5] = ["&amp;", "&lt;", "&gt;", "&apos;", "&quot;"];
+/// References by number, and what they are written as.
+pub const NUMBERS: [(&str, &str); 8] = [
+    ("&#13;", "&#13;"), ("&#x00000000000000000000000000d;", "&#13;"), ("&#10;", "\n"), ("&#x20;", " "), ("&#60;", "&lt;"), ("&#x26;", "&amp;"), ("&#8364;", "\u{20AC}"),
+    ("&#x10FFFF;", "\u{10FFFF}"),
+];
 /// Both ends of each length of UTF-8, and characters that a reader may take for something else.
 pub const EDGES: [char; 18] = [
     '\u{7F}', '\u{80}', '\u{85}', '\u{7FF}', '\u{800}', '\u{2028}', '\u{20AC}', '\u{D7FF}', '\u{E000}', '\u{FEFF}', '\u{FFFD}',
@@ -23,7 +28,12 @@ pub fn literal(random: &mut Random, markup: bool) -> char {
 }
 
 pub fn character(random: &mut Random) -> Vec<u8> {
-    if random.once_in(4) { random.pick(&REFERENCES).as_bytes().to_vec() } else { literal(random, false).to_string().into_bytes() }
+    match random.below(8) {
+        0 => random.pick(&NUMBERS).0.as_bytes().to_vec(),
+        1 => random.pick(&REFERENCES).as_bytes().to_vec(),
+        2 => b"\r\n".to_vec(),
+        _ => literal(random, false).to_string().into_bytes(),
+    }
 }
 
 /// White space before the closing `>` or `/>`; now and then so much that the token has exactly 32 bytes.

@@ -44,7 +44,7 @@ fn run_open(sheet: &Sheet, mut state: State, part: &[u8], ended: bool, room: usi
     let mut output = Vec::new();
     let number = loop {
         let left = &part[taken..];
-        let (event, length) = match tokens::read(left) {
+        let (event, length) = match tokens::read(left, ended) {
             Answer::Token(event, length) => (event, length),
             Answer::Begun => break at_the_end(&state, left, ended),
             Answer::Bad => break 20,
@@ -290,6 +290,7 @@ impl Run<'_> {
             '&' => self.output.extend(b"&amp;"),
             '<' => self.output.extend(b"&lt;"),
             '>' => self.output.extend(b"&gt;"),
+            '\r' => self.output.extend(b"&#13;"),
             other => self.output.extend(other.to_string().as_bytes()),
         }
     }

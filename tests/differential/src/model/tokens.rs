@@ -41,9 +41,17 @@ enum Reached {
     Nothing,
 }
 
-/// Reads the front by asking of each of its beginnings, the shortest first, whether it is a token, begins one, or neither.
-pub fn read(bytes: &[u8]) -> Answer {
+/// Reads the front by asking of each of its beginnings, the shortest first, whether it is a token, begins one, or neither. Only CR
+/// begins a longer token and is one: it is LF, alone or with the LF behind it, and while more may come its successor decides.
+pub fn read(bytes: &[u8], ended: bool) -> Answer {
     let front = &bytes[..bytes.len().min(FRONT)];
+    if front.first() == Some(&b'\r') {
+        return match front.get(1) {
+            None if !ended => Answer::Begun,
+            Some(b'\n') => Answer::Token(Event::Literal('\n'), 2),
+            _ => Answer::Token(Event::Literal('\n'), 1),
+        };
+    }
     for length in 1..=front.len() {
         match reached(&front[..length]) {
             Reached::Whole(event) => return Answer::Token(event, length),
@@ -51,7 +59,55 @@ pub fn read(bytes: &[u8]) -> Answer {
             Reached::Nothing => return Answer::Bad,
         }
     }
-    if front.len() == FRONT { Answer::TooLong } else { Answer::Begun }
+    if front.len() + wanted(front) > FRONT { Answer::TooLong } else { Answer::Begun }
+}
+
+/// How many bytes more, at least, a begun token needs. Of a number the digits that it still needs are tried, and then `;`.
+fn wanted(front: &[u8]) -> usize {
+    match front {
+        [b'&', b'#', b'x', digits @ ..] => 1 + digits_wanted(digits, 16).unwrap_or(0),
+        [b'&', b'#', digits @ ..] => 1 + digits_wanted(digits, 10).unwrap_or(0),
+        _ => 1,
+    }
+}
+
+/// The value of digits, and None past the last character: more digits only make it larger.
+fn value(digits: &[u8], radix: u32) -> Option<u32> {
+    digits.iter().try_fold(0, |value: u32, &digit| {
+        let value = value * radix + (digit as char).to_digit(radix)?;
+        (value <= 0x10FFFF).then_some(value)
+    })
+}
+
+fn is_named(digits: &[u8], radix: u32) -> bool {
+    !digits.is_empty() && value(digits, radix).and_then(char::from_u32).is_some_and(is_char)
+}
+
+/// The fewest digits behind these that name a character, by trying all: three are enough where any are.
+fn digits_wanted(digits: &[u8], radix: u32) -> Option<usize> {
+    value(digits, radix)?;
+    let mut tried = vec![digits.to_vec()];
+    for more in 0..=3 {
+        if tried.iter().any(|digits| is_named(digits, radix)) {
+            return Some(more);
+        }
+        let longer = |digits: &Vec<u8>| (0..radix).map(|d| [&digits[..], &[char::from_digit(d, radix).unwrap() as u8]].concat()).collect::<Vec<_>>();
+        tried = tried.iter().flat_map(longer).collect();
+    }
+    None
+}
+
+/// After `&#`: digits and `;`, with x before hexadecimal ones.
+fn number(bytes: &[u8]) -> Reached {
+    let (radix, bytes) = match bytes {
+        [b'x', rest @ ..] => (16, rest),
+        _ => (10, bytes),
+    };
+    match bytes.split_last() {
+        Some((b';', digits)) if is_named(digits, radix) => Reached::Whole(Event::Reference(char::from_u32(value(digits, radix).unwrap()).unwrap())),
+        _ if digits_wanted(bytes, radix).is_some() => Reached::Begun,
+        _ => Reached::Nothing,
+    }
 }
 
 fn reached(bytes: &[u8]) -> Reached {
@@ -88,12 +144,15 @@ fn tag(bytes: &[u8]) -> Reached {
 const REFERENCES: [(&[u8], char); 5] = [(b"amp;", '&'), (b"lt;", '<'), (b"gt;", '>'), (b"apos;", '\''), (b"quot;", '"')];
 
 fn reference(bytes: &[u8]) -> Reached {
+    if let [b'#', rest @ ..] = bytes {
+        return number(rest);
+    }
     for (name, character) in REFERENCES {
         if name == bytes {
             return Reached::Whole(Event::Reference(character));
         }
     }
-    if REFERENCES.iter().any(|(name, _)| name.starts_with(bytes)) { Reached::Begun } else { Reached::Nothing }
+    if bytes.is_empty() || REFERENCES.iter().any(|(name, _)| name.starts_with(bytes)) { Reached::Begun } else { Reached::Nothing }
 }
 
 fn literal(bytes: &[u8]) -> Reached {

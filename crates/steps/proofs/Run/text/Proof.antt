@@ -1,6 +1,7 @@
 -- By whether the character is white space, and whether that passes here.
 -- Assumes nothing.
 use mathlib.Core.Path.{_∙_, ap, refl, subst, sym}
+use mathlib.Core.Bool.{Bool, _&&_}
 use native.Mathlib.Omega.{arith}
 use borrow.Author.Tests.{not-true, not-false}
 use Rattle.steps.specs.Parts.{PassesAs}
@@ -22,7 +23,8 @@ returns c =
     let at-character = c .before .before in
     let at-if1 = c .before .before .before .before in
     let at-is-blank = c .before .before .before .before .before in
-    not-blank (sym (at-is-blank .is-blank .ensures) ∙ not-true _ (at-if1 .if1 .taken)) (at-character .character .ensures)
+    let start = c .before .before .before .before .before .before .before .before .before in
+    not-blank (start .args .literal) (start .args .c) (ap (λ (b : Bool). start .args .literal && b) (sym (at-is-blank .is-blank .ensures)) ∙ not-true _ (at-if1 .if1 .taken)) (at-character .character .ensures)
 
 returns-2 : tie.Need-returns-2
 returns-2 c =
@@ -31,7 +33,7 @@ returns-2 c =
     let at-passes = c .before .before in
     let at-if1 = c .before .before .before in
     let at-is-blank = c .before .before .before .before in
-    blank-passes (subst (PassesAs _ _) (at-if2 .if2 .taken) (at-passes .passes .ensures)) (sym (at-is-blank .is-blank .ensures) ∙ not-false _ (at-if1 .if1 .left)) (ap (λ (y : Stepped). whole y (start .args .stack .now)) (c .refuse .ensures)) refl
+    blank-passes (start .args .literal) (start .args .c) (subst (PassesAs _ _) (at-if2 .if2 .taken) (at-passes .passes .ensures)) (ap (λ (b : Bool). start .args .literal && b) (sym (at-is-blank .is-blank .ensures)) ∙ not-false _ (at-if1 .if1 .left)) (ap (λ (y : Stepped). whole y (start .args .stack .now)) (c .refuse .ensures)) refl
 
 character-requires-2 : tie.Need-character-requires-2
 character-requires-2 c κs =
@@ -45,7 +47,8 @@ returns-3 c =
     let at-passes = c .before .before .before .before .before in
     let at-if1 = c .before .before .before .before .before .before in
     let at-is-blank = c .before .before .before .before .before .before .before in
-    blank-read (subst (PassesAs _ _) (at-if2 .if2 .left) (at-passes .passes .ensures)) (sym (at-is-blank .is-blank .ensures) ∙ not-false _ (at-if1 .if1 .left)) (at-character2 .character2 .ensures)
+    let start = c .before .before .before .before .before .before .before .before .before .before .before in
+    blank-read (start .args .literal) (start .args .c) (subst (PassesAs _ _) (at-if2 .if2 .left) (at-passes .passes .ensures)) (ap (λ (b : Bool). start .args .literal && b) (sym (at-is-blank .is-blank .ensures)) ∙ not-false _ (at-if1 .if1 .left)) (at-character2 .character2 .ensures)
 
 pub text-spec : {M : Type 1} → statement M
 text-spec =

@@ -2,10 +2,10 @@
 use Prim.Native.Nat.{_≤_, _-_}
 use lib.ListN.{length}
 use borrow.Author.Needs.{needs}
-use Rattle.conversion.proofs.place.line_feeds.Statement.{statement}
-use Rattle.conversion.proofs.place.line_feeds.Tie as tie
-use Rattle.conversion.proofs.place.line_feeds.Reads as reads
-use Rattle.conversion.proofs.place.line_feeds.Lts as lts
+use Rattle.conversion.proofs.place.line_ends.Statement.{statement}
+use Rattle.conversion.proofs.place.line_ends.Tie as tie
+use Rattle.conversion.proofs.place.line_ends.Reads as reads
+use Rattle.conversion.proofs.place.line_ends.Lts as lts
 use Rattle.std.proofs.num.wrapping_add_u64.Reads as wrapping-add-u64-reads
 
 abbrev Inv-loop : tie.InvT-loop
@@ -14,8 +14,8 @@ Inv-loop bytes n₀ i₀ n i = i ≤ length bytes
 abbrev μ-loop : tie.MeasureT-loop
 μ-loop bytes n₀ i₀ n i = length bytes - i
 
-pub line-feeds-spec : {M : Type 1} → statement M
-line-feeds-spec =
+pub line-ends-spec : {M : Type 1} → statement M
+line-ends-spec =
     tie.close
     (tie.spec
     Inv-loop

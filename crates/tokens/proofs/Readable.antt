@@ -1,44 +1,29 @@
--- Every front has an answer of the reader: it begins with <, & or > or with a character, and each is decided there, by the laws of the reader's own
+-- Every front has an answer of the reader: it begins with <, &, > or CR or with a character, and each is decided there, by the laws of the reader's own
 -- proof. Whether bytes start with a character of the Char set, or begin one, is decided by trying each.
 -- Assumes nothing.
-use mathlib.Core.Path.{_≡_, refl, sym, ap₂, subst}
+use mathlib.Core.Path.{_≡_, refl, sym, ap₂, _∙_, subst}
 use mathlib.Core.Logic.{_⊎_, inl, inr, ⊎-elim}
-use mathlib.Core.Bool.{Bool, true, false}
-use mathlib.Core.List.{List, [], _∷_, _++_, head-eq-of-cons-eq, tail-eq-of-cons-eq}
-use Prim.Native.Nat.{ℕ, zero, suc, _+_, _-_, _≤_, _<_}
+use mathlib.Core.Bool.{Bool, true, false, true≢false}
+use mathlib.Core.List.{List, [], _∷_, head-eq-of-cons-eq, tail-eq-of-cons-eq}
+use Prim.Native.Nat.{ℕ, zero, suc, _+_, _-_, _*_, _≤_, _<_}
 use native.Mathlib.Omega.{arith}
-use native.Mathlib.Decide.{decLe, decLt, ℕ-discrete}
+use native.Mathlib.Decide.{decLt, ℕ-discrete}
+use borrow.Author.Tests.{lt-ltb, ltb-true}
 use lib.ListN.{length, getD, drop, length-take}
-use Rattle.text.specs.Chars.{Char, In, utf8, Starts, Begins, Apart, DecodedIs}
+use Rattle.text.specs.Chars.{Char, utf8, Starts, Begins, Apart, DecodedIs}
 use Rattle.text.specs.Names.{nameFirst, nameByte, blank}
+use Rattle.text.specs.Numerals.{digitValue, digitBelow}
 use Rattle.text.proofs.Shapes.{cons≢[]}
 use Rattle.text.specs.declared.Decoded.{Decoded}
 use Rattle.tokens.specs.declared.Event.the-variants.{Start, End, Empty, Character}
 use Rattle.tokens.specs.declared.Answer.{Answer}
-use Rattle.tokens.specs.declared.Answer.the-variants.{Token, Begun, Bad, Long}
-use Rattle.tokens.specs.Tokens.{Ref, amp, lt, gt, apos, quot, ref, spelled, stands, front, Means}
-use Rattle.tokens.specs.Inner.{Run, cutAt}
+use Rattle.tokens.specs.declared.Answer.the-variants.{Token, Waiting, Begun, Bad}
+use Rattle.tokens.specs.Tokens.{Ref, amp, lt, gt, apos, quot, crlf, ref, spelled, stands, front, Means}
+use Rattle.tokens.specs.Inner.{Run, cutAt, Opened, Fewest}
 use Rattle.tokens.proofs.Runs.{Going, going-none, going-more, going-stop, going-end}
-use Rattle.tokens.proofs.Parts.{either}
-use Rattle.tokens.proofs.Reading.{Tag, tag-of, open-cut, open-start, open-slash, open-empty, open-bad, open-bad-slash, open-none, end-cut, end-token, end-bad, end-none, begun-open, begun-end, char-token, char-begun, char-bad, greater-bad, begun-none, spelled-most, starts-length, begins-length, ref-bad, each-ref}
-use Rattle.tokens.proofs.Theory.{none-of}
-
-abbrev Decided : Type 0 → Type 0
-Decided P = P ⊎ (P → ⊥)
-
-decided : {P : Type 0} → Dec P → Decided P
-decided (yes p) = inl p
-decided (no n) = inr n
-
-or-decided : {P Q : Type 0} → Decided P → Decided Q → Decided (P ⊎ Q)
-or-decided (inl p) q = inl (inl p)
-or-decided (inr n) (inl q) = inl (inr q)
-or-decided (inr n) (inr m) = inr (λ x. ⊎-elim n m x)
-
-and-decided : {P Q : Type 0} → Decided P → Decided Q → Decided (P × Q)
-and-decided (inr n) q = inr (λ x. n (x .0))
-and-decided (inl p) (inl q) = inl (p, q)
-and-decided (inl p) (inr m) = inr (λ x. m (x .1))
+use Rattle.tokens.proofs.Reading.{Tag, tag-of, open-cut, open-start, open-slash, open-empty, open-bad, open-bad-slash, open-none, end-cut, end-token, end-bad, end-none, begun-open, begun-end, char-token, char-begun, char-bad, greater-bad, begun-none, spelled-most, starts-length, begins-length, begun-amp, cr-waits, cr-lf, cr-alone, ref-bad, each-ref}
+use Rattle.tokens.proofs.Theory.{either, none-of, stop-59, whole, begun, no-line}
+use Rattle.tokens.proofs.Numerals.{Counted, Decided, decided, and-decided, char-decided, some-fewest, counted-none, counted-more, number-token, number-bad, number-large, number-cut, begun-number, opened-hex, opened-decimal}
 
 -- a number with the property is found, or there is none under k
 module _ (P : ℕ → Type 0) where
@@ -57,14 +42,6 @@ module _ (P : ℕ → Type 0) where
       by (inl p) o = inl (k, p)
       by (inr n) (inl o) = inl o
       by (inr n) (inr f) = inr (one-more k f n)
-
-in-decided : (a c b : ℕ) → Decided (In a c b)
-in-decided a c b = and-decided (decided (decLe a c)) (decided (decLe c b))
-
-char-decided : (c : ℕ) → Decided (Char c)
-char-decided c =
-    or-decided (decided (ℕ-discrete c 0x9)) (or-decided (decided (ℕ-discrete c 0xA)) (or-decided (decided (ℕ-discrete c 0xD))
-    (or-decided (in-decided 0x20 c 0xD7FF) (or-decided (in-decided 0xE000 c 0xFFFD) (in-decided 0x10000 c 0x10FFFF)))))
 
 char-below : (c : ℕ) → Char c → c < 0x110000
 char-below c (inl e) = omega arith
@@ -181,38 +158,96 @@ module _ (f : List ℕ) (at : ℕ) (short : length f ≤ 32) where
       alone (inl e) = (Begun, begun-end f at e z o)
       alone (inr n) = by (omega arith) (nameFirst (getD f 2 0)) refl
 
-  ref-read : 1 ≤ length f → getD f 0 0 ≡ 38 → Read
-  ref-read h z =
+  ref-read : 2 ≤ length f → getD f 0 0 ≡ 38 → (getD f 1 0 ≡ 35 → ⊥) → Read
+  ref-read h z o =
       try amp (compared f (spelled amp)) (λ a. try lt (compared f (spelled lt)) (λ b. try gt (compared f (spelled gt))
-      (λ c. try apos (compared f (spelled apos)) (λ d. try quot (compared f (spelled quot)) (λ e. (Bad, ref-bad f at h z (each-ref f a b c d e)))))))
+      (λ c. try apos (compared f (spelled apos)) (λ d. try quot (compared f (spelled quot)) (λ e. (Bad, ref-bad f at h z o (each-ref f a b c d e)))))))
     where
       try : (x : Ref) → Starts f (spelled x) ⊎ (Begins f (spelled x) ⊎ Apart f (spelled x)) → (Apart f (spelled x) → Read) → Read
-      try x (inl s) next = (Token (Character (stands x)) (record { at = at + length (spelled x) }), (ref x, tt, s, refl, refl))
-      try x (inr (inl b)) next = (Begun, (ref x, tt, b, spelled-most x))
+      try x (inl s) next =
+          let n : ℕ = at + length (spelled x) in
+          (Token (Character (stands x) false) (record { at = n }), whole f at (ref x) (s .0) tt (s .1) (Character (stands x) false) (record { at = n }) tt tt refl refl)
+      try x (inr (inl b)) next = (Begun, begun f at (ref x) tt (no-line (ref x) crlf refl) b (spelled-most x))
       try x (inr (inr a)) next = next a
 
-  char-read : 1 ≤ length f → (getD f 0 0 ≡ 60 → ⊥) → (getD f 0 0 ≡ 38 → ⊥) → (getD f 0 0 ≡ 62 → ⊥) → Read
-  char-read h a b c = by (some-decoded f 0x110000 char-below)
+  -- the digits from i on
+  module _ (from r : ℕ) (O : Opened f from r) where
+    cut-read : (i n : ℕ) → Counted f from r i n → length f ≤ i → Read
+    cut-read i n C h =
+        let (k, F, few) = some-fewest (O .base) n (C .small) in
+        (cutAt (length f + k), number-cut f at from r O i n C (omega (arith, C .within)) k (subst (λ (x : ℕ). Fewest x n k) (sym (O .radix-is)) F))
+
+    digit-read : (i n : ℕ) → Counted f from r i n → ((n′ : ℕ) → Counted f from r (i + 1) n′ → Read) → i < length f → Read
+    digit-read i n C next q =
+        by (decided (ℕ-discrete (getD f i 0) 59)) (char-decided n) (decided (decLt (digitValue (getD f i 0)) r)) (decided (decLt 0x10FFFF (n * r + digitValue (getD f i 0))))
+      where
+        d : ℕ
+        d = digitValue (getD f i 0)
+
+        stop-here : getD f i 0 ≡ 59 → digitBelow r (getD f i 0) ≡ true → ⊥
+        stop-here z y = true≢false (sym y ∙ ap₂ (λ (u v : ℕ). digitBelow u v) (O .radix-is) z ∙ stop-59 (O .base))
+
+        by : Decided (getD f i 0 ≡ 59) → Decided (Char n) → Decided (digitValue (getD f i 0) < r) → Decided (0x10FFFF < n * r + digitValue (getD f i 0)) → Read
+        by (inl a) (inl b) c e = (Token (Character n false) (record { at = at + i + 1 }), number-token f at from r O i n C q a b)
+        by (inl a) (inr b) c e = (Bad, number-bad f at from r O i n C q (stop-here a) (λ z k. b k))
+        by (inr a) b (inr c) e = (Bad, number-bad f at from r O i n C q (λ y. c (ltb-true d r y)) (λ z k. a z))
+        by (inr a) b (inl c) (inl e) = (Bad, number-large f at from r O i n C q (lt-ltb d r c) e)
+        by (inr a) b (inl c) (inr e) = next (n * r + d) (counted-more f from r i n d C q refl c (omega arith))
+
+    digits-read : (left i n : ℕ) → Counted f from r i n → length f ≤ i + left → Read
+    digits-read zero i n C l = cut-read i n C (omega arith)
+    digits-read (suc left) i n C l = go (λ n′ C′. digits-read left (i + 1) n′ C′ (omega arith)) (decided (decLt i (length f)))
+      where
+        go : ((n′ : ℕ) → Counted f from r (i + 1) n′ → Read) → Decided (i < length f) → Read
+        go next (inl q) = digit-read i n C next q
+        go next (inr q) = cut-read i n C (omega arith)
+
+    number-read : from ≤ length f → Read
+    number-read h = digits-read (length f) from 0 (counted-none f from r h) (omega arith)
+
+  amp-read : 1 ≤ length f → getD f 0 0 ≡ 38 → Read
+  amp-read h z = by (decided (ℕ-discrete (length f) 1)) (decided (ℕ-discrete (getD f 1 0) 35)) (decided (ℕ-discrete (length f) 2)) (decided (ℕ-discrete (getD f 2 0) 120))
+    where
+      by : Decided (length f ≡ 1) → Decided (getD f 1 0 ≡ 35) → Decided (length f ≡ 2) → Decided (getD f 2 0 ≡ 120) → Read
+      by (inl e) a b c = (Begun, begun-amp f at e z)
+      by (inr n) (inr a) b c = ref-read (omega arith) z a
+      by (inr n) (inl a) (inl b) c = (Begun, begun-number f at b z a)
+      by (inr n) (inl a) (inr b) (inl c) = number-read 3 16 (opened-hex f (omega arith) z a c) (omega arith)
+      by (inr n) (inl a) (inr b) (inr c) = number-read 2 10 (opened-decimal f (omega arith) z a c) (omega arith)
+
+  line-read : 1 ≤ length f → getD f 0 0 ≡ 13 → Read
+  line-read h z = by (decided (ℕ-discrete (length f) 1)) (decided (ℕ-discrete (getD f 1 0) 10))
+    where
+      by : Decided (length f ≡ 1) → Decided (getD f 1 0 ≡ 10) → Read
+      by (inl e) a = (Waiting (Character 10 true) (record { at = at + 1 }), cr-waits f at h z e)
+      by (inr n) (inl a) = (Token (Character 10 true) (record { at = at + 2 }), cr-lf f at h z (omega arith) a)
+      by (inr n) (inr a) = (Token (Character 10 true) (record { at = at + 1 }), cr-alone f at h z (omega arith) a)
+
+  char-read : 1 ≤ length f → (getD f 0 0 ≡ 60 → ⊥) → (getD f 0 0 ≡ 38 → ⊥) → (getD f 0 0 ≡ 62 → ⊥) → (getD f 0 0 ≡ 13 → ⊥) → Read
+  char-read h a b c e = by (some-decoded f 0x110000 char-below)
     where
       by : (d : Decoded) × DecodedIs f d → Read
-      by (Decoded.Whole x n, d) = (Token (Character x) (record { at = at + n }), char-token f at h a b c x n d)
-      by (Decoded.Begun, d) = (Begun, char-begun f at h a b c d)
-      by (Decoded.Bad, d) = (Bad, char-bad f at h a b c d)
+      by (Decoded.Whole x n, d) = (Token (Character x true) (record { at = at + n }), char-token f at h a b c e x n d)
+      by (Decoded.Begun, d) = (Begun, char-begun f at h a b c e d)
+      by (Decoded.Bad, d) = (Bad, char-bad f at h a b c e d)
 
   pub front-read : Read
-  front-read = by (decided (ℕ-discrete (length f) 0)) (decided (ℕ-discrete (getD f 0 0) 60)) (decided (ℕ-discrete (getD f 0 0) 38)) (decided (ℕ-discrete (getD f 0 0) 62))
+  front-read =
+      by (decided (ℕ-discrete (length f) 0)) (decided (ℕ-discrete (getD f 0 0) 60)) (decided (ℕ-discrete (getD f 0 0) 38)) (decided (ℕ-discrete (getD f 0 0) 62))
+      (decided (ℕ-discrete (getD f 0 0) 13))
     where
       tag-read : 1 ≤ length f → getD f 0 0 ≡ 60 → Decided (length f ≡ 1) → Decided (getD f 1 0 ≡ 47) → Read
       tag-read h z (inl e) d = (Begun, begun-open f at e z)
       tag-read h z (inr n) (inl o) = end-read (omega arith) z o
       tag-read h z (inr n) (inr m) = open-read (omega arith) z m
 
-      by : Decided (length f ≡ 0) → Decided (getD f 0 0 ≡ 60) → Decided (getD f 0 0 ≡ 38) → Decided (getD f 0 0 ≡ 62) → Read
-      by (inl e) a b c = (Begun, begun-none f at e)
-      by (inr n) (inl a) b c = tag-read (omega arith) a (decided (ℕ-discrete (length f) 1)) (decided (ℕ-discrete (getD f 1 0) 47))
-      by (inr n) (inr a) (inl b) c = ref-read (omega arith) b
-      by (inr n) (inr a) (inr b) (inl c) = (Bad, greater-bad f at (omega arith) c)
-      by (inr n) (inr a) (inr b) (inr c) = char-read (omega arith) a b c
+      by : Decided (length f ≡ 0) → Decided (getD f 0 0 ≡ 60) → Decided (getD f 0 0 ≡ 38) → Decided (getD f 0 0 ≡ 62) → Decided (getD f 0 0 ≡ 13) → Read
+      by (inl e) a b c d = (Begun, begun-none f at e)
+      by (inr n) (inl a) b c d = tag-read (omega arith) a (decided (ℕ-discrete (length f) 1)) (decided (ℕ-discrete (getD f 1 0) 47))
+      by (inr n) (inr a) (inl b) c d = amp-read (omega arith) b
+      by (inr n) (inr a) (inr b) (inl c) d = (Bad, greater-bad f at (omega arith) c)
+      by (inr n) (inr a) (inr b) (inr c) (inl d) = line-read (omega arith) d
+      by (inr n) (inr a) (inr b) (inr c) (inr d) = char-read (omega arith) a b c d
 
 -- the reader answers at each place
 pub some-answer : (s : List ℕ) (at : ℕ) → (x : Answer) × Means (front s at) at x
