@@ -1,9 +1,11 @@
 // What lies ahead of a run: whether it is steady, tried by a character that is not there, and the stretch that it can then take at once.
 ghost use mathlib.Core.Path.{_≡_};
 ghost use mathlib.Core.Bool.{true, false};
-ghost use Prim.Native.Nat.{ℕ, _≤_, _^_};
+ghost use Prim.Native.Nat.{ℕ, _≤_};
 ghost use lib.ListN.{length, take};
 ghost use mathlib.Core.List.{List};
+ghost use Rattle.runs.specs.Visits.{mostVisits};
+ghost use Rattle.state.specs.Bounds.{mostSets};
 ghost use Rattle.live.specs.Live.{full};
 ghost use Rattle.layout.specs.LaidOut.{LaidOut};
 ghost use Rattle.steady.specs.Steady.{shown};
@@ -49,8 +51,8 @@ fn same_set(a: Saved, b: Saved) -> bool
 }
 
 // Whether the first n sets are the same.
-fn same_sets(a: [Saved; 13], b: [Saved; 13], n: usize) -> bool
-    requires { ⌜ n ≤ 13 ⌝ }
+fn same_sets(a: [Saved; Frame::SETS], b: [Saved; Frame::SETS], n: usize) -> bool
+    requires { ⌜ n ≤ mostSets ⌝ }
     ensures { λ r. ⌜ (r ≡ true → take n a ≡ take n b) ⌝ }
 {
     let mut i = 0;
@@ -129,7 +131,7 @@ fn width(on: bool) -> usize
 fn probe(s: &[u8], l: Layout, z: Live, stack: &[u8], out: &mut [u8]) -> Tried
     requires { ⌜ LaidOut (now s) l ⌝ }
     requires { ⌜ ReadyAt (now s) z (now stack) ⌝ }
-    requires { ⌜ z .count ≤ 2 ^ 62 ⌝ }
+    requires { ⌜ z .count ≤ mostVisits ⌝ }
     ensures { λ r. ⌜ ProbedAs (now (s .entry)) (full z (now (stack .entry))) r ⌝ }
     ensures { λ _. ⌜ now (out .exit) ≡ now (out .entry) ⌝ }
 {
@@ -172,7 +174,7 @@ pub fn onward(
     requires { ⌜ ReadyAt (now s) (run .live) (now stack) ⌝ }
     requires { ⌜ from ≤ length (now part) ⌝ }
     requires { ⌜ run .at ≤ length (now out) ⌝ }
-    requires { ⌜ run .live .count ≤ 2 ^ 62 ⌝ }
+    requires { ⌜ run .live .count ≤ mostVisits ⌝ }
     ensures { λ r. ⌜ OnwardAs (now (s .entry)) (now (part .entry)) (full (run .live) (now (stack .entry))) (now (out .entry)) from (run .at) r (now (out .exit)) ⌝ }
 {
     let z = run.live;

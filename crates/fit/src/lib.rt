@@ -29,9 +29,6 @@ use state::State;
 // Where no element can be open: no byte is this nonterminal.
 const NO_CHILD: usize = 256;
 
-// The highest count of visits: 2^62.
-const MOST_VISITS: u64 = 0x4000000000000000;
-
 // A place of an expression: whether the expression has it, the nonterminal that an element open there is of, and how many nodes are open.
 pub struct Spot {
     pub there: bool,
@@ -269,7 +266,7 @@ pub fn state_fits(s: &[u8], l: Layout, z: State) -> bool
     if !closing_fits(z.closed) {
         return false;
     }
-    if MOST_VISITS < z.count {
+    if State::MOST_VISITS < z.count {
         return false;
     }
     let values = z.values;

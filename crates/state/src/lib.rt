@@ -164,6 +164,9 @@ impl State {
 
     pub const HIGHEST: u8 = 15;
 
+    // The highest count of visits: 2^62.
+    pub const MOST_VISITS: u64 = 0x4000000000000000;
+
     // The closing number of a state that is not closed: none of 0, 20 to 27 and 30.
     pub const OPEN: u8 = 255;
 

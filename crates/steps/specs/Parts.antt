@@ -26,6 +26,7 @@ use Rattle.acts.specs.Seen.{Outcome as Acted}
 use Rattle.steps.specs.declared.Run.{Run}
 use Rattle.steps.specs.declared.Stepped.{Stepped as LiveStepped}
 use Rattle.acts.specs.declared.Acted.{Acted as LiveActed}
+use Rattle.state.specs.Bounds.{stackWidth}
 use Rattle.live.specs.declared.Live.{Live}
 use Rattle.live.specs.Live.{full, SameBelow}
 use Rattle.steps.specs.Seen.{whole}
@@ -43,7 +44,7 @@ pub record Ready (s : List ℕ) (z : State) : Type 0 where
 -- the same of the live part of a state and the lent stack, which is long enough
 pub record ReadyAt (s : List ℕ) (h : Live) (b : List ℕ) : Type 0 where
   pub ready : Ready s (full h b)
-  pub long : 2176 ≤ length b
+  pub long : stackWidth ≤ length b
 
 -- what an event answers where it may push: what the state before it reads of the stack is as it was
 pub record Over (h : Live) (b b′ : List ℕ) (P : Type 0) : Type 0 where

@@ -6,6 +6,7 @@ ghost use Rattle.layout.specs.LaidOut.{LaidOut};
 ghost use Rattle.text.specs.Chars.{Char};
 ghost use Rattle.text.specs.Names.{blank};
 ghost use Rattle.runs.specs.Events.{starts, ends, letter};
+ghost use Rattle.runs.specs.Visits.{mostVisits};
 ghost use Rattle.live.specs.Live.{full};
 ghost use Rattle.few.specs.Strings.{mostBrackets};
 ghost use Rattle.acts.specs.Seen.{seen};
@@ -21,15 +22,13 @@ use live::Live;
 use lookups::blanks_pass;
 use lookups::production_for;
 use lookups::tag_named;
+use state::State;
 use tokens::Event;
 use trees::Symbol;
 use ways::find_way;
 
 // What a lookup answers where there is no tag or production.
 const MISSING: usize = 256;
-
-// The highest count of visits: 2^62.
-const MOST_VISITS: u64 = 0x4000000000000000;
 
 // The output of nearly every token is no longer than this.
 const SCRATCH: usize = 64;
@@ -102,7 +101,7 @@ impl Run {
         requires { ⌜ place < 256 ⌝ }
         requires { ⌜ length (now line) ≤ mostBrackets ⌝ }
         requires { ⌜ self .at ≤ 2 ^ 58 ⌝ }
-        requires { ⌜ self .live .count ≤ 2 ^ 62 + eventVisits ⌝ }
+        requires { ⌜ self .live .count ≤ mostVisits + eventVisits ⌝ }
         ensures { λ r. ⌜ FollowsAs (now (s .entry)) place (now (line .entry)) (full (self .live) (now (stack .entry))) (record { write = write; lent = now (out .entry); at = self .at }) (seen r (now (stack .entry))) (now (out .exit)) ⌝ }
     {
         let live = self.live;
@@ -133,7 +132,7 @@ impl Run {
         requires { ⌜ ReadyAt (now s) (self .live) (now stack) ⌝ }
         requires { ⌜ self .live .depth ≡ 0 ⌝ }
         requires { ⌜ self .at ≤ 2 ^ 58 ⌝ }
-        requires { ⌜ self .live .count ≤ 2 ^ 62 + eventVisits ⌝ }
+        requires { ⌜ self .live .count ≤ mostVisits + eventVisits ⌝ }
         ensures { λ r. ⌜ Over (self .live) (now (stack .entry)) (now (stack .exit)) (SteppedAs (now (s .entry)) (starts (tagIn t)) (full (self .live) (now (stack .entry))) (record { write = write; lent = now (out .entry); at = self .at }) (whole r (now (stack .exit))) (now (out .exit))) ⌝ }
     {
         let live = self.live;
@@ -166,7 +165,7 @@ impl Run {
         requires { ⌜ 0 < self .live .depth ⌝ }
         requires { ⌜ t ≤ 255 ⌝ }
         requires { ⌜ self .at ≤ 2 ^ 58 ⌝ }
-        requires { ⌜ self .live .count ≤ 2 ^ 62 + eventVisits ⌝ }
+        requires { ⌜ self .live .count ≤ mostVisits + eventVisits ⌝ }
         ensures { λ r. ⌜ Over (self .live) (now (stack .entry)) (now (stack .exit)) (SteppedAs (now (s .entry)) (starts (tagIn t)) (full (self .live) (now (stack .entry))) (record { write = write; lent = now (out .entry); at = self .at }) (whole r (now (stack .exit))) (now (out .exit))) ⌝ }
     {
         let live = self.live;
@@ -213,7 +212,7 @@ impl Run {
         requires { ⌜ LaidOut (now s) l ⌝ }
         requires { ⌜ ReadyAt (now s) (self .live) (now stack) ⌝ }
         requires { ⌜ self .at ≤ 2 ^ 58 ⌝ }
-        requires { ⌜ self .live .count ≤ 2 ^ 62 + eventVisits ⌝ }
+        requires { ⌜ self .live .count ≤ mostVisits + eventVisits ⌝ }
         ensures { λ r. ⌜ Over (self .live) (now (stack .entry)) (now (stack .exit)) (SteppedAs (now (s .entry)) (starts (tagIn t)) (full (self .live) (now (stack .entry))) (record { write = write; lent = now (out .entry); at = self .at }) (whole r (now (stack .exit))) (now (out .exit))) ⌝ }
     {
         if self.live.depth == 0 {
@@ -239,7 +238,7 @@ impl Run {
         requires { ⌜ ReadyAt (now s) (self .live) (now stack) ⌝ }
         requires { ⌜ 0 < self .live .depth ⌝ }
         requires { ⌜ self .at ≤ 2 ^ 58 ⌝ }
-        requires { ⌜ self .live .count ≤ 2 ^ 62 + eventVisits ⌝ }
+        requires { ⌜ self .live .count ≤ mostVisits + eventVisits ⌝ }
         ensures { λ r. ⌜ SteppedAs (now (s .entry)) (ends (tagIn t)) (full (self .live) (now (stack .entry))) (record { write = write; lent = now (out .entry); at = self .at }) (whole r (now (stack .entry))) (now (out .exit)) ⌝ }
     {
         let live = self.live;
@@ -276,7 +275,7 @@ impl Run {
         requires { ⌜ LaidOut (now s) l ⌝ }
         requires { ⌜ ReadyAt (now s) (self .live) (now stack) ⌝ }
         requires { ⌜ self .at ≤ 2 ^ 58 ⌝ }
-        requires { ⌜ self .live .count ≤ 2 ^ 62 + eventVisits ⌝ }
+        requires { ⌜ self .live .count ≤ mostVisits + eventVisits ⌝ }
         ensures { λ r. ⌜ SteppedAs (now (s .entry)) (ends (tagIn t)) (full (self .live) (now (stack .entry))) (record { write = write; lent = now (out .entry); at = self .at }) (whole r (now (stack .entry))) (now (out .exit)) ⌝ }
     {
         let live = self.live;
@@ -304,7 +303,7 @@ impl Run {
         requires { ⌜ 0 < self .live .depth ⌝ }
         requires { ⌜ Char c ⌝ }
         requires { ⌜ self .at ≤ 2 ^ 58 ⌝ }
-        requires { ⌜ self .live .count ≤ 2 ^ 62 + eventVisits ⌝ }
+        requires { ⌜ self .live .count ≤ mostVisits + eventVisits ⌝ }
         ensures { λ r. ⌜ SteppedAs (now (s .entry)) (letter c) (full (self .live) (now (stack .entry))) (record { write = write; lent = now (out .entry); at = self .at }) (whole r (now (stack .entry))) (now (out .exit)) ⌝ }
     {
         let live = self.live;
@@ -345,7 +344,7 @@ impl Run {
         requires { ⌜ ReadyAt (now s) (self .live) (now stack) ⌝ }
         requires { ⌜ Char c ⌝ }
         requires { ⌜ self .at ≤ 2 ^ 58 ⌝ }
-        requires { ⌜ self .live .count ≤ 2 ^ 62 + eventVisits ⌝ }
+        requires { ⌜ self .live .count ≤ mostVisits + eventVisits ⌝ }
         ensures { λ r. ⌜ SteppedAs (now (s .entry)) (letter c) (full (self .live) (now (stack .entry))) (record { write = write; lent = now (out .entry); at = self .at }) (whole r (now (stack .entry))) (now (out .exit)) ⌝ }
     {
         let live = self.live;
@@ -371,7 +370,7 @@ impl Run {
         requires { ⌜ LaidOut (now s) l ⌝ }
         requires { ⌜ ReadyAt (now s) (self .live) (now stack) ⌝ }
         requires { ⌜ self .at ≤ 2 ^ 57 ⌝ }
-        requires { ⌜ self .live .count ≤ 2 ^ 62 ⌝ }
+        requires { ⌜ self .live .count ≤ mostVisits ⌝ }
         ensures { λ r. ⌜ Over (self .live) (now (stack .entry)) (now (stack .exit)) (OneTokenAs (now (s .entry)) (empty-token (tagIn t)) (full (self .live) (now (stack .entry))) (record { write = write; lent = now (out .entry); at = self .at }) (whole r (now (stack .exit))) (now (out .exit))) ⌝ }
     {
         let begun = self.start(s, l, t, stack, out, write);
@@ -416,7 +415,7 @@ impl Run {
         requires { ⌜ Char c ⌝ }
         requires { ⌜ self .at ≤ 2 ^ 57 ⌝ }
         requires { ⌜ self .live .count ≤ mostVisits ⌝ }
-        ensures { λ r. ⌜ OneTokenAs (now (s .entry)) (characterToken literal c) (full (self .live) (now (stack .entry))) (record { write = write; lent = now (out .entry); at = self .at }) (whole r (now (stack .entry))) (now (out .exit)) ⌝ }
+        ensures { λ r. ⌜ OneTokenAs (now (s .entry)) (literal c) (full (self .live) (now (stack .entry))) (record { write = write; lent = now (out .entry); at = self .at }) (whole r (now (stack .entry))) (now (out .exit)) ⌝ }
     {
         if !(literal & is_blank(c)) {
             return self.character(s, l, c, stack, out, write);
@@ -442,7 +441,7 @@ impl Run {
         requires { ⌜ ReadyAt (now s) (self .live) (now stack) ⌝ }
         requires { ⌜ EventIn (now part) e ⌝ }
         requires { ⌜ self .at ≤ 2 ^ 57 ⌝ }
-        requires { ⌜ self .live .count ≤ 2 ^ 62 ⌝ }
+        requires { ⌜ self .live .count ≤ mostVisits ⌝ }
         ensures { λ r. ⌜ Over (self .live) (now (stack .entry)) (now (stack .exit)) (TokenAs (now (s .entry)) (now (part .entry)) e (full (self .live) (now (stack .entry))) (record { write = write; lent = now (out .entry); at = self .at }) (whole r (now (stack .exit))) (now (out .exit))) ⌝ }
     {
         match e {
@@ -480,7 +479,7 @@ impl Run {
         requires { ⌜ ReadyAt (now s) (self .live) (now stack) ⌝ }
         requires { ⌜ EventIn (now part) e ⌝ }
         requires { ⌜ self .at ≤ length (now out) ⌝ }
-        requires { ⌜ self .live .count ≤ 2 ^ 62 ⌝ }
+        requires { ⌜ self .live .count ≤ mostVisits ⌝ }
         ensures { λ r. ⌜ Over (self .live) (now (stack .entry)) (now (stack .exit)) (TakenAs (now (s .entry)) (now (part .entry)) e (full (self .live) (now (stack .entry))) (now (out .entry)) (self .at) (whole r (now (stack .exit))) (now (out .exit))) ⌝ }
     {
         let at = self.at;
@@ -495,7 +494,7 @@ impl Run {
         if once.number != 0 {
             return self.refuse(once.number);
         }
-        if MOST_VISITS < after.count {
+        if State::MOST_VISITS < after.count {
             return self.refuse(30);
         }
         let n = once.at;

@@ -13,21 +13,22 @@ use cases::read_number;
 use converter::convert_bytes;
 use files::within;
 use libc::STDOUT_FILENO;
+use state::State;
 
 // What every byte of the output is before it is lent.
 const LENT: u8 = 0xAA;
 
 // The length of a state's bytes, where in them the flag "root closed" and the closing number stand, and the closing number of an open state.
-const STATE: usize = 2199;
+const STATE: usize = State::BYTES;
 
-const ROOTED: usize = 13;
+const ROOTED: usize = State::ATTRIBUTES + 9;
 
-const CLOSING: usize = 14;
+const CLOSING: usize = ROOTED + 1;
 
-const OPEN: u8 = 255;
+const OPEN: u8 = State::OPEN;
 
 // How many of a state's bytes a call's line gives; its flag is this where it tells nothing.
-const HEAD: usize = 23;
+const HEAD: usize = State::HEAD;
 
 const ANY: u8 = 2;
 

@@ -29,7 +29,9 @@ use Rattle.calls.proofs.Read.{token-means}
 use Rattle.stretches.specs.declared.Next.{Next}
 use Rattle.stretches.specs.declared.Next.the-variants.{Character as Stands, Other}
 use Rattle.output.specs.Escape.{escaped}
-use Rattle.stretches.specs.Next.{plain, space, NextIs}
+use Rattle.output.specs.Reach.{farthest}
+use Rattle.runs.specs.Visits.{mostVisits}
+use Rattle.stretches.specs.Next.{plain, space, allows, NextIs}
 
 -- the event of a token
 abbrev eventIn : Answer → Event
@@ -50,9 +52,21 @@ or-true : (a b : Bool) → (a || b) ≡ true → (a ≡ true) ⊎ (b ≡ true)
 or-true true b h = inl refl
 or-true false b h = inr h
 
-and-true : (a b : Bool) → (a && b) ≡ true → (a ≡ true) × (b ≡ true)
+pub and-true : (a b : Bool) → (a && b) ≡ true → (a ≡ true) × (b ≡ true)
 and-true true b h = (refl, h)
 and-true false b h = absurd (true≢false (sym h))
+
+-- what the limits allow
+pub record Allowed (k count room to : ℕ) : Type 0 where
+  pub visits : count + k ≤ mostVisits
+  pub longest : 5 ≤ room
+  pub reach : to ≤ farthest
+
+pub allowed-is : (k count room to : ℕ) → k ≤ mostVisits → allows k count room to ≡ true → Allowed k count room to
+allowed-is k count room to h e =
+    let p = and-true (leb count (mostVisits - k)) (leb 5 room && leb to farthest) e in
+    let q = and-true (leb 5 room) (leb to farthest) (p .1) in
+    record { visits = omega (arith, h, leb-true count (mostVisits - k) (p .0)); longest = leb-true 5 room (q .0); reach = leb-true to farthest (q .1) }
 
 pub record Alone (b : ℕ) : Type 0 where
   pub small : b < 128

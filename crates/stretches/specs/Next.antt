@@ -3,13 +3,15 @@
 use mathlib.Core.Path.{_≡_}
 use mathlib.Core.Bool.{Bool, true, cond, not, _&&_, _||_}
 use mathlib.Core.List.{List}
-use Prim.Native.Nat.{ℕ, _+_}
+use Prim.Native.Nat.{ℕ, _+_, _-_}
 use lib.Dec.{leb, ltb, eqb}
 use lib.ListN.{length, getD}
 use Rattle.tokens.specs.Tokens.{front, Means}
 use Rattle.tokens.specs.declared.Cursor.{Cursor}
 use Rattle.tokens.specs.declared.Event.the-variants.{Character}
 use Rattle.tokens.specs.declared.Answer.the-variants.{Token}
+use Rattle.output.specs.Reach.{farthest}
+use Rattle.runs.specs.Visits.{mostVisits}
 use Rattle.stretches.specs.declared.Next.{Next}
 use Rattle.stretches.specs.declared.Next.the-variants.{Character as Stands, Other}
 
@@ -23,6 +25,10 @@ space b = eqb b 32 || (eqb b 9 || eqb b 10)
 -- the part ends there, or a < stands there
 abbrev pub tagOrEnd : List ℕ → ℕ → Bool
 tagOrEnd part at = cond (ltb at (length part)) (eqb (getD part at 0) 60) true
+
+-- one more character of k visits is within the limits: the count of visits, room for the longest that one is written as, and how far output reaches
+abbrev pub allows : ℕ → ℕ → ℕ → ℕ → Bool
+allows k count room to = leb count (mostVisits - k) && (leb 5 room && leb to farthest)
 
 -- a character stands there itself, as the reader says, and takes so many bytes; or none does: a reference, or a CR that waits, is none
 abbrev pub NextIs : List ℕ → ℕ → Next → Type 0

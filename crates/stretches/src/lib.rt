@@ -1,26 +1,25 @@
 // Stretches of a part: characters one after another where a run is steady, and white space where it is no event.
 ghost use mathlib.Core.Path.{_≡_};
 ghost use mathlib.Core.Bool.{true};
-ghost use Prim.Native.Nat.{_≤_, _^_};
+ghost use Prim.Native.Nat.{_≤_};
 ghost use lib.ListN.{length};
 ghost use Rattle.lent.specs.Put.{PutAs};
 ghost use Rattle.text.specs.Chars.{Char};
 ghost use Rattle.output.specs.Reach.{farthest};
+ghost use Rattle.runs.specs.Visits.{mostVisits};
 ghost use Rattle.steady.specs.Steady.{shown};
 ghost use Rattle.stretches.specs.Stretched.{StretchedAs, CarriedAs, BlanksAs};
-ghost use Rattle.stretches.specs.Next.{plain, space, tagOrEnd, NextIs};
+ghost use Rattle.stretches.specs.Next.{plain, space, tagOrEnd, allows, NextIs};
+use state::State;
 use tokens::Answer;
 use tokens::Cursor;
 use tokens::Event;
 
-// The highest count of visits: 2^62.
-const MOST_VISITS: u64 = 0x4000000000000000;
-
 // The most bytes that a character is written as.
 const LONGEST: usize = 5;
 
-// No output is written from here on: 2^61.
-const FARTHEST: usize = 0x2000000000000000;
+// No output is written past here: 2^62.
+const FARTHEST: usize = 0x4000000000000000;
 
 // How far a stretch goes: the place of the part behind it, where the next byte of output goes, and the count of visits.
 pub struct Stretch {
@@ -103,12 +102,20 @@ fn show_plain(b: u8, on: bool, out: &mut [u8], at: usize) -> usize
     at
 }
 
-// A stretch carried on over plain bytes, without the reader: as many as stand there and have room.
+// Whether the limits allow one more character: its visits, room for the longest, and how far output reaches.
+fn allowed(k: u64, count: u64, room: usize, to: usize) -> bool
+    requires { ⌜ k ≤ mostVisits ⌝ }
+    ensures { λ r. ⌜ r ≡ allows k count room to ⌝ }
+{
+    (count <= State::MOST_VISITS - k) & ((LONGEST <= room) & (to <= FARTHEST))
+}
+
+// A stretch carried on over plain bytes, without the reader: as many as stand there and the limits allow.
 fn plains(part: &[u8], from: Stretch, on: bool, k: u64, out: &mut [u8]) -> Stretch
     requires { ⌜ from .at ≤ length (now part) ⌝ }
     requires { ⌜ from .put ≤ length (now out) ⌝ }
-    requires { ⌜ k ≤ 2 ^ 62 ⌝ }
-    requires { ⌜ from .count ≤ 2 ^ 62 ⌝ }
+    requires { ⌜ k ≤ mostVisits ⌝ }
+    requires { ⌜ from .count ≤ mostVisits ⌝ }
     ensures { λ r. ⌜ CarriedAs (now (part .entry)) on k from (now (out .entry)) r (now (out .exit)) ⌝ }
 {
     let mut at = from.at;
@@ -116,28 +123,8 @@ fn plains(part: &[u8], from: Stretch, on: bool, k: u64, out: &mut [u8]) -> Stret
     let mut count = from.count;
     while at < part.len() {
         let b = part[at];
-        if !is_plain(b) {
-            return Stretch {
-                at: at,
-                put: to,
-                count: count,
-            };
-        }
-        if MOST_VISITS - k < count {
-            return Stretch {
-                at: at,
-                put: to,
-                count: count,
-            };
-        }
-        if out.len() - to < LONGEST {
-            return Stretch {
-                at: at,
-                put: to,
-                count: count,
-            };
-        }
-        if FARTHEST < to {
+        let one = is_plain(b) & allowed(k, count, out.len() - to, to);
+        if !one {
             return Stretch {
                 at: at,
                 put: to,
@@ -167,8 +154,8 @@ pub fn characters(
 ) -> Stretch
     requires { ⌜ from ≤ length (now part) ⌝ }
     requires { ⌜ put ≤ length (now out) ⌝ }
-    requires { ⌜ k ≤ 2 ^ 62 ⌝ }
-    requires { ⌜ n ≤ 2 ^ 62 ⌝ }
+    requires { ⌜ k ≤ mostVisits ⌝ }
+    requires { ⌜ n ≤ mostVisits ⌝ }
     ensures { λ r. ⌜ StretchedAs (now (part .entry)) from on k n (now (out .entry)) put r (now (out .exit)) ⌝ }
 {
     let mut at = from;
@@ -188,13 +175,7 @@ pub fn characters(
         let Next::Character(c, w) = next else {
             return far;
         };
-        if MOST_VISITS - k < far.count {
-            return far;
-        }
-        if out.len() - far.put < LONGEST {
-            return far;
-        }
-        if FARTHEST < far.put {
+        if !allowed(k, far.count, out.len() - far.put, far.put) {
             return far;
         }
         to = show(c, on, out, far.put);

@@ -4,6 +4,7 @@ ghost use mathlib.Core.Bool.{_&&_};
 ghost use Prim.Native.Nat.{_+_, _*_, _≤_, _<_, _^_};
 ghost use lib.ListN.{length, getD, set};
 ghost use Rattle.output.specs.Reach.{farthest};
+ghost use Rattle.runs.specs.Visits.{attributes};
 ghost use Rattle.layout.specs.LaidOut.{LaidOut};
 ghost use Rattle.visits.specs.Evaluated.{ValueIs, JudgedAs, SettledAs, PastIs, EndIs};
 ghost use Rattle.visits.specs.Written.{Written, TextOf, RangeOf, TagOf, PrintOf};
@@ -15,8 +16,13 @@ const NONE: usize = 65535;
 
 // The attributes and echo.
 pub struct Env {
-    pub values: [u8; 4],
+    pub values: [u8; Env::ATTRIBUTES],
     pub echo: bool,
+}
+
+impl Env {
+    // The number of attributes.
+    pub const ATTRIBUTES: usize = 4;
 }
 
 // What a condition came to, and the byte after it.
@@ -60,13 +66,13 @@ fn byte(s: &[u8], i: usize) -> u8
 }
 
 // The value of attribute a.
-fn value_of(values: [u8; 4], a: usize) -> u8
+fn value_of(values: [u8; Env::ATTRIBUTES], a: usize) -> u8
     ensures { λ r. ⌜ r ≡ getD values a 0 ⌝ }
 {
-    if a < 4 { values[a] } else { 0 }
+    if a < Env::ATTRIBUTES { values[a] } else { 0 }
 }
 
-fn operand(s: &[u8], i: usize, kept: [u8; 4], values: [u8; 4]) -> u8
+fn operand(s: &[u8], i: usize, kept: [u8; Env::ATTRIBUTES], values: [u8; Env::ATTRIBUTES]) -> u8
     requires { ⌜ i + 1 < length (now s) ⌝ }
     ensures { λ r. ⌜ ValueIs (now (s .entry)) i kept values r ⌝ }
 {
@@ -82,7 +88,12 @@ fn operand(s: &[u8], i: usize, kept: [u8; 4], values: [u8; 4]) -> u8
 }
 
 // Two operands, compared.
-fn comparison(s: &[u8], i: usize, kept: [u8; 4], values: [u8; 4]) -> Judged
+fn comparison(
+    s: &[u8],
+    i: usize,
+    kept: [u8; Env::ATTRIBUTES],
+    values: [u8; Env::ATTRIBUTES],
+) -> Judged
     requires { ⌜ (i < length (now s)) × (getD (now s) i 0 ≡ 0) ⌝ }
     ensures { λ r. ⌜ JudgedAs (now (s .entry)) i kept values r ⌝ }
 {
@@ -100,7 +111,12 @@ fn comparison(s: &[u8], i: usize, kept: [u8; 4], values: [u8; 4]) -> Judged
     }
 }
 
-fn condition(s: &[u8], i: usize, kept: [u8; 4], values: [u8; 4]) -> Judged
+fn condition(
+    s: &[u8],
+    i: usize,
+    kept: [u8; Env::ATTRIBUTES],
+    values: [u8; Env::ATTRIBUTES],
+) -> Judged
     requires { ⌜ i ≤ length (now s) ⌝ }
     ensures { λ r. ⌜ JudgedAs (now (s .entry)) i kept values r ⌝ }
 {
@@ -136,7 +152,7 @@ fn condition(s: &[u8], i: usize, kept: [u8; 4], values: [u8; 4]) -> Judged
 
 // The attributes with attribute a become v.
 fn with_value(env: Env, a: usize, v: u8) -> Env
-    requires { ⌜ a < 4 ⌝ }
+    requires { ⌜ a < attributes ⌝ }
     ensures { λ r. ⌜ (r .values ≡ set (env .values) a v) × (r .echo ≡ env .echo) ⌝ }
 {
     let mut changed = env;
@@ -145,7 +161,7 @@ fn with_value(env: Env, a: usize, v: u8) -> Env
 }
 
 // The attributes and echo after the statement at i, one other than a branch.
-fn settled(s: &[u8], i: usize, kept: [u8; 4], env: Env) -> Env
+fn settled(s: &[u8], i: usize, kept: [u8; Env::ATTRIBUTES], env: Env) -> Env
     requires { ⌜ (i < length (now s)) × (length (now s) ≤ 65536) × (getD (now s) i 0 ≡ 10 → ⊥) ⌝ }
     ensures { λ r. ⌜ SettledAs (now (s .entry)) i kept env r ⌝ }
 {
@@ -163,7 +179,7 @@ fn settled(s: &[u8], i: usize, kept: [u8; 4], env: Env) -> Env
     let values = env.values;
     let a = wide(byte(s, i + 1));
     let b = byte(s, i + 2);
-    if 3 < a {
+    if Env::ATTRIBUTES <= a {
         return env;
     }
     if k == 1 {
@@ -297,7 +313,7 @@ fn plain(
     tags: &[u8],
     strings: &[u8],
     i: usize,
-    kept: [u8; 4],
+    kept: [u8; Env::ATTRIBUTES],
     env: Env,
     live: bool,
     out: &mut [u8],
@@ -338,7 +354,7 @@ fn statement(
     tags: &[u8],
     strings: &[u8],
     i: usize,
-    kept: [u8; 4],
+    kept: [u8; Env::ATTRIBUTES],
     env: Env,
     live: bool,
     out: &mut [u8],
@@ -371,7 +387,7 @@ fn list(
     tags: &[u8],
     strings: &[u8],
     i: usize,
-    kept: [u8; 4],
+    kept: [u8; Env::ATTRIBUTES],
     env: Env,
     live: bool,
     out: &mut [u8],
@@ -411,7 +427,7 @@ fn perform_at(
     s: &[u8],
     l: layout::Layout,
     field: usize,
-    kept: [u8; 4],
+    kept: [u8; Env::ATTRIBUTES],
     env: Env,
     out: &mut [u8],
     at: usize,
@@ -449,7 +465,7 @@ pub fn perform(
     s: &[u8],
     l: layout::Layout,
     field: usize,
-    kept: [u8; 4],
+    kept: [u8; Env::ATTRIBUTES],
     env: Env,
     out: &mut [u8],
     at: usize,
