@@ -5,6 +5,7 @@ pub mod Spots
 pub mod Atoms
 pub mod Throughs
 pub mod Intos
+pub mod Away
 pub mod Outs
 pub mod Acrosses
 pub mod Ends

@@ -19,19 +19,16 @@ use Rattle.ways.specs.declared.Parts.{Parts}
 use Rattle.ways.specs.Held.{again, there, LineIs, Missing, Bracketed}
 use Rattle.ways.specs.Spot.{SpotIn, PartOf, PartsOf}
 use Rattle.ways.specs.Walks.{Through, OutOf, IfJoined}
-use Rattle.ways.proofs.Strings.{joined-assoc, joined-none, joined-first, joined-second}
+use Rattle.ways.proofs.Strings.{joined-assoc, joined-none}
+use Rattle.ways.proofs.Away.{or-none, out-away}
 use Rattle.ways.proofs.Holds.{line-moved, kept-itself, kept-then, kept-again, line-again, missing-line, missing-kept}
 use Rattle.ways.proofs.Spots.{by-leaf, by-star, by-two, part-at}
 
 abbrev last-bracket : ℕ → Option (List Bracket)
 last-bracket i = some (closing i ∷ [])
 
-module _ (i : ℕ) (o v q : Option (List Bracket)) where
-  closed-first : there (joined o v) ≡ true → joined (joined o v) (last-bracket i) ≡ joined o (closed i (orElse v q))
-  closed-first h = ap (λ (u : Option (List Bracket)). joined u (last-bracket i)) (joined-first o v q h) ∙ joined-assoc o (orElse v q) (last-bracket i)
-
-  closed-second : there (joined o v) ≡ false → joined (joined o q) (last-bracket i) ≡ joined o (closed i (orElse v q))
-  closed-second h = ap (λ (u : Option (List Bracket)). joined u (last-bracket i)) (joined-second o v q h) ∙ joined-assoc o (orElse v q) (last-bracket i)
+closed-by : (i : ℕ) (o v q : Option (List Bracket)) → v ≡ q → joined (joined o v) (last-bracket i) ≡ joined o (closed i q)
+closed-by i o v q e = joined-assoc o v (last-bracket i) ∙ ap (λ (u : Option (List Bracket)). joined o (closed i u)) e
 
 -- a concatenation goes on through its second part, a union does not
 module _ (s : List ℕ) (k : ℕ) (t : Spot) (w : Line) where
@@ -71,9 +68,10 @@ module _ (s : List ℕ) (t : Spot) (k : ℕ) (kind : k ≡ kindOf s (t .node)) (
             (cl .is i (at .bracket-is) _ (inner .is f _ _ (part-at s t only part f y i j (at .bracket-is) (at .atom-is)) o h))) e at;
       }
 
-  module _ (low : 3 ≤ k) (high : k ≤ 4) (two : Parts) (parts : PartsOf s t two) (a b : Line) (first : OutOf s (two .first) p w a) (on : IfJoined s k (two .second) a b) where
-    pub out-first : b .found ≡ true → (r : Line) → Bracketed closing (t .bracket) b r → OutOf s t p w r
-    out-first found r cl =
+  module _ (low : 3 ≤ k) (high : k ≤ 4) (two : Parts) (parts : PartsOf s t two) where
+    -- the atom is in the first part: none is found in the second
+    pub out-first : p < two .second .atom → (a b : Line) → OutOf s (two .first) p w a → IfJoined s k (two .second) a b → (r : Line) → Bracketed closing (t .bracket) b r → OutOf s t p w r
+    out-first before a b first on r cl =
         record {
           few = omega (arith, parts .both, first .few, on .few, cl .few);
           kept = kept-then (kept-then (first .kept) (on .kept)) (cl .kept);
@@ -81,36 +79,42 @@ module _ (s : List ℕ) (t : Spot) (k : ℕ) (kind : k ≡ kindOf s (t .node)) (
               (λ c l m y z.
               let u = out-of l (suc i) j p in
               let v = through m (suc i + nodes l) in
+              let q = out-of m (suc i + nodes l) (j + atoms l) p in
+              let there-at = parts .second-at l m y z i j (at .bracket-is) (at .atom-is) in
+              let none-there : q ≡ none = out-away m (suc i + nodes l) (j + atoms l) p (λ g _. omega (arith, g, before, there-at .atom-is)) in
               let out = first .is l _ _ (parts .first-at l y i j (at .bracket-is) (at .atom-is)) o h in
-              let over = line-moved (joined-assoc o u v) (on .through-is c .is m _ _ (parts .second-at l m y z i j (at .bracket-is) (at .atom-is)) _ out) in
-              line-moved (closed-first i o (joined u v) (out-of m (suc i + nodes l) (j + atoms l) p) (sym (over .found-is) ∙ found)) (cl .is i (at .bracket-is) _ over))
+              let over = line-moved (joined-assoc o u v) (on .through-is c .is m _ _ there-at _ out) in
+              line-moved (closed-by i o (joined u v) (orElse (joined u v) q) (sym (ap (orElse (joined u v)) none-there ∙ or-none (joined u v)))) (cl .is i (at .bracket-is) _ over))
               (λ n l m y z.
               let u = out-of l (suc i) j p in
+              let q = out-of m (suc i + nodes l) (j + atoms l) p in
+              let there-at = parts .second-at l m y z i j (at .bracket-is) (at .atom-is) in
+              let none-there : q ≡ none = out-away m (suc i + nodes l) (j + atoms l) p (λ g _. omega (arith, g, before, there-at .atom-is)) in
               let out = first .is l _ _ (parts .first-at l y i j (at .bracket-is) (at .atom-is)) o h in
               let over = subst (λ (c : Line). LineIs (joined o u) c) (sym (on .same n)) out in
-              line-moved (closed-first i o u (out-of m (suc i + nodes l) (j + atoms l) p) (sym (over .found-is) ∙ found)) (cl .is i (at .bracket-is) _ over))
+              line-moved (closed-by i o u (orElse u q) (sym (ap (orElse u) none-there ∙ or-none u))) (cl .is i (at .bracket-is) _ over))
               e at;
         }
 
-    pub out-second : b .found ≡ false → (d r : Line) → OutOf s (two .second) p (again w (b .bytes)) d → Bracketed closing (t .bracket) d r → OutOf s t p w r
-    out-second missed d r second cl =
+    -- it is not: it is looked for in the second
+    pub out-second : two .second .atom ≤ p → (d r : Line) → OutOf s (two .second) p w d → Bracketed closing (t .bracket) d r → OutOf s t p w r
+    out-second past d r second cl =
         record {
           few = omega (arith, parts .both, second .few, cl .few);
-          kept = kept-then (kept-again (kept-then (first .kept) (on .kept))) (kept-then (second .kept) (cl .kept));
+          kept = kept-then (second .kept) (cl .kept);
           is = λ e i j at o h. by-two s t k kind (λ (u : Exp). LineIs (joined o (out-of u i j p)) r) low high
               (λ c l m y z.
               let u = out-of l (suc i) j p in
               let v = through m (suc i + nodes l) in
+              let q = out-of m (suc i + nodes l) (j + atoms l) p in
               let there-at = parts .second-at l m y z i j (at .bracket-is) (at .atom-is) in
-              let out = first .is l _ _ (parts .first-at l y i j (at .bracket-is) (at .atom-is)) o h in
-              let over = line-moved (joined-assoc o u v) (on .through-is c .is m _ _ there-at _ out) in
-              line-moved (closed-second i o (joined u v) (out-of m (suc i + nodes l) (j + atoms l) p) (sym (over .found-is) ∙ missed))
-              (cl .is i (at .bracket-is) _ (second .is m _ _ there-at o (line-again (kept-then (first .kept) (on .kept)) o h))))
+              let none-there : u ≡ none = out-away l (suc i) j p (λ _ g. omega (arith, g, past, there-at .atom-is)) in
+              line-moved (closed-by i o q (orElse (joined u v) q) (sym (ap (λ (f : Option (List Bracket)). orElse (joined f v) q) none-there))) (cl .is i (at .bracket-is) _ (second .is m _ _ there-at o h)))
               (λ n l m y z.
               let u = out-of l (suc i) j p in
-              let out = first .is l _ _ (parts .first-at l y i j (at .bracket-is) (at .atom-is)) o h in
-              let over = subst (λ (c : Line). LineIs (joined o u) c) (sym (on .same n)) out in
-              line-moved (closed-second i o u (out-of m (suc i + nodes l) (j + atoms l) p) (sym (over .found-is) ∙ missed))
-              (cl .is i (at .bracket-is) _ (second .is m _ _ (parts .second-at l m y z i j (at .bracket-is) (at .atom-is)) o (line-again (kept-then (first .kept) (on .kept)) o h))))
+              let q = out-of m (suc i + nodes l) (j + atoms l) p in
+              let there-at = parts .second-at l m y z i j (at .bracket-is) (at .atom-is) in
+              let none-there : u ≡ none = out-away l (suc i) j p (λ _ g. omega (arith, g, past, there-at .atom-is)) in
+              line-moved (closed-by i o q (orElse u q) (sym (ap (λ (f : Option (List Bracket)). orElse f q) none-there))) (cl .is i (at .bracket-is) _ (second .is m _ _ there-at o h)))
               e at;
         }

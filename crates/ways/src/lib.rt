@@ -348,9 +348,9 @@ fn out_of(s: &[u8], l: Layout, t: Spot, p: usize, w: Line, line: &mut [u8]) -> L
     let two = parts_of(s, l, t);
     let first = two.first;
     let second = two.second;
-    let a = out_of(s, l, first, p, w, line);
-    let b = if_joined(s, l, kind, second, a, line);
-    if b.found {
+    if p < second.atom {
+        let a = out_of(s, l, first, p, w, line);
+        let b = if_joined(s, l, kind, second, a, line);
         return closed(b, t.bracket, line);
     }
     let c = out_of(s, l, second, p, w, line);
@@ -380,19 +380,18 @@ fn across(s: &[u8], l: Layout, t: Spot, p: usize, x: Symbol, w: Line, line: &mut
     let two = parts_of(s, l, t);
     let first = two.first;
     let second = two.second;
+    if second.atom <= p {
+        return across(s, l, second, p, x, w, line);
+    }
     let a = across(s, l, first, p, x, w, line);
     if a.line.found {
         return a;
     }
     if kind == 3 {
         let out = out_of(s, l, first, p, w, line);
-        let b = into(s, l, second, x, out, line);
-        if b.line.found {
-            return b;
-        }
-        return across(s, l, second, p, x, w, line);
+        return into(s, l, second, x, out, line);
     }
-    across(s, l, second, p, x, w, line)
+    a
 }
 
 // The string from the place p of production q to its end.
