@@ -95,9 +95,9 @@ def tree_of(nodes):
     def tree(at, depth):
         need(5, at < len(nodes) and depth <= 12)
         kind, argument = nodes[at][:2]
-        need(5, 1 <= kind <= 5 and (argument <= 63 if kind == 1 else argument == 0))
+        need(5, 1 <= kind <= 6 and (argument <= 63 if kind == 1 else argument == 0))
         children, at = [], at + 1
-        for _ in range((0, 0, 2, 2, 1)[kind - 1]):
+        for _ in range((0, 0, 2, 2, 1, 0)[kind - 1]):
             child, at = tree(at, depth + 1)
             children.append(child)
         return (kind, argument, children), at
@@ -234,6 +234,8 @@ def ways_through(tree):
         elif kind == 4:
             (e, f, l), (e2, f2, l2) = [walk(c) for c in children]
             inside = e or e2, f | f2, l | l2
+        elif kind == 6:
+            inside = True, set(), set()
         else:
             e, f, l = walk(children[0])
             for x in l:
@@ -321,8 +323,8 @@ def node(kind, argument=0):
 
 
 def expression(text):
-    """The nodes, in preorder, of an expression written with n0 to n63, CHAR, `.`, `|`, `*` and parentheses."""
-    words = re.findall(r'n\d+|CHAR|[().|*]', text)
+    """The nodes, in preorder, of an expression written with n0 to n63, CHAR, EMPTY, `.`, `|`, `*` and parentheses."""
+    words = re.findall(r'n\d+|CHAR|EMPTY|[().|*]', text)
 
     def group(kind, sign, part):
         nodes = part()
@@ -340,7 +342,7 @@ def expression(text):
             nodes = union()
             words.pop(0)
         else:
-            nodes = [(2, 0)] if word == 'CHAR' else [(1, int(word[1:]))]
+            nodes = [(2, 0)] if word == 'CHAR' else [(6, 0)] if word == 'EMPTY' else [(1, int(word[1:]))]
         while words and words[0] == '*':
             words.pop(0)
             nodes = [(5, 0)] + nodes
@@ -448,7 +450,12 @@ def rule_s():
             ('((n1*)*)*', s((0, 1), (0, 255), (1, 1), (1, 255))), ('(n1**|n2).n1', s((0, 1), (1, 1))),
             ('(n1|n2*).(n1*|n2)', s((0, 1), (0, 2), (2, 2))), ('n1.(n2.n1)*.n2.n1', s((1, 2), (3, 2))),
             ('((n1|n2).(n1|n2))*.n1', s((0, 1), (3, 1), (4, 1))), ('(n1.(n2|CHAR*))*', []),
-            ('(CHAR.n1*)*.CHAR', s((0, 254), (1, 254), (2, 254)))):
+            ('(CHAR.n1*)*.CHAR', s((0, 254), (1, 254), (2, 254))),
+            ('EMPTY', []), ('EMPTY.EMPTY', []), ('EMPTY|EMPTY', s((0, 255))), ('EMPTY*', s((0, 255))), ('n1.EMPTY', []), ('EMPTY.n1', []),
+            ('n1|EMPTY', []), ('CHAR|EMPTY', []), ('(n1|EMPTY).(n2|EMPTY)', []), ('(n1.n1*)|EMPTY', []), ('((n1|EMPTY).n2).((n1|EMPTY).n2)*', []),
+            ('n1*|EMPTY', s((0, 255))), ('(n1|EMPTY)*', s((0, 1), (0, 255), (1, 1), (1, 255))), ('((n1|EMPTY).(n2|EMPTY))|EMPTY', s((0, 255))),
+            ('(n1|EMPTY).(n1|EMPTY)*', s(*[(p, x) for p in (0, 1, 2) for x in (1, 255)])), ('(n1|EMPTY)|(n2|EMPTY)', s((0, 255))),
+            ('(EMPTY.n1)*', []), ('(EMPTY|n1).n1', s((0, 1)))):
         case(9 if faults else 0, 'r with ' + (text or 'the empty expression'), over_ab(text), faults=sorted(faults))
     case(9, 'two places with the same next symbols in two productions',
          Sheet(['r', 'a'], [(0, 0, 'n1*.n1'), (1, 1, 'n1|n1')]), faults=[(9, 0, 0, 1), (9, 0, 1, 1), (9, 1, 0, 1)])
@@ -629,7 +636,7 @@ def productions():
 def trees():
     heading('5: nodes and trees')
     one = lambda kind, argument=0: Sheet(['a'], [(0, 0, 'n0')]).node(0, kind=kind, argument=argument)
-    for kind in (0, 6, 255):
+    for kind in (0, 7, 255):
         case(5, 'kind %d' % kind, one(kind))
     case(0, 'kind 1, argument 0', one(1))
     case(0, 'kind 1, argument 63', Sheet(['a'], [(63, 0, 'n63')], start=63))
@@ -640,16 +647,20 @@ def trees():
     case(5, 'kind 3, argument 1', Sheet(['a'], [(0, 0, 'n0.n0')]).node(0, argument=1))
     case(5, 'kind 4, argument 1', Sheet(['a'], [(0, 0, 'n0|CHAR')]).node(0, argument=1))
     case(5, 'kind 5, argument 1', Sheet(['a'], [(0, 0, 'n0*')]).node(0, argument=1))
+    case(0, 'kind 6, argument 0', one(6))
+    case(5, 'kind 6, argument 1', one(6, 1))
+    case(5, 'kind 6, argument 255', one(6, 255))
     for what, kinds in (('a star and nothing', (5,)), ('a concatenation of one', (3, 1)), ('a concatenation of none', (3,)),
                         ('a union of one', (4, 2)), ('a star of a union of one', (5, 4, 1)), ('a node too many', (1, 1)),
                         ('a star with a node too many', (5, 1, 1)), ('a concatenation of three', (3, 1, 1, 1)),
-                        ('a tree, then a bad kind', (1, 0)), ('a bad kind below a star', (5, 6)), ('a bad kind last of three', (3, 1, 0)),
-                        ('a bad kind with one child', (0, 1)), ('a bad kind with one child', (6, 1)), ('a bad kind with two', (6, 1, 1))):
+                        ('a tree, then a bad kind', (1, 0)), ('a bad kind below a star', (5, 7)), ('a bad kind last of three', (3, 1, 0)),
+                        ('a bad kind with one child', (0, 1)), ('an empty node with one child', (6, 1)), ('an empty node with two', (6, 1, 1)),
+                        ('an empty node too many', (6, 6)), ('a concatenation of one empty node', (3, 6))):
         case(5, what + ': ' + ' '.join(map(str, kinds)), smallest(nodes=[node(kind) for kind in kinds]).production(0, count=len(kinds)))
     case(5, "a star that would need the next production's node",
          Sheet(['a'], [(0, 0, 'n0*'), (1, 0, 'n0')]).production(0, count=1).production(1, run=1, count=2))
     case(5, 'a star that would need the first bytes of the programs', smallest(nodes=[node(5)], programs=SET(0, 0) + END).production(0, count=1))
-    case(5, 'only the last production is bad', Sheet(['a', 'b'], [(0, 0, 'n0*'), (1, 1, 'n0')]).node(2, kind=6))
+    case(5, 'only the last production is bad', Sheet(['a', 'b'], [(0, 0, 'n0*'), (1, 1, 'n0')]).node(2, kind=7))
     chain = lambda sign, n: ''.join('(' * (n - 1)) + 'n0' + ''.join(sign + 'n1)' for _ in range(n - 1))
     right = lambda sign, n: 'n0' if n == 1 else 'n0' + sign + '(' + right(sign, n - 1) + ')'
     two = lambda text: Sheet(['a', 'b'], [(0, 0, text), (1, 1, '')])
@@ -662,6 +673,8 @@ def trees():
     case(9, 'stars 12 deep', two('n0' + 11 * '*'))
     case(5, 'stars 13 deep', two('n0' + 12 * '*'))
     case(5, '32 nodes, 32 deep', two('n0' + 31 * '*'))
+    case(0, 'an empty node 12 deep', two('n0.(' * 10 + 'n1|EMPTY' + ')' * 10))
+    case(5, 'an empty node 13 deep', two('n0.(' * 11 + 'n1|EMPTY' + ')' * 11))
     case(5, '13 deep in the second branch only', two('n0.(' + right('.', 11) + ')*'))
 
 
@@ -860,7 +873,7 @@ def drawn():
     """Sheets by lot."""
     heading('Drawn by lot: expressions over r, a, b and characters, some tags shared')
     below = lot(20011)
-    atoms = ('n0', 'n1', 'n2', 'n2', 'CHAR')
+    atoms = ('n0', 'n1', 'n2', 'n2', 'CHAR', 'EMPTY')
     for _ in range(20):
         rules = [(n, below(3), drawn_expression(below, atoms, 1 + below(7))) for n in (0, 1, 2)] + [(below(3), below(3), '')]
         sheet = Sheet(['r', 'a', 'b'], rules)

@@ -124,7 +124,7 @@ class Production:
         if node.kind <= 2:
             node.atom = len(self.atoms)
             self.atoms.append(node)
-        for _ in range((0, 0, 0, 2, 2, 1)[node.kind]):
+        for _ in range((0, 0, 0, 2, 2, 1, 0)[node.kind]):
             node.children.append(self.build(left, node))
         return node
 
@@ -151,6 +151,8 @@ def into(node):
         inside = joined(into(node.children[0]), lambda: into(node.children[1]))
     elif node.kind == 4:
         inside = into(node.children[0]) + into(node.children[1])
+    elif node.kind == 6:
+        inside = [((), None)]
     else:
         inside = [((), None)] + [way for way in into(node.children[0]) if way[1]]
     return [(((node, True),) + brackets + (() if atom else ((node, False),)), atom) for brackets, atom in inside]
@@ -660,10 +662,10 @@ def slips():
     after = lambda a: IF(EQUAL(THEN(a), VALUE(1)), TEXT(0, 5), IF(EQUAL(THEN(a), VALUE(0)), TEXT(5, 6), TEXT(11, 3)))
     strings = b'afterbeforenow'
     for what, part, i, text in (('an element', 'production', 0, 'n1'), ('an atom', 'node', 0, 'n1'), ('a star', 'node', 0, 'n1*'),
-                                ('a concatenation', 'node', 0, 'n1.n1'), ('a union', 'node', 0, 'n1|n2')):
+                                ('a concatenation', 'node', 0, 'n1.n1'), ('a union', 'node', 0, 'n1|n2'), ('an empty node', 'node', 0, 'EMPTY')):
         sheet = programmed(['r', 'a', 'b'], [(0, 0, text), (1, 1, ''), (2, 2, '')],
                            {(part, i, 'first'): SET(0, 1), (part, i, 'second'): after(0), ('production', 1, 'first'): SET(0, 2)}, strings=strings)
-        stream = '<r><a/><a/></r>' if '.' in text else '<r><a/></r>'
+        stream = '<r><a/><a/></r>' if '.' in text else '<r/>' if text == 'EMPTY' else '<r><a/></r>'
         case('the second visit of %s gets the attributes from after the first' % what, sheet, stream, 0, 'after')
     sheet = programmed(['r', 'a'], [(0, 0, 'n1'), (1, 1, '')],
                        {('production', 0, 'first'): SET(0, 1), ('production', 1, 'first'): SET(0, 2), ('production', 1, 'second'): SET(1, 3),
@@ -725,6 +727,8 @@ def limits():
         size = {'start': 3, 'end': 4, 'empty': 4}[what]
         for length in (31, 32, 33, 34):
             case('a%s %s tag of %d bytes' % ('n' if what != 'start' else '', what, length), smallest(), make(length - size), 21 if length > 32 else 27 if what == 'start' else 0)
+    four = '(EMPTY.EMPTY).(EMPTY.EMPTY)'
+    case('sixteen empty nodes, 31 in all: 62 brackets before the end', echoing('(({0}).({0})).(({0}).({0}))'.format(four)), '<t/>', 0, '<t></t>', 64)
     for length in (31, 32, 33, 40):
         case('a name that makes a start tag of %d bytes' % length, smallest(), '<' + (length - 2) * 'a' + '>', 21 if length > 32 else 23)
         case('a name that makes an empty tag of %d bytes' % length, smallest(), '<' + (length - 3) * 'a' + '/>', 21 if length > 32 else 23)
@@ -851,6 +855,7 @@ def blanks():
         case(name + ' where there is a character atom', only, '<t>%s</t>' % blank, 0, '<t>%s</t>' % text, 4 + 2 * len(text))
         case(name + ' where there is none', programmed(['t'], [(0, 0, 'n0*')], {('production', 0, 'first'): ECHO}), '<t>%s<t/>%s</t>' % (blank, blank), 0, '<t><t></t></t>', 8 + 2)
         case(name + ' in an element with no nodes', echoing(''), '<t>%s</t>' % blank, 23, '<t>', 1, 3)
+        case(name + ' in an element whose only node is empty', echoing('EMPTY'), '<t>%s</t>' % blank, 0, '<t></t>', 4)
         case(name + ' in an inner element with no nodes', empties, '<r>%s<e>%s</e></r>' % (blank, blank), 23, '<r><e>', taken=6 + n)
         case(name + ' around an inner element with no nodes', empties, '<r>%s<e></e>%s<e/>%s</r>' % (blank, blank, blank), 0, '<r><e></e><e></e></r>')
         case(name + ' in an element that only happens to be empty', empties, '<r>%s</r>' % blank, 0, '<r></r>', 4)
@@ -1203,7 +1208,7 @@ def drawn():
     below = sheets.lot(40961)
 
     def text(size):
-        return sheets.drawn_expression(below, ('n0', 'n1', 'n2', 'CHAR'), size)
+        return sheets.drawn_expression(below, ('n0', 'n1', 'n2', 'CHAR', 'EMPTY'), size)
 
     def condition(visit, around):
         if around < 3 and below(3) == 0:

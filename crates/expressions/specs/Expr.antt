@@ -7,7 +7,7 @@ pub data Atom : Type 0 where
   nonterminal : ℕ → Atom
   anychar : Atom
 
--- an expression: an atom, a concatenation (kind 3), a union (4), a star (5), or the empty word, which no kind of a sheet stands for yet
+-- an expression: an atom, a concatenation (kind 3), a union (4), a star (5), or the empty word (6)
 pub data Exp : Type 0 where
   atom : Atom → Exp
   cat : Exp → Exp → Exp

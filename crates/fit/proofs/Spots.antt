@@ -15,7 +15,7 @@ use Rattle.layout.specs.Layout.{nodeCount}
 use Rattle.layout.specs.Records.{kindOf, argumentOf}
 use Rattle.trees.specs.Trees.{TreeAt}
 use Rattle.trees.specs.Tally.{TreeIn}
-use Rattle.trees.proofs.Unique.{by-kind-1, by-kind-2, by-kind-5}
+use Rattle.trees.proofs.Unique.{by-kind-1, by-kind-2, by-kind-5, by-kind-6}
 use Rattle.trees.proofs.Tallies.{few-atoms}
 use Rattle.runs.specs.Options.{whenTrue}
 use Rattle.runs.specs.Nodes.{one-of, inside-node, nodesAt}
@@ -55,6 +55,16 @@ module _ (s : List ℕ) (p at j : ℕ) where
   pub character-walked : (r : Walked) → LeafOf (eqb p j) 256 (at + 1) (j + 1) r → kindOf s at ≡ 2 → at < nodeCount s → WalkedAs s p at j r
   character-walked r q k i = leaf-walked anychar r 256 q refl (λ e h. by-kind-2 s at k e h .0) i
 
+  pub empty-walked : (r : Walked) → LeafOf false 256 (at + 1) j r → 5 < kindOf s at → at < nodeCount s → WalkedAs s p at j r
+  empty-walked r q k i =
+      record {
+        on = omega (arith, q .next-of);
+        few = omega (arith, q .one-open);
+        next-is = λ e h. subst (λ (u : Exp). r .next ≡ at + nodes u) (sym (by-kind-6 s at k e h .0)) (q .next-of);
+        atom-is = λ e h. subst (λ (u : Exp). r .atom ≡ j + atoms u) (sym (by-kind-6 s at k e h .0)) (omega (arith, q .atom-of));
+        finds = λ e h. subst (Finds (r .spot)) (sym (by-kind-6 s at k e h .0)) (λ m. nowhere (q .there-is));
+      }
+
   module _ (f : Walked) (wf : WalkedAs s p (at + 1) j f) where
     pub star-walked : (r : Walked) → AroundOf (f .spot) (f .next) (f .atom) r → kindOf s at ≡ 5 → WalkedAs s p at j r
     star-walked r q k =
@@ -76,7 +86,7 @@ module _ (s : List ℕ) (p at j : ℕ) where
         }
 
     -- two parts
-    module _ (k : ℕ) (kind : k ≡ kindOf s at) (not-1 : k ≡ 1 → ⊥) (not-2 : k ≡ 2 → ⊥) (not-5 : k ≡ 5 → ⊥) where
+    module _ (k : ℕ) (kind : k ≡ kindOf s at) (parts : k ≤ 5) (not-1 : k ≡ 1 → ⊥) (not-2 : k ≡ 2 → ⊥) (not-5 : k ≡ 5 → ⊥) where
       second-in : (left : ℕ) (l r : Exp) → TreeAt s (suc at) l → TreeAt s (suc at + nodes l) r → j ≤ at + 1 → suc (nodes l + nodes r) ≤ left → at + suc (nodes l + nodes r) ≤ nodeCount s →
           TreeIn s (f .next) (left - 1) (f .atom)
       second-in left l r h h′ n b i =
@@ -96,7 +106,7 @@ module _ (s : List ℕ) (p at j : ℕ) where
       second-of left (cat l r) h = second-in left l r (h .2) (h .3)
       second-of left (alt l r) h = second-in left l r (h .2) (h .3)
       second-of left (star e) h = absurd (not-5 (kind ∙ h .0))
-      second-of left empty h = absurd h
+      second-of left empty h = absurd (omega (arith, h .0))
 
       -- the second part is a tree for the walk
       pub second-tree : (left : ℕ) → TreeIn s at left j → TreeIn s (f .next) (left - 1) (f .atom)
@@ -148,7 +158,7 @@ module _ (s : List ℕ) (p at j : ℕ) where
         nexts (cat l r) h = past-nodes l r (h .2) (h .3)
         nexts (alt l r) h = past-nodes l r (h .2) (h .3)
         nexts (star e) h = absurd (not-5 (kind ∙ h .0))
-        nexts empty h = absurd h
+        nexts empty h = absurd (omega (arith, h .0))
 
         atoms-past : (e : Exp) → TreeAt s at e → r .atom ≡ j + atoms e
         atoms-past (atom (nonterminal n)) h = absurd (not-1 (kind ∙ h .0))
@@ -156,7 +166,7 @@ module _ (s : List ℕ) (p at j : ℕ) where
         atoms-past (cat l r) h = past-atoms l r (h .2) (h .3)
         atoms-past (alt l r) h = past-atoms l r (h .2) (h .3)
         atoms-past (star e) h = absurd (not-5 (kind ∙ h .0))
-        atoms-past empty h = absurd h
+        atoms-past empty h = absurd (omega (arith, h .0))
 
         found : (e : Exp) → TreeAt s at e → Finds (r .spot) e
         found (atom (nonterminal n)) h = absurd (not-1 (kind ∙ h .0))
@@ -164,7 +174,7 @@ module _ (s : List ℕ) (p at j : ℕ) where
         found (cat l r) h = finds-pair l r (h .2) (h .3)
         found (alt l r) h = finds-pair l r (h .2) (h .3)
         found (star e) h = absurd (not-5 (kind ∙ h .0))
-        found empty h = absurd h
+        found empty h = absurd (omega (arith, h .0))
 
         pub pair-walked : WalkedAs s p at j r
         pair-walked =

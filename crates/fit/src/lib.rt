@@ -49,7 +49,7 @@ pub struct Fitted {
     pub child: usize,
 }
 
-// An atom, which may be the one that is looked for.
+// An atom, which may be the one that is looked for; or the empty node, which is none.
 fn leaf(there: bool, child: usize, next: usize, atom: usize) -> Walked
     ensures { λ r. ⌜ LeafOf there child next atom r ⌝ }
 {
@@ -89,6 +89,9 @@ fn walk(s: &[u8], l: Layout, p: usize, at: usize, left: usize, j: usize) -> Walk
     ensures { λ r. ⌜ WalkedAs (now (s .entry)) p at j r ⌝ }
 {
     let kind = kind_of(s, l, at);
+    if kind > 5 {
+        return leaf(false, NO_CHILD, at + 1, j);
+    }
     if kind == 1 {
         let child = argument_of(s, l, at);
         return leaf(p == j, child, at + 1, j + 1);

@@ -33,7 +33,7 @@ module _ (s : List ℕ) where
   none-in i (alt l r) h f =
       ap₂ (λ (b c : Bool). b && c) (none-in (suc i) l (h .2) (λ j u v. f j (omega arith) (omega arith))) (none-in (suc i + nodes l) r (h .3) (λ j u v. f j (omega arith) (omega arith)))
   none-in i (star e) h f = none-in (suc i) e (h .2) (λ j u v. f j (omega arith) (omega arith))
-  none-in i empty h f = absurd h
+  none-in i empty h f = refl
 
   both : (b c : Bool) → (false ≡ b) ⊎ (false ≡ c) → false ≡ (b && c)
   both b c (inl e) = ap (λ (x : Bool). x && c) e
@@ -65,7 +65,9 @@ module _ (s : List ℕ) where
       ⊎-elim (λ z. absurd (omega (arith, h .0, ap (kindOf s) z)))
       (⊎-elim (λ z. one-in (suc i) e (h .2) j (z .0) (z .1) k) (λ z. absurd (omega (arith, z))))
       (part-of i (nodes e) 0 j u (omega arith))
-  one-in i empty h j u v k = absurd h
+  one-in i empty h j u v k =
+      let z : j ≡ i = omega arith in
+      absurd (omega (arith, h .0, ap (kindOf s) z))
 
   -- in a production with no nodes none passes
   pub blanks-nowhere : (q : ℕ) → q < productionCount s → nodeCountOf s q ≡ 0 → BlanksTold s q false

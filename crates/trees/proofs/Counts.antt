@@ -21,6 +21,11 @@ mul-none none = refl
 mul-none one = refl
 mul-none many = refl
 
+pub mul-one : (a : Count) → mul a one ≡ a
+mul-one none = refl
+mul-one one = refl
+mul-one many = refl
+
 add-comm : (a b : Count) → add a b ≡ add b a
 add-comm none b = sym (add-none b)
 add-comm one none = refl

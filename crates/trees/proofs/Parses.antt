@@ -32,7 +32,7 @@ fits-1 : (k a : ℕ) → k ≡ 1 → NodeFits k a → a ≤ 63
 fits-1 k a e (inl h) = h .1
 fits-1 k a e (inr h) = absurd (omega (arith, h .0))
 
-fits-other : (k a : ℕ) → (k ≡ 1 → ⊥) → NodeFits k a → (2 ≤ k) × (k ≤ 5) × (a ≡ 0)
+fits-other : (k a : ℕ) → (k ≡ 1 → ⊥) → NodeFits k a → (2 ≤ k) × (k ≤ 6) × (a ≡ 0)
 fits-other k a f (inl h) = absurd (f (h .0))
 fits-other k a f (inr h) = h
 
@@ -44,10 +44,10 @@ module _ (k a : ℕ) where
     pub low-told : k < 2 → Tells (NodeFits k a) false
     low-told b = fails (λ h. omega (arith, fits-other k a other h .0))
 
-    pub high-told : 5 < k → Tells (NodeFits k a) false
+    pub high-told : 6 < k → Tells (NodeFits k a) false
     high-told b = fails (λ h. omega (arith, fits-other k a other h .1))
 
-    pub zero-told : 2 ≤ k → k ≤ 5 → Tells (NodeFits k a) (eqb a 0)
+    pub zero-told : 2 ≤ k → k ≤ 6 → Tells (NodeFits k a) (eqb a 0)
     zero-told b d = by-answer (eqb a 0) (λ t. inr (b, d, eqb-true a 0 t)) (λ t h. eqb-false a 0 t (fits-other k a other h .2))
 
 -- the first node of a tree fits
@@ -57,12 +57,12 @@ tree-fits s i (atom anychar) h = inr (omega (arith, h .0), omega (arith, h .0), 
 tree-fits s i (cat l r) h = inr (omega (arith, h .0), omega (arith, h .0), h .1)
 tree-fits s i (alt l r) h = inr (omega (arith, h .0), omega (arith, h .0), h .1)
 tree-fits s i (star e) h = inr (omega (arith, h .0), omega (arith, h .0), h .1)
-tree-fits s i empty h = absurd h
+tree-fits s i empty h = inr (omega (arith, h .0), omega (arith, h .0), h .1)
 
 pub ends : {s : List ℕ} {i left deep j : ℕ} → ParsedAt s i left deep (Tree j) → (i < j) × (j ≤ i + left)
 ends (a-tree e h f d q) = omega (arith, nodes-pos e, q)
 
-inner-fits : (k a : ℕ) → NodeFits k a → 3 ≤ k → (k ≤ 5) × (a ≡ 0)
+inner-fits : (k a : ℕ) → NodeFits k a → 3 ≤ k → (k ≤ 6) × (a ≡ 0)
 inner-fits k a (inl h) b = absurd (omega (arith, h .0))
 inner-fits k a (inr h) b = (h .1, h .2)
 
@@ -85,14 +85,19 @@ module _ (s : List ℕ) (i left deep : ℕ) where
       pub leaf-tree : k < 3 → ParsedAt s i left deep (Tree (i + 1))
       leaf-tree b = leaf-of fits b
 
-      module _ (low : 3 ≤ k) where
+      pub empty-tree : 5 < k → ParsedAt s i left deep (Tree (i + 1))
+      empty-tree b =
+          let f = inner-fits k a fits (omega (arith, b)) in
+          a-tree empty (omega (arith, kind, f .0, b), sym argument ∙ f .1) (omega arith) (omega arith) refl
+
+      module _ (high : k ≤ 5) (low : 3 ≤ k) where
         none-of : ((e : Exp) → TreeAt s (i + 1) e → nodes e ≤ left - 1 → depth e ≤ deep - 1 → ⊥) → (e : Exp) → TreeAt s i e → nodes e ≤ left → depth e ≤ deep → ⊥
         none-of f (atom (nonterminal n)) h b d = omega (arith, kind, h .0)
         none-of f (atom anychar) h b d = omega (arith, kind, h .0)
         none-of f (cat l r) h b d = f l (rw add-one (h .2)) (omega arith) (omega (arith, le-max-left (depth l) (depth r)))
         none-of f (alt l r) h b d = f l (rw add-one (h .2)) (omega arith) (omega (arith, le-max-left (depth l) (depth r)))
         none-of f (star e) h b d = f e (rw add-one (h .2)) (omega arith) (omega arith)
-        none-of f empty h b d = h
+        none-of f empty h b d = omega (arith, kind, h .0)
 
         pub inner-none : ParsedAt s (i + 1) (left - 1) (deep - 1) Bad → ParsedAt s i left deep Bad
         inner-none (no-tree f) = no-tree (none-of f)
@@ -114,7 +119,7 @@ module _ (s : List ℕ) (i left deep : ℕ) where
           second-none f (cat l r) h b d = two-none f l r (h .2) (h .3) b (omega (arith, le-max-right (depth l) (depth r)))
           second-none f (alt l r) h b d = two-none f l r (h .2) (h .3) b (omega (arith, le-max-right (depth l) (depth r)))
           second-none f (star e) h b d = not-star (kind ∙ h .0)
-          second-none f empty h b d = h
+          second-none f empty h b d = omega (arith, kind, h .0)
 
           two-of : (k ≡ 3) ⊎ (k ≡ 4) → (m : ℕ) (y : Exp) → TreeAt s j y → nodes y ≤ i + left - j → depth y ≤ deep - 1 → m ≡ j + nodes y → ParsedAt s i left deep (Tree m)
           two-of (inl three) m y h f d e =
@@ -130,7 +135,7 @@ module _ (s : List ℕ) (i left deep : ℕ) where
         three-or-four ns zero e = absurd (omega arith)
         three-or-four ns (suc zero) e = absurd (omega arith)
         three-or-four ns (suc (suc zero)) e = absurd (omega arith)
-        three-or-four ns (suc (suc (suc (suc (suc n))))) e = absurd (ns (omega (arith, inner-fits k a fits low .0)))
+        three-or-four ns (suc (suc (suc (suc (suc n))))) e = absurd (ns (omega (arith, high)))
 
         pub two-tree : (k ≡ 5 → ⊥) → (j : ℕ) → ParsedAt s (i + 1) (left - 1) (deep - 1) (Tree j) → (r : Parsed) → ParsedAt s j (i + left - j) (deep - 1) r → ParsedAt s i left deep r
         two-tree ns j (a-tree x hx fx dx q) (Tree m) (a-tree y hy fy dy e) = two-of ns j x hx fx dx q (three-or-four ns k refl) m y hy fy dy e

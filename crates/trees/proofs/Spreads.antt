@@ -24,9 +24,9 @@ use Rattle.trees.specs.Trees.{TreeAt, ContentAt}
 use Rattle.trees.specs.GrammarAt.{GrammarIs}
 use Rattle.trees.specs.Tally.{countOf, PastOf, Tallied}
 use Rattle.trees.specs.Sums.{AllAlike, raised, symbolOf, Raised, TagsRaised, PassedAs, EitherAs, Spread, CountedFrom}
-use Rattle.trees.proofs.Unique.{nodes-pos, by-kind-1, by-kind-2, by-kind-3, by-kind-4, by-kind-5}
+use Rattle.trees.proofs.Unique.{nodes-pos, by-kind-1, by-kind-2, by-kind-3, by-kind-4, by-kind-5, by-kind-6}
 use Rattle.trees.proofs.Grammars.{alike-there, member-alike, content-at}
-use Rattle.trees.proofs.Counts.{add-none, mul-none, raised-add, through-either, out-of-both, into-both, out-of-star, into-star}
+use Rattle.trees.proofs.Counts.{add-none, mul-none, mul-one, raised-add, through-either, out-of-both, into-both, out-of-star, into-star}
 
 -- sums by symbol: what is added twice, and what is the same count of every symbol
 raised-same : (f h : Next → Count) (before after : List ℕ) → ((x : Next) → f x ≡ h x) → Raised f before after → Raised h before after
@@ -56,6 +56,12 @@ module _ (s : List ℕ) (p at j : ℕ) (n : Count) (before after : List ℕ) (r 
         out-is = λ e h. subst (λ (u : Exp). countOf (r .out) ≡ add (mul n (null u)) (last u j p)) (sym (same e h)) o;
         sums-are = λ g γ e h. subst (λ (u : Exp). Raised (λ x. add (mul n (first (tagsOf g) u x)) (follow (tagsOf g) u j p x)) before after) (sym (same e h)) (c g γ);
       }
+
+  -- the empty node: what leads to it leads on
+  pub empty-spread : 5 < kindOf s at → countOf (r .out) ≡ n → r .next ≡ at + 1 → r .atom ≡ j → after ≡ before → Spread s p at j n before after r
+  empty-spread k o x a e =
+      only-tree empty (λ f h. by-kind-6 s at k f h .0) (record { next-is = x; atom-is = omega (arith, a) }) (o ∙ sym (add-none (mul n one) ∙ mul-one n))
+      (λ g γ. record { each = λ i l. ap (λ (z : List ℕ). getD z i 0) e ∙ ap (raised (getD before i 0)) (sym (ap (λ (z : Count). add z none) (mul-none n))) })
 
   -- an atom: it is behind, and what leads to it is added where it can be the symbol
   module _ (q : PassedAs (eqb p j) (at + 1) (j + 1) r) where

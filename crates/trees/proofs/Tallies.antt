@@ -12,8 +12,8 @@ use Rattle.layout.specs.Layout.{nodeCount}
 use Rattle.layout.specs.Records.{kindOf, argumentOf}
 use Rattle.trees.specs.declared.Tally.{Tally}
 use Rattle.trees.specs.Trees.{TreeAt}
-use Rattle.trees.specs.Tally.{LeafOf, StarOf, JoinOf, TreeIn, CountsOf, PastOf, Tallied}
-use Rattle.trees.proofs.Unique.{nodes-pos, by-kind-3, by-kind-4, by-kind-5}
+use Rattle.trees.specs.Tally.{LeafOf, EmptyOf, StarOf, JoinOf, TreeIn, CountsOf, PastOf, Tallied}
+use Rattle.trees.proofs.Unique.{nodes-pos, by-kind-3, by-kind-4, by-kind-5, by-kind-6}
 
 pub few-atoms : (e : Exp) → atoms e ≤ nodes e
 few-atoms (atom k) = omega arith
@@ -28,7 +28,7 @@ module _ (s : List ℕ) (at : ℕ) where
   room left j t = omega (arith, nodes-pos (t .expression))
 
   -- a node's kind
-  module _ (k : ℕ) (kind : k ≡ kindOf s at) where
+  module _ (k : ℕ) (kind : k ≡ kindOf s at) (parts : k ≤ 5) where
     -- the tree behind a node that is no atom
     module _ (inner : 3 ≤ k) (left j : ℕ) (number : j ≤ at + 1) where
       first-of : (e : Exp) → TreeAt s at e → nodes e ≤ left → at + nodes e ≤ nodeCount s → TreeIn s (at + 1) (left - 1) j
@@ -37,7 +37,7 @@ module _ (s : List ℕ) (at : ℕ) where
       first-of (cat l r) h f i = record { expression = l; stands = rw add-one (h .2); few = omega arith; inside = omega arith; number = omega arith }
       first-of (alt l r) h f i = record { expression = l; stands = rw add-one (h .2); few = omega arith; inside = omega arith; number = omega arith }
       first-of (star e) h f i = record { expression = e; stands = rw add-one (h .2); few = omega arith; inside = omega arith; number = omega arith }
-      first-of empty h f i = absurd h
+      first-of empty h f i = absurd (omega (arith, h .0))
 
       -- the second one of two, past the first
       module _ (next atom-past : ℕ) (passed : (e : Exp) → TreeAt s (at + 1) e → PastOf (at + 1) j e next atom-past) (not-5 : k ≡ 5 → ⊥) where
@@ -59,7 +59,7 @@ module _ (s : List ℕ) (at : ℕ) where
         second-of (cat l′ r′) h f i = two-of l′ r′ (h .2) (h .3) f i
         second-of (alt l′ r′) h f i = two-of l′ r′ (h .2) (h .3) f i
         second-of (star e) h f i = absurd (not-5 (kind ∙ h .0))
-        second-of empty h f i = absurd h
+        second-of empty h f i = absurd (omega (arith, h .0))
 
     pub inner : 3 ≤ k → (left j : ℕ) → TreeIn s at left j → TreeIn s (at + 1) (left - 1) j
     inner a left j t = first-of a left j (t .number) (t .expression) (t .stands) (t .few) (t .inside)
@@ -74,7 +74,7 @@ module _ (s : List ℕ) (at : ℕ) where
     no-atom (cat l r) h a b = omega (arith, h .0)
     no-atom (alt l r) h a b = omega (arith, h .0)
     no-atom (star e) h a b = omega (arith, h .0)
-    no-atom empty h a b = absurd h
+    no-atom empty h a b = absurd (omega (arith, h .0))
 
     -- the one kind left
     pub four : (e : Exp) → TreeAt s at e → 3 ≤ k → (k ≡ 3 → ⊥) → (k ≡ 5 → ⊥) → kindOf s at ≡ 4
@@ -83,7 +83,7 @@ module _ (s : List ℕ) (at : ℕ) where
     four (cat l r) h a b c = absurd (b (kind ∙ h .0))
     four (alt l r) h a b c = h .0
     four (star e) h a b c = absurd (c (kind ∙ h .0))
-    four empty h a b c = absurd h
+    four empty h a b c = absurd (omega (arith, h .0))
 
   module _ (p j : ℕ) (t : Tally) where
     -- an atom stands where the kind is 1 or 2
@@ -95,14 +95,22 @@ module _ (s : List ℕ) (at : ℕ) where
         past (cat l r) h = absurd (omega (arith, h .0, kind, low))
         past (alt l r) h = absurd (omega (arith, h .0, kind, low))
         past (star e) h = absurd (omega (arith, h .0, kind, low))
-        past empty h = absurd h
+        past empty h = absurd (omega (arith, h .0, kind, low))
 
         counted : (e : Exp) → TreeAt s at e → CountsOf p j e t
         counted (atom a) h = q .counts p j a refl
         counted (cat l r) h = absurd (omega (arith, h .0, kind, low))
         counted (alt l r) h = absurd (omega (arith, h .0, kind, low))
         counted (star e) h = absurd (omega (arith, h .0, kind, low))
-        counted empty h = absurd h
+        counted empty h = absurd (omega (arith, h .0, kind, low))
+
+    -- the empty node where it is 6
+    pub empty-tallied : EmptyOf (at + 1) j t → 5 < kindOf s at → Tallied s p at j t
+    empty-tallied q k =
+        record {
+          passes = λ e h. subst (λ (u : Exp). PastOf at j u (t .next) (t .atom)) (sym (by-kind-6 s at k e h .0)) (record { next-is = q .next-of; atom-is = omega (arith, q .atom-of) });
+          counts = λ e h. subst (λ (u : Exp). CountsOf p j u t) (sym (by-kind-6 s at k e h .0)) (q .counts p j);
+        }
 
     module _ (l : Tally) (tl : Tallied s p (at + 1) j l) where
       pub star-tallied : StarOf l t → kindOf s at ≡ 5 → Tallied s p at j t

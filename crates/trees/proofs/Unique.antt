@@ -26,7 +26,7 @@ module _ (s : List ℕ) (i : ℕ) where
   by-kind-1 k (cat l r) h = absurd (omega (arith, h .0))
   by-kind-1 k (alt l r) h = absurd (omega (arith, h .0))
   by-kind-1 k (star e) h = absurd (omega (arith, h .0))
-  by-kind-1 k empty h = absurd h
+  by-kind-1 k empty h = absurd (omega (arith, h .0))
 
   pub by-kind-2 : kindOf s i ≡ 2 → (e : Exp) → TreeAt s i e → (e ≡ atom anychar) × (argumentOf s i ≡ 0)
   by-kind-2 k (atom (nonterminal n)) h = absurd (omega (arith, h .0))
@@ -34,7 +34,7 @@ module _ (s : List ℕ) (i : ℕ) where
   by-kind-2 k (cat l r) h = absurd (omega (arith, h .0))
   by-kind-2 k (alt l r) h = absurd (omega (arith, h .0))
   by-kind-2 k (star e) h = absurd (omega (arith, h .0))
-  by-kind-2 k empty h = absurd h
+  by-kind-2 k empty h = absurd (omega (arith, h .0))
 
   pub by-kind-3 : kindOf s i ≡ 3 → (e : Exp) → TreeAt s i e →
       (l : Exp) × (r : Exp) × (e ≡ cat l r) × (argumentOf s i ≡ 0) × TreeAt s (suc i) l × TreeAt s (suc i + nodes l) r
@@ -43,7 +43,7 @@ module _ (s : List ℕ) (i : ℕ) where
   by-kind-3 k (cat l r) h = (l, r, refl, h .1, h .2, h .3)
   by-kind-3 k (alt l r) h = absurd (omega (arith, h .0))
   by-kind-3 k (star e) h = absurd (omega (arith, h .0))
-  by-kind-3 k empty h = absurd h
+  by-kind-3 k empty h = absurd (omega (arith, h .0))
 
   pub by-kind-4 : kindOf s i ≡ 4 → (e : Exp) → TreeAt s i e →
       (l : Exp) × (r : Exp) × (e ≡ alt l r) × (argumentOf s i ≡ 0) × TreeAt s (suc i) l × TreeAt s (suc i + nodes l) r
@@ -52,7 +52,7 @@ module _ (s : List ℕ) (i : ℕ) where
   by-kind-4 k (cat l r) h = absurd (omega (arith, h .0))
   by-kind-4 k (alt l r) h = (l, r, refl, h .1, h .2, h .3)
   by-kind-4 k (star e) h = absurd (omega (arith, h .0))
-  by-kind-4 k empty h = absurd h
+  by-kind-4 k empty h = absurd (omega (arith, h .0))
 
   pub by-kind-5 : kindOf s i ≡ 5 → (e : Exp) → TreeAt s i e → (f : Exp) × (e ≡ star f) × (argumentOf s i ≡ 0) × TreeAt s (suc i) f
   by-kind-5 k (atom (nonterminal n)) h = absurd (omega (arith, h .0))
@@ -60,7 +60,15 @@ module _ (s : List ℕ) (i : ℕ) where
   by-kind-5 k (cat l r) h = absurd (omega (arith, h .0))
   by-kind-5 k (alt l r) h = absurd (omega (arith, h .0))
   by-kind-5 k (star e) h = (e, refl, h .1, h .2)
-  by-kind-5 k empty h = absurd h
+  by-kind-5 k empty h = absurd (omega (arith, h .0))
+
+  pub by-kind-6 : 5 < kindOf s i → (e : Exp) → TreeAt s i e → (e ≡ empty) × (argumentOf s i ≡ 0)
+  by-kind-6 k (atom (nonterminal n)) h = absurd (omega (arith, h .0))
+  by-kind-6 k (atom anychar) h = absurd (omega (arith, h .0))
+  by-kind-6 k (cat l r) h = absurd (omega (arith, h .0))
+  by-kind-6 k (alt l r) h = absurd (omega (arith, h .0))
+  by-kind-6 k (star e) h = absurd (omega (arith, h .0))
+  by-kind-6 k empty h = (refl, h .1)
 
 production-by : {c d : Production} → c .nonterm ≡ d .nonterm → c .tagno ≡ d .tagno → c .content ≡ d .content → c ≡ d
 production-by {c} {d} x y z =
@@ -89,7 +97,7 @@ module _ (s : List ℕ) where
       let x : e ≡ v .0 = one-tree (suc i) e (v .0) (h .2) (v .3) in
       let z : f ≡ star (v .0) = v .1 in
       cc
-  one-tree i empty f h k = absurd h
+  one-tree i empty f h k = sym (by-kind-6 s i (omega (arith, h .0)) f k .0)
 
   pub one-content : (q : ℕ) (e f : Content) → ContentAt s q e → ContentAt s q f → e ≡ f
   one-content q nothing nothing h k = refl

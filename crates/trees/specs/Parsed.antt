@@ -15,9 +15,9 @@ use Rattle.trees.specs.Trees.{TreeAt, ContentAt}
 pub record RunsInside (s : List ℕ) : Type 0 where
   pub inside : (q : ℕ) → q < productionCount s → firstNodeOf s q + nodeCountOf s q ≤ nodeCount s
 
--- a kind and the argument that it asks for: a nonterminal's number with kind 1, 0 with 2 to 5
+-- a kind and the argument that it asks for: a nonterminal's number with kind 1, 0 with 2 to 6
 abbrev pub NodeFits : ℕ → ℕ → Type 0
-NodeFits kind argument = ((kind ≡ 1) × (argument ≤ lastNonterminal)) ⊎ ((2 ≤ kind) × (kind ≤ 5) × (argument ≡ 0))
+NodeFits kind argument = ((kind ≡ 1) × (argument ≤ lastNonterminal)) ⊎ ((2 ≤ kind) × (kind ≤ 6) × (argument ≡ 0))
 
 -- the node past the tree at i, of at most `left` nodes and at most `deep` deep; or that there is no such tree
 pub data ParsedAt (s : List ℕ) (i left deep : ℕ) : Parsed → Type 0 where

@@ -5,7 +5,7 @@ use mathlib.Core.Bool.{Bool}
 use mathlib.Core.List.{List}
 use Prim.Native.Nat.{ℕ, _+_, _≤_}
 use lib.Dec.{eqb}
-use Rattle.expressions.specs.Expr.{Atom, Exp, atom, star, nodes, atoms}
+use Rattle.expressions.specs.Expr.{Atom, Exp, atom, star, empty, nodes, atoms}
 use Rattle.expressions.specs.Count.{Count, none, one, many}
 use Rattle.expressions.specs.Decide.{null, last}
 use Rattle.layout.specs.Layout.{nodeCount}
@@ -27,6 +27,12 @@ pub record CountsOf (p j : ℕ) (e : Exp) (t : Tally) : Type 0 where
 -- t is an atom's: `here` says whether it is the place
 pub record LeafOf (here : Bool) (next atom-past : ℕ) (t : Tally) : Type 0 where
   pub counts : (p j : ℕ) (a : Atom) → here ≡ eqb p j → CountsOf p j (atom a) t
+  pub next-of : t .next ≡ next
+  pub atom-of : t .atom ≡ atom-past
+
+-- t is the empty node's
+pub record EmptyOf (next atom-past : ℕ) (t : Tally) : Type 0 where
+  pub counts : (p j : ℕ) → CountsOf p j empty t
   pub next-of : t .next ≡ next
   pub atom-of : t .atom ≡ atom-past
 

@@ -7,14 +7,14 @@ use Rattle.expressions.specs.Grammar.{lastNonterminal}
 use Rattle.layout.specs.Layout.{productionCount}
 use Rattle.layout.specs.Records.{kindOf, argumentOf, firstNodeOf, nodeCountOf}
 
--- the nodes from i on are the tree e, in preorder. Kinds are 1 to 5: no node is the empty word
+-- the nodes from i on are the tree e, in preorder. Kinds are 1 to 6
 abbrev pub TreeAt : List ℕ → ℕ → Exp → Type 0
 TreeAt s i (atom (nonterminal n)) = (kindOf s i ≡ 1) × (argumentOf s i ≡ n) × (n ≤ lastNonterminal)
 TreeAt s i (atom anychar) = (kindOf s i ≡ 2) × (argumentOf s i ≡ 0)
 TreeAt s i (cat l r) = (kindOf s i ≡ 3) × (argumentOf s i ≡ 0) × TreeAt s (suc i) l × TreeAt s (suc i + nodes l) r
 TreeAt s i (alt l r) = (kindOf s i ≡ 4) × (argumentOf s i ≡ 0) × TreeAt s (suc i) l × TreeAt s (suc i + nodes l) r
 TreeAt s i (star e) = (kindOf s i ≡ 5) × (argumentOf s i ≡ 0) × TreeAt s (suc i) e
-TreeAt s i empty = ⊥
+TreeAt s i empty = (kindOf s i ≡ 6) × (argumentOf s i ≡ 0)
 
 -- production q's expression: none where it has no nodes, else its nodes are one whole tree, at most 12 deep
 abbrev pub ContentAt : List ℕ → ℕ → Content → Type 0

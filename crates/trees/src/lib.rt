@@ -11,7 +11,7 @@ ghost use Rattle.tells.specs.Tells.{Tells};
 ghost use Rattle.layout.specs.LaidOut.{LaidOut};
 ghost use Rattle.trees.specs.Trees.{Trees};
 ghost use Rattle.trees.specs.Parsed.{RunsInside, NodeFits, ParsedAt, HasContent};
-ghost use Rattle.trees.specs.Tally.{countOf, LeafOf, StarOf, JoinOf, TreeIn, Tallied};
+ghost use Rattle.trees.specs.Tally.{countOf, LeafOf, EmptyOf, StarOf, JoinOf, TreeIn, Tallied};
 ghost use Rattle.trees.specs.Answers.{AlikeIs, CanBeIs, CharacterIs, AtomsIs};
 ghost use Rattle.trees.specs.Sums.{Zeros, Room, OneAlike, AllAlike, raised, TagsRaised, PassedAs, EitherAs, Spread, CountedFrom};
 use layout::Layout;
@@ -71,7 +71,7 @@ fn node_fits(kind: usize, argument: usize) -> bool
     if kind < 2 {
         return false;
     }
-    if kind > 5 {
+    if kind > 6 {
         return false;
     }
     argument == 0
@@ -93,6 +93,9 @@ fn parse(s: &[u8], l: Layout, i: usize, left: usize, deep: usize) -> Parsed
     let argument = argument_of(s, l, i);
     if !node_fits(kind, argument) {
         return Parsed::Bad;
+    }
+    if kind > 5 {
+        return Parsed::Tree(i + 1);
     }
     if kind < 3 {
         return Parsed::Tree(i + 1);
@@ -259,6 +262,18 @@ fn leaf(here: bool, next: usize, atom: usize) -> Tally
     }
 }
 
+// The empty node: its own brackets alone.
+fn hollow(next: usize, atom: usize) -> Tally
+    ensures { λ t. ⌜ EmptyOf next atom t ⌝ }
+{
+    Tally {
+        null: Number::One,
+        last: Number::None,
+        next: next,
+        atom: atom,
+    }
+}
+
 // A star over l.
 fn star(l: Tally) -> Tally
     ensures { λ r. ⌜ StarOf l r ⌝ }
@@ -319,6 +334,9 @@ pub fn walk_tree(s: &[u8], l: Layout, p: usize, at: usize, left: usize, j: usize
     ensures { λ t. ⌜ Tallied (now (s .entry)) p at j t ⌝ }
 {
     let kind = kind_of(s, l, at);
+    if kind > 5 {
+        return hollow(at + 1, j);
+    }
     if kind < 3 {
         return leaf(p == j, at + 1, j + 1);
     }
@@ -452,6 +470,13 @@ fn spread(
     ensures { λ r. ⌜ Spread (now (s .entry)) p at j (countOf n) (now (sums .entry)) (now (sums .exit)) r ⌝ }
 {
     let kind = kind_of(s, l, at);
+    if kind > 5 {
+        return Onward {
+            out: n,
+            next: at + 1,
+            atom: j,
+        };
+    }
     if kind == 1 {
         let m = argument_of(s, l, at);
         raise_tags(known, sums, m, n);

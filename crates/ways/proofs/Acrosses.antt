@@ -24,7 +24,7 @@ use Rattle.ways.specs.Walks.{Into, OutOf, Across}
 use Rattle.ways.proofs.Away.{or-none, Away, out-away, across-away}
 use Rattle.ways.proofs.Strings.{led-assoc, led-none, led-first, led-second}
 use Rattle.ways.proofs.Holds.{way-moved, kept-then, kept-again, line-again, missing-kept, missing-way}
-use Rattle.ways.proofs.Spots.{by-leaf, by-star, by-two, by-cat, by-alt, part-at}
+use Rattle.ways.proofs.Spots.{by-leaf, by-empty, by-star, by-two, by-cat, by-alt, part-at}
 
 module _ (s : List ℕ) (t : Spot) (k : ℕ) (kind : k ≡ kindOf s (t .node)) (p : ℕ) (x : Symbol) (w : Line) where
   pub across-leaf : k < 3 → (r : Way) → MissingWay w r → Across s t p x w r
@@ -35,8 +35,16 @@ module _ (s : List ℕ) (t : Spot) (k : ℕ) (kind : k ≡ kindOf s (t .node)) (
         is = λ g γ e i j at o h. by-leaf s t k kind (λ (u : Exp). WayIs (led o (across (tagsOf g) u i j p (nextOf x))) r) b (λ _ _. way-moved (sym (led-none o)) (missing-way z)) e at;
       }
 
+  pub across-empty : 5 < k → (r : Way) → MissingWay w r → Across s t p x w r
+  across-empty b r z =
+      record {
+        few = omega (arith, z .line-is .length-is);
+        kept = missing-kept (z .line-is);
+        is = λ g γ e i j at o h. by-empty s t k kind (λ (u : Exp). WayIs (led o (across (tagsOf g) u i j p (nextOf x))) r) b (way-moved (sym (led-none o)) (missing-way z)) e at;
+      }
+
   -- a star: within one turn, or out of it and into the next
-  module _ (b : 4 < k) (spot : SpotIn s t) (only : Spot) (part : PartOf t only) (a : Way) (inner : Across s only p x w a) where
+  module _ (b : k ≡ 5) (spot : SpotIn s t) (only : Spot) (part : PartOf t only) (a : Way) (inner : Across s only p x w a) where
     pub across-turn : a .line .found ≡ true → Across s t p x w a
     across-turn found =
         record {

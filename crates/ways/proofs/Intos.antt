@@ -21,9 +21,9 @@ use Rattle.ways.specs.declared.Parts.{Parts}
 use Rattle.ways.specs.Held.{again, WayIs, MissingWay, Bracketed}
 use Rattle.ways.specs.Spot.{SpotIn, PartOf, PartsOf}
 use Rattle.ways.specs.Walks.{AtomWay, Through, Into}
-use Rattle.ways.proofs.Strings.{led-assoc, led-first, led-second}
-use Rattle.ways.proofs.Holds.{way-moved, kept-then, kept-again, line-again, missing-kept, absent-way}
-use Rattle.ways.proofs.Spots.{by-leaf, by-star, by-two, by-cat, by-alt, part-at}
+use Rattle.ways.proofs.Strings.{led-assoc, led-none, led-first, led-second}
+use Rattle.ways.proofs.Holds.{way-moved, kept-then, kept-again, line-again, missing-kept, missing-way, absent-way}
+use Rattle.ways.proofs.Spots.{by-leaf, by-empty, by-star, by-two, by-cat, by-alt, part-at}
 
 abbrev first-bracket : ℕ → Option (List Bracket)
 first-bracket i = some (opening i ∷ [])
@@ -37,6 +37,15 @@ into-absent s t x w f r z =
       is = λ g γ e i j at o h. absent-way w f r z o h (into (tagsOf g) e i j (nextOf x));
     }
 
+-- no atom is in the empty node
+pub into-empty : (s : List ℕ) (t : Spot) (k : ℕ) → k ≡ kindOf s (t .node) → 5 < k → (x : Symbol) (w : Line) (r : Way) → MissingWay w r → Into s t x w r
+into-empty s t k kind b x w r z =
+    record {
+      few = omega (arith, z .line-is .length-is);
+      kept = missing-kept (z .line-is);
+      is = λ g γ e i j at o h. by-empty s t k kind (λ (u : Exp). WayIs (led o (into (tagsOf g) u i j (nextOf x))) r) b (way-moved (sym (led-none o)) (missing-way z)) e at;
+    }
+
 module _ (s : List ℕ) (t : Spot) (k : ℕ) (kind : k ≡ kindOf s (t .node)) (spot : SpotIn s t) (x : Symbol) (w inside : Line) (op : Bracketed opening (t .bracket) w inside) where
   pub into-leaf : k < 3 → (r : Way) → AtomWay s t x inside r → Into s t x w r
   into-leaf b r aw =
@@ -48,7 +57,7 @@ module _ (s : List ℕ) (t : Spot) (k : ℕ) (kind : k ≡ kindOf s (t .node)) (
             (aw .is g γ a i j at′ _ (op .is i (at .bracket-is) o h))) e at;
       }
 
-  pub into-star : 4 < k → (only : Spot) → PartOf t only → (r : Way) → Into s only x inside r → Into s t x w r
+  pub into-star : k ≡ 5 → (only : Spot) → PartOf t only → (r : Way) → Into s only x inside r → Into s t x w r
   into-star b only part r inner =
       record {
         few = omega (arith, spot .any, op .few, inner .few, part .nodes-are);

@@ -22,7 +22,7 @@ use Rattle.ways.specs.Walks.{Through, OutOf, IfJoined}
 use Rattle.ways.proofs.Strings.{joined-assoc, joined-none}
 use Rattle.ways.proofs.Away.{or-none, out-away}
 use Rattle.ways.proofs.Holds.{line-moved, kept-itself, kept-then, kept-again, line-again, missing-line, missing-kept}
-use Rattle.ways.proofs.Spots.{by-leaf, by-star, by-two, part-at}
+use Rattle.ways.proofs.Spots.{by-leaf, by-empty, by-star, by-two, part-at}
 
 abbrev last-bracket : ℕ → Option (List Bracket)
 last-bracket i = some (closing i ∷ [])
@@ -58,7 +58,15 @@ module _ (s : List ℕ) (t : Spot) (k : ℕ) (kind : k ≡ kindOf s (t .node)) (
             f at;
       }
 
-  pub out-star : 4 < k → (only : Spot) → PartOf t only → (a r : Line) → OutOf s only p w a → Bracketed closing (t .bracket) a r → OutOf s t p w r
+  pub out-empty : 5 < k → (r : Line) → Missing w r → OutOf s t p w r
+  out-empty b r z =
+      record {
+        few = omega (arith, z .length-is);
+        kept = missing-kept z;
+        is = λ f i j at o h. by-empty s t k kind (λ (u : Exp). LineIs (joined o (out-of u i j p)) r) b (line-moved (sym (joined-none o)) (missing-line z)) f at;
+      }
+
+  pub out-star : k ≡ 5 → (only : Spot) → PartOf t only → (a r : Line) → OutOf s only p w a → Bracketed closing (t .bracket) a r → OutOf s t p w r
   out-star b only part a r inner cl =
       record {
         few = omega (arith, spot .any, inner .few, cl .few, part .nodes-are);

@@ -115,7 +115,9 @@ module _ {s : List ℕ} {at : ℕ} {w : Passing} (h : Left s at w) where
     by (star e ∷ es) x l n a =
         let o = on .only (omega (arith, kind, x .0 .0)) in
         then (e ∷ es) (moved e (omega (arith, on .node-is)) (x .0 .2), moved-all es (omega (arith, on .node-is)) (x .1)) (omega (arith, o)) (omega (arith, on .node-is)) (omega (arith, o)) (omega (arith, o))
-    by (empty ∷ es) x l n a = absurd (x .0)
+    by (empty ∷ es) x l n a =
+        let o = on .none (omega (arith, kind, x .0 .0)) in
+        then es (moved-all es (omega (arith, on .node-is)) (x .1)) (omega (arith, o)) (omega (arith, on .node-is)) (omega (arith, o)) (omega (arith, o))
 
     pub one-less : Left s at r
     one-less = by (h .trees) (h .next) (h .as-many) (h .nodes-are) (h .atoms-are)

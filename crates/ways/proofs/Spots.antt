@@ -29,15 +29,32 @@ module _ (s : List ℕ) (t : Spot) (k : ℕ) (kind : k ≡ kindOf s (t .node)) w
     by-leaf b f (cat l r) h = absurd (omega (arith, h .stands .0))
     by-leaf b f (alt l r) h = absurd (omega (arith, h .stands .0))
     by-leaf b f (star e) h = absurd (omega (arith, h .stands .0))
-    by-leaf b f empty h = absurd (h .stands)
+    by-leaf b f empty h = absurd (omega (arith, h .stands .0))
 
-    pub by-star : 4 < k → ((e : Exp) → TreeAt s (suc (t .node)) e → P (star e)) → (e : Exp) → At s t e i j → P e
+    pub by-star : k ≡ 5 → ((e : Exp) → TreeAt s (suc (t .node)) e → P (star e)) → (e : Exp) → At s t e i j → P e
     by-star b f (atom (nonterminal n)) h = absurd (omega (arith, h .stands .0))
     by-star b f (atom anychar) h = absurd (omega (arith, h .stands .0))
     by-star b f (cat l r) h = absurd (omega (arith, h .stands .0))
     by-star b f (alt l r) h = absurd (omega (arith, h .stands .0))
     by-star b f (star e) h = f e (h .stands .2)
-    by-star b f empty h = absurd (h .stands)
+    by-star b f empty h = absurd (omega (arith, h .stands .0))
+
+    pub by-empty : 5 < k → P empty → (e : Exp) → At s t e i j → P e
+    by-empty b f (atom (nonterminal n)) h = absurd (omega (arith, h .stands .0))
+    by-empty b f (atom anychar) h = absurd (omega (arith, h .stands .0))
+    by-empty b f (cat l r) h = absurd (omega (arith, h .stands .0))
+    by-empty b f (alt l r) h = absurd (omega (arith, h .stands .0))
+    by-empty b f (star e) h = absurd (omega (arith, h .stands .0))
+    by-empty b f empty h = f
+
+    -- a star, or the empty node: both may be nothing but their own brackets
+    pub by-bare : 4 < k → ((e : Exp) → P (star e)) → P empty → (e : Exp) → At s t e i j → P e
+    by-bare b f g (atom (nonterminal n)) h = absurd (omega (arith, h .stands .0))
+    by-bare b f g (atom anychar) h = absurd (omega (arith, h .stands .0))
+    by-bare b f g (cat l r) h = absurd (omega (arith, h .stands .0))
+    by-bare b f g (alt l r) h = absurd (omega (arith, h .stands .0))
+    by-bare b f g (star e) h = f e
+    by-bare b f g empty h = g
 
     pub by-two : 3 ≤ k → k ≤ 4 → (k ≡ 3 → Two s t P cat) → ((k ≡ 3 → ⊥) → Two s t P alt) → (e : Exp) → At s t e i j → P e
     by-two a b f g (atom (nonterminal n)) h = absurd (omega (arith, h .stands .0))
@@ -45,7 +62,7 @@ module _ (s : List ℕ) (t : Spot) (k : ℕ) (kind : k ≡ kindOf s (t .node)) w
     by-two a b f g (cat l r) h = f (kind ∙ h .stands .0) l r (h .stands .2) (h .stands .3)
     by-two a b f g (alt l r) h = g (λ e. omega (arith, h .stands .0)) l r (h .stands .2) (h .stands .3)
     by-two a b f g (star e) h = absurd (omega (arith, h .stands .0))
-    by-two a b f g empty h = absurd (h .stands)
+    by-two a b f g empty h = absurd (omega (arith, h .stands .0))
 
     pub by-cat : k ≡ 3 → Two s t P cat → (e : Exp) → At s t e i j → P e
     by-cat c f e h = by-two (omega arith) (omega arith) (λ _. f) (λ n. absurd (n c)) e h
@@ -53,13 +70,16 @@ module _ (s : List ℕ) (t : Spot) (k : ℕ) (kind : k ≡ kindOf s (t .node)) w
     pub by-alt : 3 ≤ k → k ≤ 4 → (k ≡ 3 → ⊥) → Two s t P alt → (e : Exp) → At s t e i j → P e
     by-alt a b n g e h = by-two a b (λ c. absurd (n c)) (λ _. g) e h
 
+pub five : {k : ℕ} → k ≤ 5 → 4 < k → k ≡ 5
+five a b = omega (arith, a, b)
+
 -- behind a star
 pub part-at : (s : List ℕ) (t r : Spot) → PartOf t r → (e : Exp) → TreeAt s (suc (t .node)) e → (i j : ℕ) → t .bracket ≡ i → t .atom ≡ j → At s r e (suc i) j
 part-at s t r p e h i j x y =
     record { stands = subst (λ (n : ℕ). TreeAt s n e) (omega (arith, p .node-is)) h; bracket-is = omega (arith, p .bracket-is); atom-is = p .atom-is ∙ y }
 
 module _ (s : List ℕ) (t : Spot) (k : ℕ) (kind : k ≡ kindOf s (t .node)) where
-  part-of : (r : Spot) → PartOf t r → 4 < k → t .node + t .nodes ≤ nodeCount s → t .bracket + t .nodes ≤ 33 → t .atom ≤ t .bracket →
+  part-of : (r : Spot) → PartOf t r → k ≡ 5 → t .node + t .nodes ≤ nodeCount s → t .bracket + t .nodes ≤ 33 → t .atom ≤ t .bracket →
       (e : Exp) → TreeAt s (t .node) e → t .nodes ≡ nodes e → SpotIn s r
   part-of r p b x y z (atom (nonterminal n)) h q = absurd (omega (arith, h .0))
   part-of r p b x y z (atom anychar) h q = absurd (omega (arith, h .0))
@@ -75,9 +95,9 @@ module _ (s : List ℕ) (t : Spot) (k : ℕ) (kind : k ≡ kindOf s (t .node)) w
         stands = subst (λ (n : ℕ). TreeAt s n e) (omega (arith, p .node-is)) (h .2);
         nodes-are = omega (arith, p .nodes-are);
       }
-  part-of r p b x y z empty h q = absurd h
+  part-of r p b x y z empty h q = absurd (omega (arith, h .0))
 
-  pub part-in : (r : Spot) → PartOf t r → 4 < k → SpotIn s t → SpotIn s r
+  pub part-in : (r : Spot) → PartOf t r → k ≡ 5 → SpotIn s t → SpotIn s r
   part-in r p b h = part-of r p b (h .inside) (h .few) (h .number) (h .expression) (h .stands) (h .nodes-are)
 
 -- the two behind a concatenation or a union
@@ -95,7 +115,7 @@ module _ (s : List ℕ) (t : Spot) (low : 3 ≤ kindOf s (t .node)) (high : kind
   two-of (cat l r) h q = record { left = l; right = r; left-stands = h .2; right-stands = h .3; all = q }
   two-of (alt l r) h q = record { left = l; right = r; left-stands = h .2; right-stands = h .3; all = q }
   two-of (star e) h q = absurd (omega (arith, h .0))
-  two-of empty h q = absurd h
+  two-of empty h q = absurd (omega (arith, h .0))
 
   pub two-in : SpotIn s t → TwoIn
   two-in h = two-of (h .expression) (h .stands) (h .nodes-are)

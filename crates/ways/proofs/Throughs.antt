@@ -19,7 +19,7 @@ use Rattle.ways.specs.Spot.{SpotIn, PartsOf}
 use Rattle.ways.specs.Walks.{Through}
 use Rattle.ways.proofs.Strings.{joined-assoc, joined-none, joined-first, joined-second, enclosed-is}
 use Rattle.ways.proofs.Holds.{line-moved, kept-itself, kept-then, kept-again, line-again, missing-line, missing-kept, absent-line}
-use Rattle.ways.proofs.Spots.{by-leaf, by-star, by-cat, by-alt}
+use Rattle.ways.proofs.Spots.{by-leaf, by-bare, by-cat, by-alt}
 
 abbrev first-bracket : ℕ → Option (List Bracket)
 first-bracket i = some (opening i ∷ [])
@@ -46,8 +46,9 @@ module _ (s : List ℕ) (t : Spot) (k : ℕ) (kind : k ≡ kindOf s (t .node)) (
         record {
           few = omega (arith, u .any, op .few, cl .few);
           kept = kept-then (op .kept) (cl .kept);
-          is = λ e i j a o h. by-star s t k kind (λ (u : Exp). LineIs (joined o (through u i)) r) b
-              (λ f _. line-moved (joined-assoc o (first-bracket i) (last-bracket i)) (cl .is i (a .bracket-is) _ (op .is i (a .bracket-is) o h))) e a;
+          is = λ e i j a o h.
+              let own = line-moved (joined-assoc o (first-bracket i) (last-bracket i)) (cl .is i (a .bracket-is) _ (op .is i (a .bracket-is) o h)) in
+              by-bare s t k kind (λ (u : Exp). LineIs (joined o (through u i)) r) b (λ _. own) own e a;
         }
 
     module _ (two : Parts) (parts : PartsOf s t two) (a : Line) (first : Through s (two .first) inside a) where

@@ -13,7 +13,8 @@ pub record OneOn (kind : ℕ) (w r : Passing) : Type 0 where
   pub node-is : r .node ≡ w .node + 1
   pub leaf : kind < 3 → (r .atoms ≡ w .atoms + 1) × (r .left + 1 ≡ w .left)
   pub two : 3 ≤ kind → kind ≤ 4 → (r .atoms ≡ w .atoms) × (r .left ≡ w .left + 1)
-  pub only : 4 < kind → (r .atoms ≡ w .atoms) × (r .left ≡ w .left)
+  pub only : kind ≡ 5 → (r .atoms ≡ w .atoms) × (r .left ≡ w .left)
+  pub none : 5 < kind → (r .atoms ≡ w .atoms) × (r .left + 1 ≡ w .left)
 
 -- past the tree that stands at a node: the node after it, and its atoms
 pub record PassedBy (s : List ℕ) (at : ℕ) (r : Passing) : Type 0 where

@@ -137,7 +137,7 @@ pub fn part(t: Spot) -> Spot
     }
 }
 
-// One node further: an atom is the last of a tree, a concatenation or a union has one tree more.
+// One node further: an atom or the empty node is the last of a tree, a concatenation or a union has one tree more.
 fn one_on(w: Passing, kind: usize) -> Passing
     requires { ⌜ 1 ≤ w .left ⌝ }
     requires { ⌜ w .node + w .left ≤ 256 ⌝ }
@@ -149,6 +149,13 @@ fn one_on(w: Passing, kind: usize) -> Passing
         return Passing {
             node: next,
             atoms: w.atoms + 1,
+            left: w.left - 1,
+        };
+    }
+    if kind > 5 {
+        return Passing {
+            node: next,
+            atoms: w.atoms,
             left: w.left - 1,
         };
     }
@@ -291,6 +298,9 @@ fn into(s: &[u8], l: Layout, t: Spot, x: Symbol, w: Line, line: &mut [u8]) -> Wa
         return no_way(w);
     }
     let kind = kind_of(s, l, t.node);
+    if kind > 5 {
+        return no_way(w);
+    }
     let inside = opened(w, t.bracket, line);
     if kind < 3 {
         return atom_way(s, l, t, x, inside);
@@ -334,6 +344,9 @@ fn out_of(s: &[u8], l: Layout, t: Spot, p: usize, w: Line, line: &mut [u8]) -> L
     ensures { λ r. ⌜ OutOf (now (s .entry)) t p (lineIn w (now (line .entry))) (lineIn r (now (line .exit))) ⌝ }
 {
     let kind = kind_of(s, l, t.node);
+    if kind > 5 {
+        return no_line(w);
+    }
     if kind < 3 {
         if p == t.atom {
             return closed(w, t.bracket, line);
@@ -365,6 +378,9 @@ fn across(s: &[u8], l: Layout, t: Spot, p: usize, x: Symbol, w: Line, line: &mut
     ensures { λ r. ⌜ Across (now (s .entry)) t p x (lineIn w (now (line .entry))) (wayIn r (now (line .exit))) ⌝ }
 {
     let kind = kind_of(s, l, t.node);
+    if kind > 5 {
+        return no_way(w);
+    }
     if kind < 3 {
         return no_way(w);
     }

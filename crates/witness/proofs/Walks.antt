@@ -19,7 +19,7 @@ use Rattle.ways.specs.declared.Parts.{Parts}
 use Rattle.ways.specs.Held.{kindNumber, argumentNumber}
 use Rattle.ways.specs.Spot.{At, SpotIn, PartOf, PartsOf}
 use Rattle.ways.specs.Walks.{CanIs}
-use Rattle.ways.proofs.Spots.{by-leaf, by-star, by-cat, by-alt, part-at}
+use Rattle.ways.proofs.Spots.{by-leaf, by-star, by-empty, by-cat, by-alt, part-at}
 use Rattle.witness.specs.declared.Pair.{Pair}
 use Rattle.witness.specs.Held.{longest, Holds, WhenIs, OpenedAs, ClosedAs, EitherAs, BothAs, TurnedAs}
 use Rattle.witness.specs.Walks.{Through, Into, OutOf, Across}
@@ -36,7 +36,40 @@ module _ (s : List ℕ) (t : Spot) (k : ℕ) (kind : k ≡ kindOf s (t .node)) (
             (λ a _. wider (2 * t .nodes) (2 * t .nodes) (omega arith) (omega arith) z) e at;
       }
 
-  module _ (only : Spot) (part : PartOf t only) (b : 4 < k) where
+  -- the empty node: its own brackets, and no atom
+  module _ (b : 5 < k) where
+    pub through-empty : (unit shut r : Pair) → Holds 0 0 (one-string []) unit → ClosedAs (t .bracket) unit shut → OpenedAs (t .bracket) shut r → Through s t r
+    through-empty unit shut r u cl op =
+        record {
+          is = λ e i j at. by-empty s t k kind (λ (u : Exp). Holds (2 * t .nodes) (2 * t .nodes) (through u i) r) b
+              (let w = cl .is i (at .bracket-is) (one-string []) 0 0 u (omega arith) (omega arith) in
+              let z = op .is i (at .bracket-is) _ (0 + 1) (0 + 1) w (omega arith) (omega arith) in
+              wider (2 * t .nodes) (2 * t .nodes) (omega (arith, spot .any)) (omega (arith, spot .any)) z)
+              e at;
+        }
+
+    pub into-empty : (x : Symbol) (r : Pair) → Holds 0 0 no-string r → Into s t x r
+    into-empty x r z =
+        record {
+          is = λ gr γ e i j at. by-empty s t k kind (λ (u : Exp). Holds (2 * t .nodes) (4 * t .nodes) (into (tagsOf gr) u i (nextOf x)) r) b
+              (wider (2 * t .nodes) (4 * t .nodes) (omega arith) (omega arith) z) e at;
+        }
+
+    pub out-empty : (p : ℕ) (r : Pair) → Holds 0 0 no-string r → OutOf s t p r
+    out-empty p r z =
+        record {
+          is = λ e i j at. by-empty s t k kind (λ (u : Exp). Holds (2 * t .nodes) (4 * t .nodes) (out-of u i j p) r) b
+              (wider (2 * t .nodes) (4 * t .nodes) (omega arith) (omega arith) z) e at;
+        }
+
+    pub across-empty : (p : ℕ) (x : Symbol) (r : Pair) → Holds 0 0 no-string r → Across s t p x r
+    across-empty p x r z =
+        record {
+          is = λ gr γ e i j at. by-empty s t k kind (λ (u : Exp). Holds (4 * t .nodes) (6 * t .nodes) (across (tagsOf gr) u i j p (nextOf x)) r) b
+              (wider (4 * t .nodes) (6 * t .nodes) (omega arith) (omega arith) z) e at;
+        }
+
+  module _ (only : Spot) (part : PartOf t only) (b : k ≡ 5) where
     pub through-star : (f unit turns shut r : Pair) → Through s only f → Holds 0 0 (one-string []) unit → TurnedAs f unit turns →
         ClosedAs (t .bracket) turns shut → OpenedAs (t .bracket) shut r → Through s t r
     through-star f unit turns shut r h u tu cl op =

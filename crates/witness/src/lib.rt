@@ -228,6 +228,11 @@ fn through(s: &[u8], l: Layout, t: Spot) -> Pair
 {
     let kind = kind_of(s, l, t.node);
     let i = t.bracket;
+    if kind > 5 {
+        let empty = just_empty();
+        let shut = closed(i, empty);
+        return opened(i, shut);
+    }
     if kind < 3 {
         return nothing();
     }
@@ -262,6 +267,9 @@ fn into(s: &[u8], l: Layout, t: Spot, x: Symbol) -> Pair
 {
     let kind = kind_of(s, l, t.node);
     let i = t.bracket;
+    if kind > 5 {
+        return nothing();
+    }
     if kind < 3 {
         let n = argument_of(s, l, t.node);
         let can = atom_can(s, l, kind, n, x);
@@ -298,6 +306,9 @@ fn out_of(s: &[u8], l: Layout, t: Spot, p: usize) -> Pair
 {
     let kind = kind_of(s, l, t.node);
     let i = t.bracket;
+    if kind > 5 {
+        return nothing();
+    }
     if kind < 3 {
         let here = when(p == t.atom);
         return closed(i, here);
@@ -333,6 +344,9 @@ fn across(s: &[u8], l: Layout, t: Spot, p: usize, x: Symbol) -> Pair
     ensures { λ r. ⌜ Across (now (s .entry)) t p x r ⌝ }
 {
     let kind = kind_of(s, l, t.node);
+    if kind > 5 {
+        return nothing();
+    }
     if kind < 3 {
         return nothing();
     }

@@ -16,7 +16,7 @@ pub struct Past {
     pub atom: usize,
 }
 
-// Whether a tree of this kind needs no brackets where `around` is the kind that it is a part of: 0 for none, 6 for the second of
+// Whether a tree of this kind needs no brackets where `around` is the kind that it is a part of: 0 for none, 7 for the second of
 // two parts. A first part of its own kind, as in a then b then c, needs none.
 fn is_bare(kind: usize, around: usize) -> bool {
     if kind == 5 {
@@ -73,6 +73,13 @@ fn say_tree(s: &[u8], l: Layout, i: usize, left: usize, atom: usize, around: usi
         };
     }
     let kind = kind_of(s, l, i);
+    if kind > 5 {
+        say(b"EMPTY");
+        return Past {
+            node: i + 1,
+            atom: atom,
+        };
+    }
     if kind < 3 {
         say_numbered(s, l, i, atom);
         return Past {
@@ -91,7 +98,7 @@ fn say_tree(s: &[u8], l: Layout, i: usize, left: usize, atom: usize, around: usi
         return first;
     }
     say_joint(kind);
-    let second = say_tree(s, l, middle, i + left - middle, next, 6);
+    let second = say_tree(s, l, middle, i + left - middle, next, 7);
     say_closing(bare);
     second
 }

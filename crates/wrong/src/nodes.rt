@@ -27,7 +27,7 @@ fn node_record(s: &[u8], i: usize) -> usize
 fn node_fits(kind: usize, argument: usize) -> bool {
     match kind {
         1 => argument < 64,
-        2..=5 => argument == 0,
+        2..=6 => argument == 0,
         _ => false,
     }
 }

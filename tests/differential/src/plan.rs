@@ -38,6 +38,7 @@ pub enum Kind {
     Concatenation(Box<Expression>, Box<Expression>),
     Union(Box<Expression>, Box<Expression>),
     Star(Box<Expression>),
+    Empty,
 }
 
 impl From<Kind> for Expression {
@@ -61,11 +62,14 @@ pub fn or(left: Expression, right: Expression) -> Expression {
 pub fn star(inner: Expression) -> Expression {
     Kind::Star(Box::new(inner)).into()
 }
+pub fn empty() -> Expression {
+    Kind::Empty.into()
+}
 
 impl Expression {
     pub fn children(&self) -> Vec<&Expression> {
         match &self.kind {
-            Kind::Nonterminal(_) | Kind::Character => vec![],
+            Kind::Nonterminal(_) | Kind::Character | Kind::Empty => vec![],
             Kind::Concatenation(left, right) | Kind::Union(left, right) => vec![left, right],
             Kind::Star(inner) => vec![inner],
         }
@@ -86,6 +90,7 @@ impl Expression {
             Kind::Concatenation(..) => (3, 0),
             Kind::Union(..) => (4, 0),
             Kind::Star(_) => (5, 0),
+            Kind::Empty => (6, 0),
         };
         bytes.extend([kind, argument]);
         bytes.extend(field(self.visits.first));

@@ -121,6 +121,7 @@ impl Walk<'_> {
                     self.node(inner, depth);
                 }
             }
+            Body::Empty => {}
         }
         self.visit(node.second, Some(after_first));
         self.echo = echo_before;

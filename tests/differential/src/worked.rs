@@ -49,6 +49,10 @@ fn worked_expressions() {
     let places = [[9, 0, 0, 1], [9, 0, 1, 1], [9, 0, 2, 1]];
     assert_eq!(faults_of(then(then(star(or(n(1), n(2))), n(1)), star(n(1)))), places);
     assert_eq!(faults_of(then(star(or(n(1), n(2))), then(n(1), star(n(1))))), places);
+    // the empty node (§6)
+    assert_eq!(faults_of(or(n(1), empty())), [[0; 4]; 0]);
+    assert_eq!(faults_of(or(star(n(1)), empty())), [[9, 0, 0, 255]]);
+    assert_eq!(faults_of(star(or(n(1), empty()))), [[9, 0, 0, 1], [9, 0, 0, 255], [9, 0, 1, 1], [9, 0, 1, 255]]);
 }
 
 #[test]
@@ -375,12 +379,13 @@ fn rule_s_by_listing_words() {
 }
 
 fn small(random: &mut Random, depth: usize) -> Expression {
-    match if depth == 0 { random.below(3) } else { random.below(7) } {
+    match if depth == 0 { random.below(4) } else { random.below(8) } {
         0 => n(1),
         1 => n(2),
         2 => character(),
-        3 => then(small(random, depth - 1), small(random, depth - 1)),
-        4 => or(small(random, depth - 1), small(random, depth - 1)),
+        3 => empty(),
+        4 => then(small(random, depth - 1), small(random, depth - 1)),
+        5 => or(small(random, depth - 1), small(random, depth - 1)),
         _ => star(small(random, depth - 1)),
     }
 }
@@ -427,6 +432,7 @@ fn words_of(node: &Node, longest: usize) -> BTreeSet<Vec<Symbol>> {
                 rounds = more;
             }
         }
+        Body::Empty => [vec![]].into(),
     };
     let open = [vec![Symbol::Open(node.bracket)]].into();
     let close = [vec![Symbol::Close(node.bracket)]].into();

@@ -4,7 +4,7 @@ use borrow.Author.Needs.{needs}
 use Prim.Native.Nat.{ℕ, _<_}
 use native.Mathlib.Omega.{arith}
 use Rattle.tells.proofs.Laws.{held, failed}
-use Rattle.trees.proofs.Parses.{ends, no-nodes, no-depth, no-fit, leaf-tree, inner-none, star-tree, two-tree}
+use Rattle.trees.proofs.Parses.{ends, no-nodes, no-depth, no-fit, leaf-tree, empty-tree, inner-none, star-tree, two-tree}
 use borrow.Fn.Kinds.{In}
 use borrow.Fn.PlainCycle.{Measures, is, falls, and}
 use Rattle.trees.proofs.parse.Reads as parse
@@ -43,20 +43,25 @@ parse-returns-3 t c =
 parse-returns-4 : (t : ℕ) → parse-lts.Need-returns-4 (parse-calls t) (parse-at t) parse.Post
 parse-returns-4 t c =
     let w = c .before .before in
-    leaf-tree _ _ _ _ _ _ (w .before .before .kind-of .ensures .is) (w .before .argument-of .ensures .is) (held (w .node-fits .ensures) (c .before .if3 .left)) (w .before .before .before .before .if1 .left) (w .before .before .before .if2 .left) (c .if4 .taken)
-
-parse-parse-requires : (t : ℕ) → parse-lts.Need-parse-requires (parse-calls t) (parse-at t) parse.Post
-parse-parse-requires t c κs = (omega arith, (c .before .before .before .before .before .before .before .before .pre .1 .0, omega arith))
+    empty-tree _ _ _ _ _ _ (w .before .before .kind-of .ensures .is) (w .before .argument-of .ensures .is) (held (w .node-fits .ensures) (c .before .if3 .left)) (w .before .before .before .before .if1 .left) (w .before .before .before .if2 .left) (c .if4 .taken)
 
 parse-returns-5 : (t : ℕ) → parse-lts.Need-returns-5 (parse-calls t) (parse-at t) parse.Post
 parse-returns-5 t c =
-    let w = c .before .before .before .before .before in
-    inner-none _ _ _ _ _ _ (w .before .before .kind-of .ensures .is) (w .before .argument-of .ensures .is) (held (w .node-fits .ensures) (c .before .before .before .before .if3 .left)) (w .before .before .before .before .if1 .left) (w .before .before .before .if2 .left) (c .before .before .before .if4 .left) (rw (c .enum-told .given .1) at (c .before .before .parse .ensures))
+    let w = c .before .before .before in
+    leaf-tree _ _ _ _ _ _ (w .before .before .kind-of .ensures .is) (w .before .argument-of .ensures .is) (held (w .node-fits .ensures) (c .before .before .if3 .left)) (w .before .before .before .before .if1 .left) (w .before .before .before .if2 .left) (c .if5 .taken)
+
+parse-parse-requires : (t : ℕ) → parse-lts.Need-parse-requires (parse-calls t) (parse-at t) parse.Post
+parse-parse-requires t c κs = (omega arith, (c .before .before .before .before .before .before .before .before .before .pre .1 .0, omega arith))
 
 parse-returns-6 : (t : ℕ) → parse-lts.Need-returns-6 (parse-calls t) (parse-at t) parse.Post
 parse-returns-6 t c =
-    let w = c .before .before .before .before .before .before .before in
-    star-tree _ _ _ _ _ _ (w .before .before .kind-of .ensures .is) (w .before .argument-of .ensures .is) (held (w .node-fits .ensures) (c .before .before .before .before .before .before .if3 .left)) (w .before .before .before .before .if1 .left) (w .before .before .before .if2 .left) (c .before .before .before .before .before .if4 .left) _ (c .if5 .taken) (rw (c .before .before .j .given .1) at (c .before .before .before .before .parse .ensures))
+    let w = c .before .before .before .before .before .before in
+    inner-none _ _ _ _ _ _ (w .before .before .kind-of .ensures .is) (w .before .argument-of .ensures .is) (held (w .node-fits .ensures) (c .before .before .before .before .before .if3 .left)) (w .before .before .before .before .if1 .left) (w .before .before .before .if2 .left) (c .before .before .before .before .if4 .left) (c .before .before .before .if5 .left) (rw (c .enum-told .given .1) at (c .before .before .parse .ensures))
+
+parse-returns-7 : (t : ℕ) → parse-lts.Need-returns-7 (parse-calls t) (parse-at t) parse.Post
+parse-returns-7 t c =
+    let w = c .before .before .before .before .before .before .before .before in
+    star-tree _ _ _ _ _ _ (w .before .before .kind-of .ensures .is) (w .before .argument-of .ensures .is) (held (w .node-fits .ensures) (c .before .before .before .before .before .before .before .if3 .left)) (w .before .before .before .before .if1 .left) (w .before .before .before .if2 .left) (c .before .before .before .before .before .before .if4 .left) (c .before .before .before .before .before .if5 .left) _ (c .if6 .taken) (rw (c .before .before .j .given .1) at (c .before .before .before .before .parse .ensures))
 
 parse-sub-parse-3 : (t : ℕ) → parse-lts.Need-sub-parse-3 (parse-calls t) (parse-at t) parse.Post
 parse-sub-parse-3 t c = omega (arith, ends (rw (c .before .before .j .given .1) at (c .before .before .before .before .parse .ensures)))
@@ -64,12 +69,12 @@ parse-sub-parse-3 t c = omega (arith, ends (rw (c .before .before .j .given .1) 
 parse-parse-requires-2 : (t : ℕ) → parse-lts.Need-parse-requires-2 (parse-calls t) (parse-at t) parse.Post
 parse-parse-requires-2 t c κs =
     let e = ends (rw (c .before .before .j .given .1) at (c .before .before .before .before .parse .ensures)) in
-    (omega arith, (c .before .before .before .before .before .before .before .before .before .before .before .before .before .pre .1 .0, omega arith))
+    (omega arith, (c .before .before .before .before .before .before .before .before .before .before .before .before .before .before .pre .1 .0, omega arith))
 
-parse-returns-7 : (t : ℕ) → parse-lts.Need-returns-7 (parse-calls t) (parse-at t) parse.Post
-parse-returns-7 t c =
-    let w = c .before .before .before .before .before .before .before .before in
-    two-tree _ _ _ _ _ _ (w .before .before .kind-of .ensures .is) (w .before .argument-of .ensures .is) (held (w .node-fits .ensures) (c .before .before .before .before .before .before .before .if3 .left)) (w .before .before .before .before .if1 .left) (w .before .before .before .if2 .left) (c .before .before .before .before .before .before .if4 .left) (c .before .if5 .left) _ (rw (c .before .before .before .j .given .1) at (c .before .before .before .before .before .parse .ensures)) (c .parse2 .result) (c .parse2 .ensures)
+parse-returns-8 : (t : ℕ) → parse-lts.Need-returns-8 (parse-calls t) (parse-at t) parse.Post
+parse-returns-8 t c =
+    let w = c .before .before .before .before .before .before .before .before .before in
+    two-tree _ _ _ _ _ _ (w .before .before .kind-of .ensures .is) (w .before .argument-of .ensures .is) (held (w .node-fits .ensures) (c .before .before .before .before .before .before .before .before .if3 .left)) (w .before .before .before .before .if1 .left) (w .before .before .before .if2 .left) (c .before .before .before .before .before .before .before .if4 .left) (c .before .before .before .before .before .before .if5 .left) (c .before .if6 .left) _ (rw (c .before .before .before .j .given .1) at (c .before .before .before .before .before .parse .ensures)) (c .parse2 .result) (c .parse2 .ensures)
 
 pub +parse-spec : {M : Type 1} → statement M
 +parse-spec =
@@ -88,15 +93,17 @@ pub +parse-spec : {M : Type 1} → statement M
     (λ c. search needs)
     (parse-returns-4 t)
     (λ c. search needs)
+    (parse-returns-5 t)
+    (λ c. search needs)
     (λ c. search needs)
     (λ c. search needs)
     (parse-parse-requires t)
     (λ c. search needs)
     (λ c. search needs)
-    (parse-returns-5 t)
     (parse-returns-6 t)
+    (parse-returns-7 t)
     (λ c. search needs)
     (parse-sub-parse-3 t)
     (λ c. search needs)
     (parse-parse-requires-2 t)
-    (parse-returns-7 t)
+    (parse-returns-8 t)

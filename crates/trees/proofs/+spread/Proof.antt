@@ -8,7 +8,7 @@ use borrow.Fn.Kinds.{In}
 use borrow.Fn.PlainCycle.{Measures, is, falls, and}
 use Rattle.trees.proofs.Unique.{by-kind-1}
 use Rattle.trees.proofs.Tallies.{room, inner, inner-2, no-atom, four}
-use Rattle.trees.proofs.Spreads.{nonterminal-spread, character-spread, star-spread, cat-spread, alt-spread}
+use Rattle.trees.proofs.Spreads.{empty-spread, nonterminal-spread, character-spread, star-spread, cat-spread, alt-spread}
 use Rattle.trees.proofs.spread.Reads as spread
 use Rattle.trees.proofs.spread.Kinds as spread-kinds
 use Rattle.trees.proofs.+spread.Lts-spread as spread-lts
@@ -41,126 +41,134 @@ spread-kind-of-requires t c κs =
     let w = c .before .before .before in
     (w .pre .1 .0, omega (arith, room _ _ _ _ (w .pre .1 .1 .1 .1 .1), w .pre .1 .0 .layout-is .nodes-is, w .pre .1 .0 .few-nodes))
 
+spread-add-t20 : (t : ℕ) → spread-lts.Need-add-t20 (callees t) (spread-at t) spread.Post
+spread-add-t20 t c =
+    let w = c .before .before .before .before .before in
+    omega (arith, room _ _ _ _ (w .pre .1 .1 .1 .1 .1), w .pre .1 .0 .layout-is .nodes-is, w .pre .1 .0 .few-nodes)
+
+spread-returns : (t : ℕ) → spread-lts.Need-returns (callees t) (spread-at t) spread.Post
+spread-returns t c = empty-spread _ _ _ _ _ _ _ _ (omega (arith, c .before .kind-of .ensures .is, c .if1 .taken)) refl refl refl refl
+
 spread-argument-of-requires : (t : ℕ) → spread-lts.Need-argument-of-requires (callees t) (spread-at t) spread.Post
 spread-argument-of-requires t c κs =
-    let w = c .before .before .before .before .before in
+    let w = c .before .before .before .before .before .before in
     (w .pre .1 .0, omega (arith, room _ _ _ _ (w .pre .1 .1 .1 .1 .1), w .pre .1 .0 .layout-is .nodes-is, w .pre .1 .0 .few-nodes))
 
 spread-raise-tags-requires : (t : ℕ) → spread-lts.Need-raise-tags-requires (callees t) (spread-at t) spread.Post
 spread-raise-tags-requires t c κs =
-    let w = c .before .before .before .before .before .before .before in
-    let k = sym (c .before .before .before .kind-of .ensures .is) ∙ c .before .before .if1 .taken in
+    let w = c .before .before .before .before .before .before .before .before in
+    let k = sym (c .before .before .before .before .kind-of .ensures .is) ∙ c .before .before .if2 .taken in
     let low = by-kind-1 _ _ k (w .pre .1 .1 .1 .1 .1 .expression) (w .pre .1 .1 .1 .1 .1 .stands) .1 in
     (w .pre .1 .1 .1 .0 .long, (w .pre .1 .1 .1 .1 .0, omega (arith, low, c .before .argument-of .ensures .is)))
 
 spread-add-passed : (t : ℕ) → spread-lts.Need-add-passed (callees t) (spread-at t) spread.Post
 spread-add-passed t c =
-    let w = c .before .before .before .before .before .before .before .before .before .before in
+    let w = c .before .before .before .before .before .before .before .before .before .before .before in
     omega (arith, room _ _ _ _ (w .pre .1 .1 .1 .1 .1), w .pre .1 .0 .layout-is .nodes-is, w .pre .1 .0 .few-nodes)
 
 spread-add-passed-2 : (t : ℕ) → spread-lts.Need-add-passed-2 (callees t) (spread-at t) spread.Post
 spread-add-passed-2 t c =
-    let w = c .before .before .before .before .before .before .before .before .before .before in
+    let w = c .before .before .before .before .before .before .before .before .before .before .before in
     omega (arith, room _ _ _ _ (w .pre .1 .1 .1 .1 .1), w .pre .1 .0 .layout-is .nodes-is, w .pre .1 .0 .few-nodes)
 
-spread-returns : (t : ℕ) → spread-lts.Need-returns (callees t) (spread-at t) spread.Post
-spread-returns t c =
-    let w = c .before .before .before .before .before .before .before .before .before .before .before in
-    let k = sym (c .before .before .before .before .before .before .before .kind-of .ensures .is) ∙ c .before .before .before .before .before .before .if1 .taken in
+spread-returns-2 : (t : ℕ) → spread-lts.Need-returns-2 (callees t) (spread-at t) spread.Post
+spread-returns-2 t c =
+    let w = c .before .before .before .before .before .before .before .before .before .before .before .before in
+    let k = sym (c .before .before .before .before .before .before .before .before .kind-of .ensures .is) ∙ c .before .before .before .before .before .before .if2 .taken in
     let m = c .before .before .before .before .before in
     let low = by-kind-1 _ _ k (w .pre .1 .1 .1 .1 .1 .expression) (w .pre .1 .1 .1 .1 .1 .stands) .1 in
     nonterminal-spread _ _ _ _ _ _ _ _ (c .passed .ensures) k _ (w .pre .1 .1 .1 .0) _ (m .argument-of .ensures .is) (omega (arith, low, m .argument-of .ensures .is)) (c .before .before .before .raise-tags .ensures)
 
 spread-add-passed-3 : (t : ℕ) → spread-lts.Need-add-passed-3 (callees t) (spread-at t) spread.Post
 spread-add-passed-3 t c =
-    let w = c .before .before .before .before .before .before .before .before in
+    let w = c .before .before .before .before .before .before .before .before .before in
     omega (arith, room _ _ _ _ (w .pre .1 .1 .1 .1 .1), w .pre .1 .0 .layout-is .nodes-is, w .pre .1 .0 .few-nodes)
 
 spread-add-passed-4 : (t : ℕ) → spread-lts.Need-add-passed-4 (callees t) (spread-at t) spread.Post
 spread-add-passed-4 t c =
-    let w = c .before .before .before .before .before .before .before .before in
+    let w = c .before .before .before .before .before .before .before .before .before in
     omega (arith, room _ _ _ _ (w .pre .1 .1 .1 .1 .1), w .pre .1 .0 .layout-is .nodes-is, w .pre .1 .0 .few-nodes)
 
-spread-returns-2 : (t : ℕ) → spread-lts.Need-returns-2 (callees t) (spread-at t) spread.Post
-spread-returns-2 t c =
-    let w = c .before .before .before .before .before .before .before .before .before in
-    character-spread _ _ _ _ _ _ _ _ (c .passed2 .ensures) (sym (c .before .before .before .before .before .kind-of .ensures .is) ∙ c .before .before .before .if2 .taken) (w .pre .1 .1 .1 .1 .0) _ (c .before .raise .ensures) refl
+spread-returns-3 : (t : ℕ) → spread-lts.Need-returns-3 (callees t) (spread-at t) spread.Post
+spread-returns-3 t c =
+    let w = c .before .before .before .before .before .before .before .before .before .before in
+    character-spread _ _ _ _ _ _ _ _ (c .passed2 .ensures) (sym (c .before .before .before .before .before .before .kind-of .ensures .is) ∙ c .before .before .before .if3 .taken) (w .pre .1 .1 .1 .1 .0) _ (c .before .raise .ensures) refl
 
 spread-add-walk-tree : (t : ℕ) → spread-lts.Need-add-walk-tree (callees t) (spread-at t) spread.Post
 spread-add-walk-tree t c =
-    let w = c .before .before .before .before .before .before .before in
+    let w = c .before .before .before .before .before .before .before .before in
     omega (arith, room _ _ _ _ (w .pre .1 .1 .1 .1 .1), w .pre .1 .0 .layout-is .nodes-is, w .pre .1 .0 .few-nodes)
 
 spread-sub-walk-tree : (t : ℕ) → spread-lts.Need-sub-walk-tree (callees t) (spread-at t) spread.Post
 spread-sub-walk-tree t c =
-    room _ _ _ _ (c .before .before .before .before .before .before .before .pre .1 .1 .1 .1 .1) .0
+    room _ _ _ _ (c .before .before .before .before .before .before .before .before .pre .1 .1 .1 .1 .1) .0
 
 spread-walk-tree-requires : (t : ℕ) → spread-lts.Need-walk-tree-requires (callees t) (spread-at t) spread.Post
 spread-walk-tree-requires t c κs =
-    let w = c .before .before .before .before .before .before .before in
-    (w .pre .1 .0, inner _ _ _ (c .before .before .before .kind-of .ensures .is) (no-atom _ _ _ (c .before .before .before .kind-of .ensures .is) (w .pre .1 .1 .1 .1 .1 .expression) (w .pre .1 .1 .1 .1 .1 .stands) (c .before .before .if1 .left) (c .before .if2 .left)) _ _ (w .pre .1 .1 .1 .1 .1))
+    let w = c .before .before .before .before .before .before .before .before in
+    (w .pre .1 .0, inner _ _ _ (c .before .before .before .before .kind-of .ensures .is) (c .before .before .before .if1 .left) (no-atom _ _ _ (c .before .before .before .before .kind-of .ensures .is) (c .before .before .before .if1 .left) (w .pre .1 .1 .1 .1 .1 .expression) (w .pre .1 .1 .1 .1 .1 .stands) (c .before .before .if2 .left) (c .before .if3 .left)) _ _ (w .pre .1 .1 .1 .1 .1))
 
 spread-add-spread : (t : ℕ) → spread-lts.Need-add-spread (callees t) (spread-at t) spread.Post
 spread-add-spread t c =
-    let w = c .before .before .before .before .before .before .before .before .before .before in
+    let w = c .before .before .before .before .before .before .before .before .before .before .before in
     omega (arith, room _ _ _ _ (w .pre .1 .1 .1 .1 .1), w .pre .1 .0 .layout-is .nodes-is, w .pre .1 .0 .few-nodes)
 
 spread-sub-spread : (t : ℕ) → spread-lts.Need-sub-spread (callees t) (spread-at t) spread.Post
 spread-sub-spread t c =
-    room _ _ _ _ (c .before .before .before .before .before .before .before .before .before .before .pre .1 .1 .1 .1 .1) .0
+    room _ _ _ _ (c .before .before .before .before .before .before .before .before .before .before .before .pre .1 .1 .1 .1 .1) .0
 
 spread-spread-requires : (t : ℕ) → spread-lts.Need-spread-requires (callees t) (spread-at t) spread.Post
 spread-spread-requires t c κs =
-    let w = c .before .before .before .before .before .before .before .before .before .before in
-    (omega (arith, room _ _ _ _ (w .pre .1 .1 .1 .1 .1), w .pre .0), (w .pre .1 .0, (w .pre .1 .1 .0, (w .pre .1 .1 .1 .0, (w .pre .1 .1 .1 .1 .0, inner _ _ _ (c .before .before .before .before .before .before .kind-of .ensures .is) (no-atom _ _ _ (c .before .before .before .before .before .before .kind-of .ensures .is) (w .pre .1 .1 .1 .1 .1 .expression) (w .pre .1 .1 .1 .1 .1 .stands) (c .before .before .before .before .before .if1 .left) (c .before .before .before .before .if2 .left)) _ _ (w .pre .1 .1 .1 .1 .1))))))
+    let w = c .before .before .before .before .before .before .before .before .before .before .before in
+    (omega (arith, room _ _ _ _ (w .pre .1 .1 .1 .1 .1), w .pre .0), (w .pre .1 .0, (w .pre .1 .1 .0, (w .pre .1 .1 .1 .0, (w .pre .1 .1 .1 .1 .0, inner _ _ _ (c .before .before .before .before .before .before .before .kind-of .ensures .is) (c .before .before .before .before .before .before .if1 .left) (no-atom _ _ _ (c .before .before .before .before .before .before .before .kind-of .ensures .is) (c .before .before .before .before .before .before .if1 .left) (w .pre .1 .1 .1 .1 .1 .expression) (w .pre .1 .1 .1 .1 .1 .stands) (c .before .before .before .before .before .if2 .left) (c .before .before .before .before .if3 .left)) _ _ (w .pre .1 .1 .1 .1 .1))))))
 
-spread-returns-3 : (t : ℕ) → spread-lts.Need-returns-3 (callees t) (spread-at t) spread.Post
-spread-returns-3 t c =
-    let k = sym (c .before .before .before .before .before .before .before .before .before .kind-of .ensures .is) ∙ c .before .before .before .before .before .before .if3 .taken in
+spread-returns-4 : (t : ℕ) → spread-lts.Need-returns-4 (callees t) (spread-at t) spread.Post
+spread-returns-4 t c =
+    let k = sym (c .before .before .before .before .before .before .before .before .before .before .kind-of .ensures .is) ∙ c .before .before .before .before .before .before .if4 .taken in
     star-spread _ _ _ _ _ _ _ _ (c .before .before .before .before .before .walk-tree .ensures) _ (c .before .before .before .before .turned .ensures) _ (c .before .before .spread .ensures) k _ refl refl refl
 
 spread-add-spread-2 : (t : ℕ) → spread-lts.Need-add-spread-2 (callees t) (spread-at t) spread.Post
 spread-add-spread-2 t c =
-    let w = c .before .before .before .before .before .before .before .before in
+    let w = c .before .before .before .before .before .before .before .before .before in
     omega (arith, room _ _ _ _ (w .pre .1 .1 .1 .1 .1), w .pre .1 .0 .layout-is .nodes-is, w .pre .1 .0 .few-nodes)
 
 spread-sub-spread-2 : (t : ℕ) → spread-lts.Need-sub-spread-2 (callees t) (spread-at t) spread.Post
 spread-sub-spread-2 t c =
-    room _ _ _ _ (c .before .before .before .before .before .before .before .before .pre .1 .1 .1 .1 .1) .0
+    room _ _ _ _ (c .before .before .before .before .before .before .before .before .before .pre .1 .1 .1 .1 .1) .0
 
 spread-spread-requires-2 : (t : ℕ) → spread-lts.Need-spread-requires-2 (callees t) (spread-at t) spread.Post
 spread-spread-requires-2 t c κs =
-    let w = c .before .before .before .before .before .before .before .before in
-    (omega (arith, room _ _ _ _ (w .pre .1 .1 .1 .1 .1), w .pre .0), (w .pre .1 .0, (w .pre .1 .1 .0, (w .pre .1 .1 .1 .0, (w .pre .1 .1 .1 .1 .0, inner _ _ _ (c .before .before .before .before .kind-of .ensures .is) (no-atom _ _ _ (c .before .before .before .before .kind-of .ensures .is) (w .pre .1 .1 .1 .1 .1 .expression) (w .pre .1 .1 .1 .1 .1 .stands) (c .before .before .before .if1 .left) (c .before .before .if2 .left)) _ _ (w .pre .1 .1 .1 .1 .1))))))
+    let w = c .before .before .before .before .before .before .before .before .before in
+    (omega (arith, room _ _ _ _ (w .pre .1 .1 .1 .1 .1), w .pre .0), (w .pre .1 .0, (w .pre .1 .1 .0, (w .pre .1 .1 .1 .0, (w .pre .1 .1 .1 .1 .0, inner _ _ _ (c .before .before .before .before .before .kind-of .ensures .is) (c .before .before .before .before .if1 .left) (no-atom _ _ _ (c .before .before .before .before .before .kind-of .ensures .is) (c .before .before .before .before .if1 .left) (w .pre .1 .1 .1 .1 .1 .expression) (w .pre .1 .1 .1 .1 .1 .stands) (c .before .before .before .if2 .left) (c .before .before .if3 .left)) _ _ (w .pre .1 .1 .1 .1 .1))))))
 
 spread-sub-spread-3 : (t : ℕ) → spread-lts.Need-sub-spread-3 (callees t) (spread-at t) spread.Post
 spread-sub-spread-3 t c =
-    room _ _ _ _ (c .before .before .before .before .before .before .before .before .before .before .before .before .before .pre .1 .1 .1 .1 .1) .0
+    room _ _ _ _ (c .before .before .before .before .before .before .before .before .before .before .before .before .before .before .pre .1 .1 .1 .1 .1) .0
 
 spread-spread-requires-3 : (t : ℕ) → spread-lts.Need-spread-requires-3 (callees t) (spread-at t) spread.Post
 spread-spread-requires-3 t c κs =
-    let w = c .before .before .before .before .before .before .before .before .before .before .before .before .before in
-    (omega (arith, room _ _ _ _ (w .pre .1 .1 .1 .1 .1), w .pre .0), (w .pre .1 .0, (w .pre .1 .1 .0, (w .pre .1 .1 .1 .0, (c .before .before .before .before .spread2 .kept .1 .1 .1 .0 ∙ w .pre .1 .1 .1 .1 .0, inner-2 _ _ _ (c .before .before .before .before .before .before .before .before .before .kind-of .ensures .is) (no-atom _ _ _ (c .before .before .before .before .before .before .before .before .before .kind-of .ensures .is) (w .pre .1 .1 .1 .1 .1 .expression) (w .pre .1 .1 .1 .1 .1 .stands) (c .before .before .before .before .before .before .before .before .if1 .left) (c .before .before .before .before .before .before .before .if2 .left)) _ _ (w .pre .1 .1 .1 .1 .1) _ _ (c .before .before .before .before .spread2 .ensures .passes) (c .before .before .before .before .before .before .if3 .left))))))
+    let w = c .before .before .before .before .before .before .before .before .before .before .before .before .before .before in
+    (omega (arith, room _ _ _ _ (w .pre .1 .1 .1 .1 .1), w .pre .0), (w .pre .1 .0, (w .pre .1 .1 .0, (w .pre .1 .1 .1 .0, (c .before .before .before .before .spread2 .kept .1 .1 .1 .0 ∙ w .pre .1 .1 .1 .1 .0, inner-2 _ _ _ (c .before .before .before .before .before .before .before .before .before .before .kind-of .ensures .is) (c .before .before .before .before .before .before .before .before .before .if1 .left) (no-atom _ _ _ (c .before .before .before .before .before .before .before .before .before .before .kind-of .ensures .is) (c .before .before .before .before .before .before .before .before .before .if1 .left) (w .pre .1 .1 .1 .1 .1 .expression) (w .pre .1 .1 .1 .1 .1 .stands) (c .before .before .before .before .before .before .before .before .if2 .left) (c .before .before .before .before .before .before .before .if3 .left)) _ _ (w .pre .1 .1 .1 .1 .1) _ _ (c .before .before .before .before .spread2 .ensures .passes) (c .before .before .before .before .before .before .if4 .left))))))
 
 spread-sub-spread-4 : (t : ℕ) → spread-lts.Need-sub-spread-4 (callees t) (spread-at t) spread.Post
 spread-sub-spread-4 t c =
-    room _ _ _ _ (c .before .before .before .before .before .before .before .before .before .before .before .before .before .pre .1 .1 .1 .1 .1) .0
+    room _ _ _ _ (c .before .before .before .before .before .before .before .before .before .before .before .before .before .before .pre .1 .1 .1 .1 .1) .0
 
 spread-spread-requires-4 : (t : ℕ) → spread-lts.Need-spread-requires-4 (callees t) (spread-at t) spread.Post
 spread-spread-requires-4 t c κs =
-    let w = c .before .before .before .before .before .before .before .before .before .before .before .before .before in
-    (omega (arith, room _ _ _ _ (w .pre .1 .1 .1 .1 .1), w .pre .0), (w .pre .1 .0, (w .pre .1 .1 .0, (w .pre .1 .1 .1 .0, (c .before .before .before .before .spread2 .kept .1 .1 .1 .0 ∙ w .pre .1 .1 .1 .1 .0, inner-2 _ _ _ (c .before .before .before .before .before .before .before .before .before .kind-of .ensures .is) (no-atom _ _ _ (c .before .before .before .before .before .before .before .before .before .kind-of .ensures .is) (w .pre .1 .1 .1 .1 .1 .expression) (w .pre .1 .1 .1 .1 .1 .stands) (c .before .before .before .before .before .before .before .before .if1 .left) (c .before .before .before .before .before .before .before .if2 .left)) _ _ (w .pre .1 .1 .1 .1 .1) _ _ (c .before .before .before .before .spread2 .ensures .passes) (c .before .before .before .before .before .before .if3 .left))))))
-
-spread-returns-4 : (t : ℕ) → spread-lts.Need-returns-4 (callees t) (spread-at t) spread.Post
-spread-returns-4 t c =
-    cat-spread _ _ _ _ _ _ _ _ (c .before .before .before .before .before .before .before .spread2 .ensures) _ _ (c .before .before .spread3 .ensures) (sym (c .before .before .before .before .before .before .before .before .before .before .before .before .kind-of .ensures .is) ∙ c .before .before .before .before .if4 .taken)
+    let w = c .before .before .before .before .before .before .before .before .before .before .before .before .before .before in
+    (omega (arith, room _ _ _ _ (w .pre .1 .1 .1 .1 .1), w .pre .0), (w .pre .1 .0, (w .pre .1 .1 .0, (w .pre .1 .1 .1 .0, (c .before .before .before .before .spread2 .kept .1 .1 .1 .0 ∙ w .pre .1 .1 .1 .1 .0, inner-2 _ _ _ (c .before .before .before .before .before .before .before .before .before .before .kind-of .ensures .is) (c .before .before .before .before .before .before .before .before .before .if1 .left) (no-atom _ _ _ (c .before .before .before .before .before .before .before .before .before .before .kind-of .ensures .is) (c .before .before .before .before .before .before .before .before .before .if1 .left) (w .pre .1 .1 .1 .1 .1 .expression) (w .pre .1 .1 .1 .1 .1 .stands) (c .before .before .before .before .before .before .before .before .if2 .left) (c .before .before .before .before .before .before .before .if3 .left)) _ _ (w .pre .1 .1 .1 .1 .1) _ _ (c .before .before .before .before .spread2 .ensures .passes) (c .before .before .before .before .before .before .if4 .left))))))
 
 spread-returns-5 : (t : ℕ) → spread-lts.Need-returns-5 (callees t) (spread-at t) spread.Post
 spread-returns-5 t c =
-    let w = c .before .before .before .before .before .before .before .before .before .before .before .before .before .before .before .before .before in
+    cat-spread _ _ _ _ _ _ _ _ (c .before .before .before .before .before .before .before .spread2 .ensures) _ _ (c .before .before .spread3 .ensures) (sym (c .before .before .before .before .before .before .before .before .before .before .before .before .before .kind-of .ensures .is) ∙ c .before .before .before .before .if5 .taken)
+
+spread-returns-6 : (t : ℕ) → spread-lts.Need-returns-6 (callees t) (spread-at t) spread.Post
+spread-returns-6 t c =
+    let w = c .before .before .before .before .before .before .before .before .before .before .before .before .before .before .before .before .before .before in
     let k = c .before .before .before .before .before .before .before .before .before .before .before .before .before in
-    let three = no-atom _ _ _ (k .kind-of .ensures .is) (w .pre .1 .1 .1 .1 .1 .expression) (w .pre .1 .1 .1 .1 .1 .stands) (c .before .before .before .before .before .before .before .before .before .before .before .before .if1 .left) (c .before .before .before .before .before .before .before .before .before .before .before .if2 .left) in
-    alt-spread _ _ _ _ _ _ _ _ (c .before .before .before .before .before .before .before .before .spread2 .ensures) _ _ _ (c .before .before .before .spread4 .ensures) (c .either .ensures) (four _ _ _ (k .kind-of .ensures .is) (w .pre .1 .1 .1 .1 .1 .expression) (w .pre .1 .1 .1 .1 .1 .stands) three (c .before .before .before .before .before .if4 .left) (c .before .before .before .before .before .before .before .before .before .before .if3 .left))
+    let three = no-atom _ _ _ (k .before .kind-of .ensures .is) (k .if1 .left) (w .pre .1 .1 .1 .1 .1 .expression) (w .pre .1 .1 .1 .1 .1 .stands) (c .before .before .before .before .before .before .before .before .before .before .before .before .if2 .left) (c .before .before .before .before .before .before .before .before .before .before .before .if3 .left) in
+    alt-spread _ _ _ _ _ _ _ _ (c .before .before .before .before .before .before .before .before .spread2 .ensures) _ _ _ (c .before .before .before .spread4 .ensures) (c .either .ensures) (four _ _ _ (k .before .kind-of .ensures .is) (k .if1 .left) (w .pre .1 .1 .1 .1 .1 .expression) (w .pre .1 .1 .1 .1 .1 .stands) three (c .before .before .before .before .before .if5 .left) (c .before .before .before .before .before .before .before .before .before .before .if4 .left))
 
 pub +spread-spec : {M : Type 1} → statement M
 +spread-spec =
@@ -171,13 +179,15 @@ pub +spread-spec : {M : Type 1} → statement M
     (spread-at t)
     spread.Post
     (spread-kind-of-requires t)
+    (spread-add-t20 t)
+    (spread-returns t)
     (spread-argument-of-requires t)
     (spread-raise-tags-requires t)
     (spread-add-passed t)
     (spread-add-passed-2 t)
     (λ c κs. search needs)
     (λ c. search needs)
-    (spread-returns t)
+    (spread-returns-2 t)
     (λ c. search needs)
     (λ c κs. search needs)
     (λ c. search needs)
@@ -185,7 +195,7 @@ pub +spread-spec : {M : Type 1} → statement M
     (spread-add-passed-4 t)
     (λ c κs. search needs)
     (λ c. search needs)
-    (spread-returns-2 t)
+    (spread-returns-3 t)
     (spread-add-walk-tree t)
     (spread-sub-walk-tree t)
     (spread-walk-tree-requires t)
@@ -194,16 +204,16 @@ pub +spread-spec : {M : Type 1} → statement M
     (spread-sub-spread t)
     (spread-spread-requires t)
     (λ c. search needs)
-    (spread-returns-3 t)
+    (spread-returns-4 t)
     (spread-add-spread-2 t)
     (spread-sub-spread-2 t)
     (spread-spread-requires-2 t)
     (spread-sub-spread-3 t)
     (spread-spread-requires-3 t)
     (λ c. search needs)
-    (spread-returns-4 t)
+    (spread-returns-5 t)
     (spread-sub-spread-4 t)
     (spread-spread-requires-4 t)
     (λ c κs. search needs)
     (λ c. search needs)
-    (spread-returns-5 t)
+    (spread-returns-6 t)

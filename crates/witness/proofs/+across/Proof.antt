@@ -2,8 +2,8 @@
 -- Assumes nothing.
 use borrow.Author.Needs.{needs}
 use native.Mathlib.Omega.{arith}
-use Rattle.ways.proofs.Spots.{part-in}
-use Rattle.witness.proofs.Walks.{across-leaf, across-star, across-cat, across-alt}
+use Rattle.ways.proofs.Spots.{five, part-in}
+use Rattle.witness.proofs.Walks.{across-empty, across-leaf, across-star, across-cat, across-alt}
 use Prim.Native.Nat.{ℕ, _<_}
 use borrow.Fn.Kinds.{In}
 use borrow.Fn.PlainCycle.{Measures, is, falls, and}
@@ -43,25 +43,31 @@ nothing-requires : (t : ℕ) → across-lts.Need-nothing-requires (callees t) (a
 nothing-requires t c κs = search needs
 
 returns : (t : ℕ) → across-lts.Need-returns (callees t) (across-at t) across.Post
-returns t c = across-leaf _ _ _ (c .before .before .kind-of .ensures .is) (c .before .before .before .before .pre .1 .1) (c .before .if1 .taken) _ _ _ (c .nothing .ensures)
+returns t c = across-empty _ _ _ (c .before .before .kind-of .ensures .is) (c .before .before .before .before .pre .1 .1) (c .before .if1 .taken) _ _ _ (c .nothing .ensures)
+
+nothing-requires-2 : (t : ℕ) → across-lts.Need-nothing-requires-2 (callees t) (across-at t) across.Post
+nothing-requires-2 t c κs = search needs
+
+returns-2 : (t : ℕ) → across-lts.Need-returns-2 (callees t) (across-at t) across.Post
+returns-2 t c = across-leaf _ _ _ (c .before .before .before .kind-of .ensures .is) (c .before .before .before .before .before .pre .1 .1) (c .before .if2 .taken) _ _ _ (c .nothing2 .ensures)
 
 part-requires : (t : ℕ) → across-lts.Need-part-requires (callees t) (across-at t) across.Post
 part-requires t c κs = search needs
 
 across-requires : (t : ℕ) → across-lts.Need-across-requires (callees t) (across-at t) across.Post
 across-requires t c κs =
-    let spot = c .before .before .before .before .before .pre .1 .1 in
+    let spot = c .before .before .before .before .before .before .pre .1 .1 in
     let p = c .part .ensures in
-    (omega (arith, c .before .before .before .before .before .pre .0, p .nodes-are, spot .any), (c .before .before .before .before .before .pre .1 .0, part-in _ _ _ (c .before .before .before .kind-of .ensures .is) _ (c .part .ensures) (c .before .if2 .taken) (c .before .before .before .before .before .pre .1 .1)))
+    (omega (arith, c .before .before .before .before .before .before .pre .0, p .nodes-are, spot .any), (c .before .before .before .before .before .before .pre .1 .0, part-in _ _ _ (c .before .before .before .before .kind-of .ensures .is) _ (c .part .ensures) (five (c .before .before .before .if1 .left) (c .before .if3 .taken)) (c .before .before .before .before .before .before .pre .1 .1)))
 
 out-of-requires : (t : ℕ) → across-lts.Need-out-of-requires (callees t) (across-at t) across.Post
-out-of-requires t c κs = (c .before .before .before .before .before .before .pre .1 .0, part-in _ _ _ (c .before .before .before .before .kind-of .ensures .is) _ (c .before .part .ensures) (c .before .before .if2 .taken) (c .before .before .before .before .before .before .pre .1 .1))
+out-of-requires t c κs = (c .before .before .before .before .before .before .before .pre .1 .0, part-in _ _ _ (c .before .before .before .before .before .kind-of .ensures .is) _ (c .before .part .ensures) (five (c .before .before .before .before .if1 .left) (c .before .before .if3 .taken)) (c .before .before .before .before .before .before .before .pre .1 .1))
 
 through-requires : (t : ℕ) → across-lts.Need-through-requires (callees t) (across-at t) across.Post
-through-requires t c κs = (c .before .before .before .before .before .before .before .pre .1 .0, part-in _ _ _ (c .before .before .before .before .before .kind-of .ensures .is) _ (c .before .before .part .ensures) (c .before .before .before .if2 .taken) (c .before .before .before .before .before .before .before .pre .1 .1))
+through-requires t c κs = (c .before .before .before .before .before .before .before .before .pre .1 .0, part-in _ _ _ (c .before .before .before .before .before .before .kind-of .ensures .is) _ (c .before .before .part .ensures) (five (c .before .before .before .before .before .if1 .left) (c .before .before .before .if3 .taken)) (c .before .before .before .before .before .before .before .before .pre .1 .1))
 
 into-requires : (t : ℕ) → across-lts.Need-into-requires (callees t) (across-at t) across.Post
-into-requires t c κs = (c .before .before .before .before .before .before .before .before .pre .1 .0, part-in _ _ _ (c .before .before .before .before .before .before .kind-of .ensures .is) _ (c .before .before .before .part .ensures) (c .before .before .before .before .if2 .taken) (c .before .before .before .before .before .before .before .before .pre .1 .1))
+into-requires t c κs = (c .before .before .before .before .before .before .before .before .before .pre .1 .0, part-in _ _ _ (c .before .before .before .before .before .before .before .kind-of .ensures .is) _ (c .before .before .before .part .ensures) (five (c .before .before .before .before .before .before .if1 .left) (c .before .before .before .before .if3 .taken)) (c .before .before .before .before .before .before .before .before .before .pre .1 .1))
 
 turned-requires : (t : ℕ) → across-lts.Need-turned-requires (callees t) (across-at t) across.Post
 turned-requires t c κs = search needs
@@ -72,27 +78,27 @@ both-requires t c κs = search needs
 either-requires : (t : ℕ) → across-lts.Need-either-requires (callees t) (across-at t) across.Post
 either-requires t c κs = search needs
 
-returns-2 : (t : ℕ) → across-lts.Need-returns-2 (callees t) (across-at t) across.Post
-returns-2 t c = across-star _ _ _ (c .before .before .before .before .before .before .before .before .before .before .kind-of .ensures .is) (c .before .before .before .before .before .before .before .before .before .before .before .before .pre .1 .1) _ (c .before .before .before .before .before .before .before .part .ensures) (c .before .before .before .before .before .before .before .before .if2 .taken) _ _ _ _ _ _ _ _ _ (c .before .before .before .before .before .before .across .ensures) (c .before .before .before .before .before .out-of .ensures) (c .before .before .before .before .through .ensures) (c .before .before .before .into .ensures) (c .before .before .turned .ensures) (c .before .both .ensures) (c .either .ensures)
+returns-3 : (t : ℕ) → across-lts.Need-returns-3 (callees t) (across-at t) across.Post
+returns-3 t c = across-star _ _ _ (c .before .before .before .before .before .before .before .before .before .before .before .kind-of .ensures .is) (c .before .before .before .before .before .before .before .before .before .before .before .before .before .pre .1 .1) _ (c .before .before .before .before .before .before .before .part .ensures) (five (c .before .before .before .before .before .before .before .before .before .before .if1 .left) (c .before .before .before .before .before .before .before .before .if3 .taken)) _ _ _ _ _ _ _ _ _ (c .before .before .before .before .before .before .across .ensures) (c .before .before .before .before .before .out-of .ensures) (c .before .before .before .before .through .ensures) (c .before .before .before .into .ensures) (c .before .before .turned .ensures) (c .before .both .ensures) (c .either .ensures)
 
 parts-of-requires : (t : ℕ) → across-lts.Need-parts-of-requires (callees t) (across-at t) across.Post
-parts-of-requires t c κs = (c .before .before .before .before .pre .1 .0, (c .before .before .before .before .pre .1 .1, (omega (arith, c .before .before .kind-of .ensures .is), omega (arith, c .before .before .kind-of .ensures .is))))
+parts-of-requires t c κs = (c .before .before .before .before .before .pre .1 .0, (c .before .before .before .before .before .pre .1 .1, (omega (arith, c .before .before .before .kind-of .ensures .is), omega (arith, c .before .before .before .kind-of .ensures .is))))
 
 across-requires-2 : (t : ℕ) → across-lts.Need-across-requires-2 (callees t) (across-at t) across.Post
 across-requires-2 t c κs =
     let p = c .before .before .parts-of .ensures in
-    (omega (arith, c .before .before .before .before .before .before .before .pre .0, p .both), (c .before .before .before .before .before .before .before .pre .1 .0, p .first-in))
+    (omega (arith, c .before .before .before .before .before .before .before .before .pre .0, p .both), (c .before .before .before .before .before .before .before .before .pre .1 .0, p .first-in))
 
 across-requires-3 : (t : ℕ) → across-lts.Need-across-requires-3 (callees t) (across-at t) across.Post
 across-requires-3 t c κs =
     let p = c .before .before .before .parts-of .ensures in
-    (omega (arith, c .before .before .before .before .before .before .before .before .pre .0, p .both), (c .before .before .before .before .before .before .before .before .pre .1 .0, p .second-in))
+    (omega (arith, c .before .before .before .before .before .before .before .before .before .pre .0, p .both), (c .before .before .before .before .before .before .before .before .before .pre .1 .0, p .second-in))
 
 out-of-requires-2 : (t : ℕ) → across-lts.Need-out-of-requires-2 (callees t) (across-at t) across.Post
-out-of-requires-2 t c κs = (c .before .before .before .before .before .before .before .before .before .before .pre .1 .0, c .before .before .before .before .before .parts-of .ensures .first-in)
+out-of-requires-2 t c κs = (c .before .before .before .before .before .before .before .before .before .before .before .pre .1 .0, c .before .before .before .before .before .parts-of .ensures .first-in)
 
 into-requires-2 : (t : ℕ) → across-lts.Need-into-requires-2 (callees t) (across-at t) across.Post
-into-requires-2 t c κs = (c .before .before .before .before .before .before .before .before .before .before .before .pre .1 .0, c .before .before .before .before .before .before .parts-of .ensures .second-in)
+into-requires-2 t c κs = (c .before .before .before .before .before .before .before .before .before .before .before .before .pre .1 .0, c .before .before .before .before .before .before .parts-of .ensures .second-in)
 
 both-requires-2 : (t : ℕ) → across-lts.Need-both-requires-2 (callees t) (across-at t) across.Post
 both-requires-2 t c κs = search needs
@@ -103,14 +109,14 @@ either-requires-2 t c κs = search needs
 either-requires-3 : (t : ℕ) → across-lts.Need-either-requires-3 (callees t) (across-at t) across.Post
 either-requires-3 t c κs = search needs
 
-returns-3 : (t : ℕ) → across-lts.Need-returns-3 (callees t) (across-at t) across.Post
-returns-3 t c = across-cat _ _ _ (c .before .before .before .before .before .before .before .before .before .before .before .before .before .kind-of .ensures .is) (c .before .before .before .before .before .before .before .before .before .before .before .before .before .before .before .pre .1 .1) _ (c .before .before .before .before .before .before .before .before .before .before .parts-of .ensures) _ _ _ _ (c .before .before .before .before .before .before .before .across2 .ensures) (c .before .before .before .before .before .before .across3 .ensures) (c .before .before .before .before .before .if3 .taken) _ _ _ _ _ (c .before .before .before .before .out-of2 .ensures) (c .before .before .before .into2 .ensures) (c .before .before .both2 .ensures) (c .before .either2 .ensures) (c .either3 .ensures)
+returns-4 : (t : ℕ) → across-lts.Need-returns-4 (callees t) (across-at t) across.Post
+returns-4 t c = across-cat _ _ _ (c .before .before .before .before .before .before .before .before .before .before .before .before .before .before .kind-of .ensures .is) (c .before .before .before .before .before .before .before .before .before .before .before .before .before .before .before .before .pre .1 .1) _ (c .before .before .before .before .before .before .before .before .before .before .parts-of .ensures) _ _ _ _ (c .before .before .before .before .before .before .before .across2 .ensures) (c .before .before .before .before .before .before .across3 .ensures) (c .before .before .before .before .before .if4 .taken) _ _ _ _ _ (c .before .before .before .before .out-of2 .ensures) (c .before .before .before .into2 .ensures) (c .before .before .both2 .ensures) (c .before .either2 .ensures) (c .either3 .ensures)
 
 either-requires-4 : (t : ℕ) → across-lts.Need-either-requires-4 (callees t) (across-at t) across.Post
 either-requires-4 t c κs = search needs
 
-returns-4 : (t : ℕ) → across-lts.Need-returns-4 (callees t) (across-at t) across.Post
-returns-4 t c = across-alt _ _ _ (c .before .before .before .before .before .before .before .before .before .kind-of .ensures .is) (c .before .before .before .before .before .before .before .before .before .before .before .pre .1 .1) _ (c .before .before .before .before .before .before .parts-of .ensures) _ _ _ _ (c .before .before .before .across2 .ensures) (c .before .before .across3 .ensures) (c .before .before .before .before .before .before .before .before .if1 .left) (c .before .before .before .before .before .before .before .if2 .left) (c .before .if3 .left) _ (c .either4 .ensures)
+returns-5 : (t : ℕ) → across-lts.Need-returns-5 (callees t) (across-at t) across.Post
+returns-5 t c = across-alt _ _ _ (c .before .before .before .before .before .before .before .before .before .before .kind-of .ensures .is) (c .before .before .before .before .before .before .before .before .before .before .before .before .pre .1 .1) _ (c .before .before .before .before .before .before .parts-of .ensures) _ _ _ _ (c .before .before .before .across2 .ensures) (c .before .before .across3 .ensures) (c .before .before .before .before .before .before .before .before .if2 .left) (c .before .before .before .before .before .before .before .if3 .left) (c .before .if4 .left) _ (c .either4 .ensures)
 
 pub +across-spec : {M : Type 1} → statement M
 +across-spec = close μ-across λ t. across-lts.spec (callees t)
@@ -119,6 +125,8 @@ pub +across-spec : {M : Type 1} → statement M
     (kind-of-requires t)
     (nothing-requires t)
     (returns t)
+    (nothing-requires-2 t)
+    (returns-2 t)
     (part-requires t)
     (across-requires t)
     (out-of-requires t)
@@ -127,7 +135,7 @@ pub +across-spec : {M : Type 1} → statement M
     (turned-requires t)
     (both-requires t)
     (either-requires t)
-    (returns-2 t)
+    (returns-3 t)
     (parts-of-requires t)
     (across-requires-2 t)
     (across-requires-3 t)
@@ -136,6 +144,6 @@ pub +across-spec : {M : Type 1} → statement M
     (both-requires-2 t)
     (either-requires-2 t)
     (either-requires-3 t)
-    (returns-3 t)
-    (either-requires-4 t)
     (returns-4 t)
+    (either-requires-4 t)
+    (returns-5 t)

@@ -5,8 +5,7 @@ use mathlib.Core.Path.{refl}
 use Prim.Native.Nat.{_<_}
 use native.Mathlib.Omega.{arith}
 use Rattle.layout.specs.Layout.{productionCount}
-use Rattle.ways.proofs.Ends.{spot-there}
-use Rattle.witness.proofs.Places.{atom-empty, atom-into, atom-across}
+use Rattle.witness.proofs.Places.{spot-there, atom-empty, atom-into, atom-across}
 use Rattle.witness.proofs.to_atom.Statement.{statement}
 use Rattle.witness.proofs.to_atom.Tie as tie
 

@@ -99,6 +99,9 @@ fn tree(random: &mut Random, leaves: usize, atoms: &[Expression], pool: &mut Vec
         return star(tree(random, leaves, atoms, pool, true));
     }
     if leaves == 1 {
+        if !in_star && random.once_in(6) {
+            return empty();
+        }
         if pool.is_empty() {
             pool.extend(atoms.iter().cloned());
         }
@@ -138,7 +141,7 @@ fn add_visits(random: &mut Random, expression: &mut Expression, firsts: &[Option
         expression.visits = Visits { first: *random.pick(firsts), second: *random.pick(seconds) };
     }
     match &mut expression.kind {
-        Kind::Nonterminal(_) | Kind::Character => {}
+        Kind::Nonterminal(_) | Kind::Character | Kind::Empty => {}
         Kind::Concatenation(left, right) | Kind::Union(left, right) => {
             add_visits(random, left, firsts, seconds);
             add_visits(random, right, firsts, seconds);

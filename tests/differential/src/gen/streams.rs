@@ -151,6 +151,7 @@ impl Writer<'_> {
                     self.node(inner, depth, spaced);
                 }
             }
+            Body::Empty => {}
         }
     }
 }
@@ -170,7 +171,7 @@ pub fn heights(sheet: &Sheet) -> [usize; 64] {
 
 pub fn height(tree: Option<&Node>, heights: &[usize; 64]) -> usize {
     match tree.map(|node| &node.body) {
-        None | Some(Body::Character(_) | Body::Star(_)) => 0,
+        None | Some(Body::Character(_) | Body::Star(_) | Body::Empty) => 0,
         Some(Body::Nonterminal(_, nonterminal)) => heights[*nonterminal as usize],
         Some(Body::Concatenation(left, right)) => height(Some(left), heights).max(height(Some(right), heights)),
         Some(Body::Union(left, right)) => height(Some(left), heights).min(height(Some(right), heights)),

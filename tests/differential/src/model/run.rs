@@ -300,7 +300,7 @@ fn nodes_by_bracket(tree: Option<&Node>) -> BTreeMap<usize, &Node> {
     fn go<'a>(node: &'a Node, nodes: &mut BTreeMap<usize, &'a Node>) {
         nodes.insert(node.bracket, node);
         match &node.body {
-            Body::Nonterminal(..) | Body::Character(_) => {}
+            Body::Nonterminal(..) | Body::Character(_) | Body::Empty => {}
             Body::Concatenation(left, right) | Body::Union(left, right) => {
                 go(left, nodes);
                 go(right, nodes);

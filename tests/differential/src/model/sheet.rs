@@ -40,6 +40,8 @@ pub enum Body {
     Concatenation(Box<Node>, Box<Node>),
     Union(Box<Node>, Box<Node>),
     Star(Box<Node>),
+    /// Its own brackets alone (§6).
+    Empty,
 }
 
 impl Sheet {
@@ -96,6 +98,7 @@ impl Production {
                     go(right, atoms);
                 }
                 Body::Star(inner) => go(inner, atoms),
+                Body::Empty => {}
             }
         }
         let mut atoms = Vec::new();
@@ -254,6 +257,7 @@ impl TreeReader<'_> {
                 Body::Union(Box::new(left), Box::new(self.tree(depth + 1)?))
             }
             (5, 0) => Body::Star(Box::new(self.tree(depth + 1)?)),
+            (6, 0) => Body::Empty,
             _ => return None,
         };
         Some(Node { bracket, body, first, second })

@@ -131,6 +131,7 @@ pub fn open_nodes(tree: Option<&Node>, place: usize) -> Vec<&Node> {
             Body::Nonterminal(atom, _) | Body::Character(atom) => *atom == place,
             Body::Concatenation(left, right) | Body::Union(left, right) => go(left, place, path) || go(right, place, path),
             Body::Star(inner) => go(inner, place, path),
+            Body::Empty => false,
         };
         if !found {
             path.pop();

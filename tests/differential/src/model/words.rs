@@ -80,6 +80,7 @@ impl Words {
                 self.join(&inner.last, &inner.first); // another round
                 self.join(&inner.last, &close);
             }
+            Body::Empty => self.join(&open, &close),
         }
         Edges { first: open, last: close }
     }

@@ -29,116 +29,46 @@ say-tree-below t =
 
 -- what each callee asks and gives
 abbrev say-tree-calls : ℕ → say-tree-lts.Claims
-say-tree-calls t = (kind-of-reads.Asked, kind-of-reads.Learnt, say-numbered-reads.Asked, say-numbered-reads.Learnt, is-bare-reads.Asked, is-bare-reads.Learnt, say-opening-reads.Asked, say-opening-reads.Learnt, say-tree-below t, say-tree.Post, say-reads.Asked, say-reads.Learnt, say-closing-reads.Asked, say-closing-reads.Learnt, say-joint-reads.Asked, say-joint-reads.Learnt)
+say-tree-calls t = (kind-of-reads.Asked, kind-of-reads.Learnt, say-reads.Asked, say-reads.Learnt, say-numbered-reads.Asked, say-numbered-reads.Learnt, is-bare-reads.Asked, is-bare-reads.Learnt, say-opening-reads.Asked, say-opening-reads.Learnt, say-tree-below t, say-tree.Post, say-closing-reads.Asked, say-closing-reads.Learnt, say-joint-reads.Asked, say-joint-reads.Learnt)
 
--- src/expression.rt:70:9
-say-tree-returns : (t : ℕ) → say-tree-lts.Need-returns (say-tree-calls t) (say-tree-at t) say-tree.Post
-say-tree-returns t c = search needs
-
--- src/expression.rt:75:9
-say-tree-kind-of-requires : (t : ℕ) → say-tree-lts.Need-kind-of-requires (say-tree-calls t) (say-tree-at t) say-tree.Post
-say-tree-kind-of-requires t c κs = search needs
-
--- src/expression.rt:77:9
-say-tree-say-numbered-requires : (t : ℕ) → say-tree-lts.Need-say-numbered-requires (say-tree-calls t) (say-tree-at t) say-tree.Post
-say-tree-say-numbered-requires t c κs = search needs
-
--- src/expression.rt:79:19
-say-tree-add-t16 : (t : ℕ) → say-tree-lts.Need-add-t16 (say-tree-calls t) (say-tree-at t) say-tree.Post
-say-tree-add-t16 t c = search needs
-
--- src/expression.rt:80:19
-say-tree-add-t17 : (t : ℕ) → say-tree-lts.Need-add-t17 (say-tree-calls t) (say-tree-at t) say-tree.Post
-say-tree-add-t17 t c = search needs
-
--- src/expression.rt:78:9
-say-tree-returns-2 : (t : ℕ) → say-tree-lts.Need-returns-2 (say-tree-calls t) (say-tree-at t) say-tree.Post
-say-tree-returns-2 t c = search needs
-
--- src/expression.rt:83:9
-say-tree-is-bare-requires : (t : ℕ) → say-tree-lts.Need-is-bare-requires (say-tree-calls t) (say-tree-at t) say-tree.Post
-say-tree-is-bare-requires t c κs = search needs
-
--- src/expression.rt:84:5
-say-tree-say-opening-requires : (t : ℕ) → say-tree-lts.Need-say-opening-requires (say-tree-calls t) (say-tree-at t) say-tree.Post
-say-tree-say-opening-requires t c κs = search needs
-
--- src/expression.rt:85:32
-say-tree-add-say-tree : (t : ℕ) → say-tree-lts.Need-add-say-tree (say-tree-calls t) (say-tree-at t) say-tree.Post
-say-tree-add-say-tree t c = search needs
-
--- src/expression.rt:85:39
-say-tree-sub-say-tree : (t : ℕ) → say-tree-lts.Need-sub-say-tree (say-tree-calls t) (say-tree-at t) say-tree.Post
-say-tree-sub-say-tree t c = search needs
-
--- src/expression.rt:85:9
 say-tree-say-tree-requires : (t : ℕ) → say-tree-lts.Need-say-tree-requires (say-tree-calls t) (say-tree-at t) say-tree.Post
-say-tree-say-tree-requires t c κs = (omega arith, (c .before .before .before .before .before .before .pre .1 .0, (omega arith, omega arith)))
+say-tree-say-tree-requires t c κs = (omega arith, (c .before .before .before .before .before .before .before .pre .1 .0, (omega arith, omega arith)))
 
--- src/expression.rt:89:13
-say-tree-slice-aggregate-say : (t : ℕ) → say-tree-lts.Need-slice-aggregate-say (say-tree-calls t) (say-tree-at t) say-tree.Post
-say-tree-slice-aggregate-say t c = search needs
-
--- src/expression.rt:89:9
-say-tree-say-requires : (t : ℕ) → say-tree-lts.Need-say-requires (say-tree-calls t) (say-tree-at t) say-tree.Post
-say-tree-say-requires t c κs = search needs
-
--- src/expression.rt:90:9
-say-tree-say-closing-requires : (t : ℕ) → say-tree-lts.Need-say-closing-requires (say-tree-calls t) (say-tree-at t) say-tree.Post
-say-tree-say-closing-requires t c κs = search needs
-
--- src/expression.rt:91:9
-say-tree-returns-3 : (t : ℕ) → say-tree-lts.Need-returns-3 (say-tree-calls t) (say-tree-at t) say-tree.Post
-say-tree-returns-3 t c = search needs
-
--- src/expression.rt:93:5
-say-tree-say-joint-requires : (t : ℕ) → say-tree-lts.Need-say-joint-requires (say-tree-calls t) (say-tree-at t) say-tree.Post
-say-tree-say-joint-requires t c κs = search needs
-
--- src/expression.rt:94:41
-say-tree-add-say-tree-2 : (t : ℕ) → say-tree-lts.Need-add-say-tree-2 (say-tree-calls t) (say-tree-at t) say-tree.Post
-say-tree-add-say-tree-2 t c = search needs
-
--- src/expression.rt:94:41
-say-tree-sub-say-tree-2 : (t : ℕ) → say-tree-lts.Need-sub-say-tree-2 (say-tree-calls t) (say-tree-at t) say-tree.Post
-say-tree-sub-say-tree-2 t c = search needs
-
--- src/expression.rt:94:9
 say-tree-say-tree-requires-2 : (t : ℕ) → say-tree-lts.Need-say-tree-requires-2 (say-tree-calls t) (say-tree-at t) say-tree.Post
 say-tree-say-tree-requires-2 t c κs =
     let e = c .before .before .say-tree .ensures in
-    (omega (arith, e), (c .before .before .before .before .before .before .before .before .before .pre .1 .0, (omega (arith, e), omega (arith, e))))
-
--- src/expression.rt:95:5
-say-tree-say-closing-requires-2 : (t : ℕ) → say-tree-lts.Need-say-closing-requires-2 (say-tree-calls t) (say-tree-at t) say-tree.Post
-say-tree-say-closing-requires-2 t c κs = search needs
-
--- src/expression.rt:61:1
-say-tree-returns-4 : (t : ℕ) → say-tree-lts.Need-returns-4 (say-tree-calls t) (say-tree-at t) say-tree.Post
-say-tree-returns-4 t c = search needs
+    (omega (arith, e), (c .before .before .before .before .before .before .before .before .before .before .pre .1 .0, (omega (arith, e), omega (arith, e))))
 
 pub +say-tree-spec : {M : Type 1} → statement M
-+say-tree-spec = close μ-say-tree λ t. say-tree-lts.spec (say-tree-calls t)
++say-tree-spec =
+    close
+    μ-say-tree
+    λ t. say-tree-lts.spec
+    (say-tree-calls t)
     (say-tree-at t)
     say-tree.Post
-    (say-tree-returns t)
-    (say-tree-kind-of-requires t)
-    (say-tree-say-numbered-requires t)
-    (say-tree-add-t16 t)
-    (say-tree-add-t17 t)
-    (say-tree-returns-2 t)
-    (say-tree-is-bare-requires t)
-    (say-tree-say-opening-requires t)
-    (say-tree-add-say-tree t)
-    (say-tree-sub-say-tree t)
+    (λ c. search needs)
+    (λ c κs. search needs)
+    (λ c. search needs)
+    (λ c κs. search needs)
+    (λ c. search needs)
+    (λ c. search needs)
+    (λ c κs. search needs)
+    (λ c. search needs)
+    (λ c. search needs)
+    (λ c. search needs)
+    (λ c κs. search needs)
+    (λ c κs. search needs)
+    (λ c. search needs)
+    (λ c. search needs)
     (say-tree-say-tree-requires t)
-    (say-tree-slice-aggregate-say t)
-    (say-tree-say-requires t)
-    (say-tree-say-closing-requires t)
-    (say-tree-returns-3 t)
-    (say-tree-say-joint-requires t)
-    (say-tree-add-say-tree-2 t)
-    (say-tree-sub-say-tree-2 t)
+    (λ c. search needs)
+    (λ c κs. search needs)
+    (λ c κs. search needs)
+    (λ c. search needs)
+    (λ c κs. search needs)
+    (λ c. search needs)
+    (λ c. search needs)
     (say-tree-say-tree-requires-2 t)
-    (say-tree-say-closing-requires-2 t)
-    (say-tree-returns-4 t)
+    (λ c κs. search needs)
+    (λ c. search needs)
