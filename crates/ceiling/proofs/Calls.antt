@@ -86,5 +86,6 @@ ceiling-kept s a z ok =
       of-events = event-visits a (ok .keeps-S) nodes;
       of-steps = step-visits a ok nodes;
       of-tokens = token-visits a ok nodes;
+      of-blanks = λ z k h. ap (λ (b : Bool). unless-blank b z (answered (run a z (eventsOfToken k)))) h;
       of-calls = call-visits a ok nodes;
     }

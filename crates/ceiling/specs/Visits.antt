@@ -2,7 +2,7 @@
 -- most 64 visits, and its production once more where it is a tag; so a token has at most 130, and a call at most 130 for each token that it takes.
 -- Assumes nothing.
 use mathlib.Core.Path.{_≡_}
-use mathlib.Core.Bool.{Bool}
+use mathlib.Core.Bool.{Bool, true, _&&_}
 use mathlib.Core.List.{List, [], _∷_}
 use Prim.Native.Nat.{ℕ, _+_, _*_, _≤_}
 use lib.ListN.{length}
@@ -15,7 +15,7 @@ use Rattle.runs.specs.Events.{Event, starts, ends, letter}
 use Rattle.runs.specs.Acts.{Act, visitsIn}
 use Rattle.runs.specs.Machine.{Control, go, move, most, State, took, step}
 use Rattle.runs.specs.Taken.{Passed}
-use Rattle.runs.specs.Spells.{Token, eventsOfToken, stepToken}
+use Rattle.runs.specs.Spells.{Token, eventsOfToken, isBlank, passesAt, stepToken}
 use Rattle.calls.specs.Held.{Held}
 use Rattle.tokens.specs.Stream.{Reads}
 use Rattle.calls.specs.Call.{Result, Called}
@@ -62,6 +62,10 @@ StepVisits a = (z z′ : State) (x : Event) → step a z x ≡ took z′ → cou
 abbrev pub TokenVisits : Sheet → Type 0
 TokenVisits a = (z z′ : State) (k : Token) → stepToken a z k ≡ took z′ → countIn z′ ≤ countIn z + ceiling (eventsOfToken k)
 
+-- white space that is no event leaves all as it was: it has no visit
+abbrev pub BlankVisits : Sheet → Type 0
+BlankVisits a = (z : State) (k : Token) → isBlank k && passesAt (grammar a) (z .control) ≡ true → stepToken a z k ≡ took z
+
 -- es are the tokens that a call has taken
 abbrev pub CallVisits : Sheet → Type 0
 CallVisits a =
@@ -73,6 +77,7 @@ pub record VisitsPromised (a : Sheet) : Type 0 where
   pub of-events : EventVisits a
   pub of-steps : StepVisits a
   pub of-tokens : TokenVisits a
+  pub of-blanks : BlankVisits a
   pub of-calls : CallVisits a
 
 abbrev pub CeilingKept : Type 0
