@@ -11,3 +11,4 @@ pub mod Fed
 pub mod ReadsBack
 pub mod Explained
 pub mod LineEnds
+pub mod SameCharacters

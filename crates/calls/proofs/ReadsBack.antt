@@ -24,12 +24,15 @@ use Rattle.runs.proofs.SheetFits.{sheet-fits}
 use Rattle.calls.specs.Names.{tokenOf}
 use Rattle.calls.specs.Limits.{silent}
 use Rattle.calls.specs.Call.{Result, CalledBy}
-use Rattle.calls.specs.ReadsBack.{ReadsBack, CallsReadBack}
+use Rattle.calls.specs.ReadsBack.{ReadsBackAs, ReadsBack, CallsReadBack}
 use Rattle.calls.proofs.Read.{read-char}
 use Rattle.calls.proofs.Steps.{RunToken, outOf, Steps, tokensOf, run-does}
 
+pub pieces-as : (ps : List Piece) → AllFit ps → ReadsBackAs (render ps) ps
+pieces-as ps f = record { is = refl; no-cr = never-cr ps f; reads = λ p r. reads-back ps p r f; same = λ p r. pieces-back ps p r }
+
 pub text-back : (ps : List Piece) → AllFit ps → ReadsBack (render ps)
-text-back ps f = record { printed = ps; is = refl; no-cr = never-cr ps f; reads = λ p r. reads-back ps p r f; same = λ p r. pieces-back ps p r }
+text-back ps f = (ps, pieces-as ps f)
 
 module _ (a : Sheet) (fits : SheetFits a) (s : List ℕ) (more : Bool) where
   event-fits : (at next : ℕ) (e : Event) → ReadAs more s at (Token e (record { at = next })) → EventsFit (eventsOfToken (tokenOf a s e))

@@ -8,3 +8,4 @@ pub mod Parts
 pub mod Empty
 pub mod ReadsBack
 pub mod Explained
+pub mod SameCharacters

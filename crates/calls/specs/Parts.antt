@@ -49,6 +49,8 @@ Continued a whole more room r₁ r (some n) = SameAnswer whole r₁ r
 -- calls one after another over a stream. Call says what one of them answers: of a part, whether more is to come, the room lent and what is handed in, what is
 -- handed back, its result, and the visits that it tells. whole is what is left of the stream and room what is left of all that is lent: each call gets some of
 -- both, and presents again what the one before has left; together they answer r, and the last tells the visits v
+-- The last call closes the state, or gets all that is left of the stream and of the room. So calls that end with a closing number may each be lent as much as one likes; of calls
+-- that end with 16 or 17 the last is lent all that is left of the room, and none before it was lent more than that and what was written since
 pub data Feeds {H : Type 0} (Call : List ℕ → Bool → ℕ → H → H → Result → ℕ → Type 0) (more : Bool) : List ℕ → ℕ → H → Result → ℕ → Type 0 where
   at-once : {whole : List ℕ} {room : ℕ} {h h′ : H} {r : Result} {v : ℕ} → Call whole more room h h′ r v → Feeds Call more whole room h r v
   closes : {h h′ : H} {v : ℕ} (room extra : ℕ) (s later : List ℕ) (b : Bool) (r₁ : Result) (n : ℕ) → Told b later more → Call s b room h h′ r₁ v →

@@ -13,14 +13,17 @@ use Rattle.runs.specs.Fits.{StoreFits}
 use Rattle.calls.specs.Held.{Held}
 use Rattle.calls.specs.Call.{Result, Called}
 
--- the bytes o are tags and characters, written, without a CR byte; and wherever they stand in a stream, after p and before r, reading from their first byte gives one event for each
+-- the bytes o are these tags and characters, written, without a CR byte; and wherever they stand in a stream, after p and before r, reading from their first byte gives one event for each
 -- of these and comes to their last, and the events stand for the same tags and characters
-pub record ReadsBack (o : List ℕ) : Type 0 where
-  pub printed : List Piece
+pub record ReadsBackAs (o : List ℕ) (printed : List Piece) : Type 0 where
   pub is : o ≡ render printed
   pub no-cr : NoCR o
   pub reads : (p r : List ℕ) → Reads true (p ++ (o ++ r)) (length p) (events (length p) printed) (length p + length o)
   pub same : (p r : List ℕ) → allPieces (p ++ (o ++ r)) (events (length p) printed) ≡ printed
+
+-- as some tags and characters
+abbrev pub ReadsBack : List ℕ → Type 0
+ReadsBack o = (printed : List Piece) × ReadsBackAs o printed
 
 -- the output of every call, whatever it answers, from a state whose values are those of a sheet's programs
 abbrev pub CallsReadBack : Sheet → Type 0

@@ -1,5 +1,5 @@
 -- For hosts in C, end to end: a stream fed to wickpollen_run in whatever parts and rooms, from the bytes that wickpollen_fresh writes, is answered with 0 in the
--- end exactly when it is accepted and its output has room in all that is lent; and then all is as the tree says.
+-- end exactly when it is accepted and its output has room in all that is lent; and then all is as the tree says. So it is of the other numbers.
 -- Assumes nothing.
 use mathlib.Core.Path.{_≡_, refl, sym, ap, ap₂, _∙_, subst}
 use mathlib.Core.Bool.{Bool, true, false, not}
@@ -21,8 +21,9 @@ use Rattle.state.proofs.Widths.{fresh-wide}
 use Rattle.converter.specs.Answered.{heldOf}
 use Rattle.converter.specs.Fed.{resultIn, BytesCall}
 use Rattle.converter.proofs.Theorems.{bytes-fed-converted, bytes-fed-accepted, bytes-as-lent}
+use Rattle.converter.proofs.Told.{bytes-fed-exactly, bytes-fed-read-back}
 use Rattle.capi.specs.Started.{StartedAs, too-short, fresh}
-use Rattle.capi.specs.Hosts.{RunCall, RunAsLent, HostAccepts, HostConverts}
+use Rattle.capi.specs.Hosts.{RunCall, RunAsLent, HostAccepts, HostConverts, HostFedExactly, HostFedReadBack}
 
 twice-not : (b : Bool) → not (not b) ≡ b
 twice-not true = refl
@@ -56,7 +57,9 @@ runs-bytes (goes-on room extra p later b r t c e d) = goes-on room extra p later
 run-as-lent : {s : List ℕ} (part : List ℕ) (more : Bool) (room : ℕ) (b b′ : List ℕ) (x : Result) (v : ℕ) (c : RunCall s part more room b b′ x v) →
     RunAsLent s part more room b b′ x v c
 unfolding run-bytes
-run-as-lent part more room b b′ x v c = bytes-as-lent part more room b b′ x v (run-bytes c)
+run-as-lent part more room b b′ x v c =
+    let k = bytes-as-lent part more room b b′ x v (run-bytes c) in
+    record { is-written = ap (λ (l : List ℕ). getD l 1 0) (c .answered .counted) ∙ k .is-written; left = k .left }
 
 -- what wickpollen_fresh writes, where it writes
 fresh-there : {lent area : List ℕ} {w : ℕ} → StartedAs lent area w → 0 < w → take stateWidth area ≡ bytesOf freshState
@@ -64,10 +67,10 @@ fresh-there (too-short h e) p = absurd (omega arith)
 fresh-there {lent} (fresh h e n) p = ap (take stateWidth) e ∙ take-at (bytesOf freshState) (drop stateWidth lent) stateWidth fresh-wide
 
 module _ {s : List ℕ} {a : Sheet} (i : IsSheet s a) (ok : Passed a) where
-  host-fed : {lent area : List ℕ} {w : ℕ} → StartedAs lent area w → 0 < w → {whole : List ℕ} {room : ℕ} {x : Result} {v : ℕ} →
-      Feeds (RunCall s) false whole room (take stateWidth area) x v → Feeds (BytesCall s) false whole room (bytesOf freshState) x v
-  host-fed started written {whole} {room} {x} {v} d =
-      subst (λ (b : List ℕ). Feeds (BytesCall s) false whole room b x v) (fresh-there started written) (runs-bytes d)
+  host-fed : {lent area : List ℕ} {w : ℕ} → StartedAs lent area w → 0 < w → {more : Bool} {whole : List ℕ} {room : ℕ} {x : Result} {v : ℕ} →
+      Feeds (RunCall s) more whole room (take stateWidth area) x v → Feeds (BytesCall s) more whole room (bytesOf freshState) x v
+  host-fed started written {more} {whole} {room} {x} {v} d =
+      subst (λ (b : List ℕ). Feeds (BytesCall s) more whole room b x v) (fresh-there started written) (runs-bytes d)
 
   pub host-converted : HostConverts s a
   host-converted lent area w st wr whole room x v d e y f =
@@ -75,3 +78,10 @@ module _ {s : List ℕ} {a : Sheet} (i : IsSheet s a) (ok : Passed a) where
 
   pub host-accepted : HostAccepts s a
   host-accepted lent area w st wr whole room x v d = bytes-fed-accepted i ok whole room x v (host-fed st wr d)
+
+  pub host-fed-exactly : HostFedExactly s a
+  host-fed-exactly lent area w st wr whole more room x told d =
+      (each-call (RunAsLent s) run-as-lent d, bytes-fed-exactly i ok whole more room x told (host-fed st wr d) .1)
+
+  pub host-fed-read-back : HostFedReadBack s a
+  host-fed-read-back lent area w st wr whole more room x told d = bytes-fed-read-back i ok whole more room x told (host-fed st wr d)

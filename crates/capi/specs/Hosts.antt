@@ -18,6 +18,7 @@ use Rattle.state.specs.Bytes.{stateFrom}
 use Rattle.converter.specs.Answered.{heldOf}
 use Rattle.converter.specs.Fed.{AsLent}
 use Rattle.converter.specs.Promises.{ZeroExactly}
+use Rattle.converter.specs.Explained.{FedExactly, FedReadBack}
 use Rattle.capi.specs.Started.{StartedAs}
 use Rattle.capi.specs.RunAnswer.{RunAs}
 
@@ -35,7 +36,7 @@ pub record RunCall (s part : List ℕ) (more : Bool) (room : ℕ) (b b′ : List
   pub visits : v ≡ getD counts 2 0
 
 abbrev pub RunAsLent : (s part : List ℕ) (more : Bool) (room : ℕ) (b b′ : List ℕ) (x : Result) (v : ℕ) → RunCall s part more room b b′ x v → Type 0
-RunAsLent s part more room b b′ x v c = AsLent (c .lent) (c .after) x
+RunAsLent s part more room b b′ x v c = AsLent (c .lent) (c .after) (getD (c .counts) 1 0) x
 
 -- from what wickpollen_fresh has written, in whatever parts and rooms: 0 in the end exactly when the stream is accepted and its output has room
 abbrev pub HostAccepts : List ℕ → Sheet → Type 0
@@ -49,3 +50,12 @@ HostConverts s a =
     (lent area : List ℕ) (w : ℕ) → StartedAs lent area w → 0 < w → (whole : List ℕ) (room : ℕ) (x : Result) (v : ℕ) →
     (d : Feeds (RunCall s) false whole room (take stateWidth area) x v) → (e : Env) → Accepted a whole e → length (render (e .out)) ≤ room →
     FedAccepted whole e x v × Each (RunAsLent s) d
+
+-- of every number: what the calls answer together is what trees say; of each call as many bytes are written as its output has, and every byte of the memory lent to it past them is as
+-- lent
+abbrev pub HostFedExactly : List ℕ → Sheet → Type 0
+HostFedExactly s a = (lent area : List ℕ) (w : ℕ) → StartedAs lent area w → 0 < w → FedExactly (RunCall s) (RunAsLent s) (take stateWidth area) a
+
+-- and what they write reads back as the tags and characters that the tree puts out
+abbrev pub HostFedReadBack : List ℕ → Sheet → Type 0
+HostFedReadBack s a = (lent area : List ℕ) (w : ℕ) → StartedAs lent area w → 0 < w → FedReadBack (RunCall s) (take stateWidth area) a

@@ -63,14 +63,17 @@ one-given (closed a i k z e f m c) (closed b j l y e′ f′ m′ c′) =
     let q : z ≡ y = some-inj (sym e ∙ e′) in
     ap again (some-inj (sym c ∙ ap (λ (x : State). heldOf x .closing) q ∙ c′))
 
+-- the first bytes of a memory in which o stands first
+pub first-bytes : (o lent after : List ℕ) (n : ℕ) → n ≡ length o → after ≡ o ++ drop (length o) lent → take n after ≡ o
+first-bytes o lent after n e l = ap₂ (λ (m : ℕ) (k : List ℕ). take m k) e l ∙ take-append-seam o (drop (length o) lent)
+
 module _ {s : List ℕ} {z : State} {part : List ℕ} {ended : Bool} {lent after : List ℕ} {r : Reply} where
   -- a run's reply is its answer
   pub ran-result : (w : Ran s z part ended lent after r) → resultOf after r ≡ w .answer
   ran-result w =
       let n = w .number in
       let t = w .taken in
-      let o : take (r .written) after ≡ w .answer .output =
-      ap₂ take (w .written) (w .left) ∙ take-append-seam (w .answer .output) (drop (length (w .answer .output)) lent) in
+      let o : take (r .written) after ≡ w .answer .output = first-bytes (w .answer .output) lent after (r .written) (w .written) (w .left) in
       let h = w .held in
       λ i. record { number = n i; taken = t i; output = o i; held = h i }
 
@@ -204,6 +207,14 @@ written-first {lent = lent} {after} {r} (as-given g k v) =
 written-first {lent = lent} {after} {r} (runs w v) =
     let o : take (r .written) after ≡ w .answer .output = ap (λ (x : Result). x .output) (ran-result w) in
     (w .written ∙ sym (ap length o), w .left ∙ ap₂ (λ (l : List ℕ) (n : ℕ). l ++ drop n lent) (sym o) (sym (w .written)))
+
+-- so where these bytes are o, that many are written and the whole memory is known
+pub written-are : {s : List ℕ} {z : State} {part : List ℕ} {ended : Bool} {lent after : List ℕ} {r : Reply} → AnsweredAs s z part ended lent after r →
+    (o : List ℕ) → take (r .written) after ≡ o → (r .written ≡ length o) × (after ≡ o ++ drop (length o) lent)
+written-are {lent = lent} {after} {r} w o e =
+    let k = written-first w in
+    let n : r .written ≡ length o = k .0 ∙ ap length e in
+    (n, k .1 ∙ ap₂ (λ (l : List ℕ) (m : ℕ). l ++ drop m lent) e n)
 
 -- the visits are the count of what the state holds
 pub visits-held : {s : List ℕ} {z : State} {part : List ℕ} {ended : Bool} {lent after : List ℕ} {r : Reply} → AnsweredAs s z part ended lent after r →

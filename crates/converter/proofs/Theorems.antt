@@ -36,19 +36,27 @@ use Rattle.converter.specs.Answered.{FitsSheet, closingIn, heldOf, Answe
 use Rattle.converter.specs.Fed.{resultOf, resultIn, ValueCall, BytesCall, ValueAsLent, BytesAsLent}
 use Rattle.converter.specs.Promises.{CallAccepts, CallConverts, FedAccepts, FedConverts, BytesFedAccepts, BytesFedConverts, PartsAsOne, ClosedRepeats}
 use Rattle.converter.proofs.BytesLaws.{bytes-state, bytes-first, as-value}
-use Rattle.converter.proofs.Replies.{some-inj, given-closed, is-call, handed-back-fit, written-first, visits-held}
+use Rattle.converter.proofs.Replies.{some-inj, given-closed, is-call, handed-back-fit, written-are, visits-held}
 
 pub held-fresh : heldOf freshState ≡ fresh-held
 unfolding freshState
 held-fresh = let e = meaning-fresh in λ i. record { run = e i; closing = closingIn (freshState .closed) }
 
+-- where a cut changes the number, all else is the same
+pub same-visits : (whole : List ℕ) (x y : Result) → SameAnswer whole x y → x .held .run .store .env .count ≡ y .held .run .store .env .count
+same-visits whole x y (inl q) = ap (λ (r : Result). r .held .run .store .env .count) (sym q)
+same-visits whole x y (inr c) = ap (λ (r : Result). r .held .run .store .env .count) (sym (c .is))
+
+pub same-rest : (whole : List ℕ) (x y : Result) → SameAnswer whole x y → (y .taken ≡ x .taken) × (y .output ≡ x .output)
+same-rest whole x y (inl q) = (ap (λ (r : Result). r .taken) q, ap (λ (r : Result). r .output) q)
+same-rest whole x y (inr c) = (ap (λ (r : Result). r .taken) (c .is), ap (λ (r : Result). r .output) (c .is))
+
 -- what a call leaves of the memory that is lent to it
-value-as-lent : {s : List ℕ} (part : List ℕ) (more : Bool) (room : ℕ) (z z′ : State) (x : Result) (v : ℕ) (c : ValueCall s part more room z z′ x v) →
+pub value-as-lent : {s : List ℕ} (part : List ℕ) (more : Bool) (room : ℕ) (z z′ : State) (x : Result) (v : ℕ) (c : ValueCall s part more room z z′ x v) →
     ValueAsLent s part more room z z′ x v c
 value-as-lent part more room z z′ x v c =
-    let k = written-first (c .answered) in
-    let o = ap (λ (y : Result). y .output) (c .result) in
-    k .1 ∙ ap₂ (λ (l : List ℕ) (n : ℕ). l ++ drop n (c .lent)) (sym o) (k .0 ∙ ap length (sym o))
+    let k = written-are (c .answered) (x .output) (sym (ap (λ (y : Result). y .output) (c .result))) in
+    record { is-written = k .0; left = k .1 }
 
 -- a call whose state is bytes is one with the state that they are
 bytes-value : {s part : List ℕ} {more : Bool} {room : ℕ} {b b′ : List ℕ} {x : Result} {v : ℕ} → length b ≡ stateWidth → BytesCall s part more room b b′ x v →
@@ -81,7 +89,8 @@ pub bytes-as-lent : {s : List ℕ} (part : List ℕ) (more : Bool) (room : ℕ) 
 bytes-as-lent part more room b b′ x v c =
     let k = bytes-first (c .answered) in
     let o = ap (λ (y : Result). y .output) (c .result) in
-    k .1 ∙ ap₂ (λ (l : List ℕ) (n : ℕ). l ++ drop n (c .lent)) (sym o) (k .0 ∙ ap length (sym o))
+    let n : c .counts .written ≡ length (x .output) = k .0 ∙ ap length (sym o) in
+    record { is-written = n; left = k .1 ∙ ap₂ (λ (l : List ℕ) (n : ℕ). l ++ drop n (c .lent)) (sym o) n }
 
 module _ {s : List ℕ} {a : Sheet} (i : IsSheet s a) (ok : Passed a) where
   abbrev Good : List ℕ → Type 0
@@ -108,12 +117,11 @@ module _ {s : List ℕ} {a : Sheet} (i : IsSheet s a) (ok : Passed a) where
   converted part lent after r w v x f =
       let e = is-accepted w v x f in
       let o : take (r .written) after ≡ render (v .out) = ap (λ (y : Result). y .output) e in
-      let k = written-first w in
-      let n : r .written ≡ length (render (v .out)) = k .0 ∙ ap length o in
+      let k = written-are w (render (v .out)) o in
       record {
         taken = ap (λ (y : Result). y .taken) e;
-        written = n;
-        left = k .1 ∙ ap₂ (λ (l : List ℕ) (m : ℕ). l ++ drop m lent) o n;
+        written = k .0;
+        left = k .1;
         visits = visits-held w ∙ ap (λ (y : Result). y .held .run .store .env .count) e;
       }
 
@@ -138,9 +146,9 @@ module _ {s : List ℕ} {a : Sheet} (i : IsSheet s a) (ok : Passed a) where
 
   -- so a stream from the fresh state, fed in whatever parts and rooms, is answered with 0 in the end exactly when it is accepted and its output has room
   -- in all that is lent; and then all is as the tree says
-  fed-fresh : {whole : List ℕ} {room : ℕ} {x : Result} {v : ℕ} → Feeds (ValueCall s) false whole room freshState x v → Feeds (CallOf a) false whole room fresh-held x v
-  fed-fresh {whole} {room} {x} {v} d =
-      subst (λ (h : Held). Feeds (CallOf a) false whole room h x v) held-fresh (feeds-value (fresh-fit (grammar a) (a .start-nonterminal)) d)
+  pub fed-fresh : {more : Bool} {whole : List ℕ} {room : ℕ} {x : Result} {v : ℕ} → Feeds (ValueCall s) more whole room freshState x v → Feeds (CallOf a) more whole room fresh-held x v
+  fed-fresh {more} {whole} {room} {x} {v} d =
+      subst (λ (h : Held). Feeds (CallOf a) more whole room h x v) held-fresh (feeds-value (fresh-fit (grammar a) (a .start-nonterminal)) d)
 
   pub fed-converted : FedConverts s a
   fed-converted whole room x v d e y f = (of-calls.fed-converted ok (fed-fresh d) e y f, each-call (ValueAsLent s) value-as-lent d)
@@ -155,11 +163,11 @@ module _ {s : List ℕ} {a : Sheet} (i : IsSheet s a) (ok : Passed a) where
       let k = value-call part more room (stateFrom b) (stateFrom b′) x v (g .1) (bytes-value (g .0) c) in
       (k .0, (bytes-state (g .0) (c .answered), k .1))
 
-  bytes-fresh : {whole : List ℕ} {room : ℕ} {x : Result} {v : ℕ} → Feeds (BytesCall s) false whole room (bytesOf freshState) x v →
-      Feeds (CallOf a) false whole room fresh-held x v
-  bytes-fresh {whole} {room} {x} {v} d =
+  pub bytes-fresh : {more : Bool} {whole : List ℕ} {room : ℕ} {x : Result} {v : ℕ} → Feeds (BytesCall s) more whole room (bytesOf freshState) x v →
+      Feeds (CallOf a) more whole room fresh-held x v
+  bytes-fresh {more} {whole} {room} {x} {v} d =
       let e = state-back freshState fresh-sized in
-      subst (λ (h : Held). Feeds (CallOf a) false whole room h x v) (ap heldOf e ∙ held-fresh)
+      subst (λ (h : Held). Feeds (CallOf a) more whole room h x v) (ap heldOf e ∙ held-fresh)
       (feeds-held a (λ (b : List ℕ). heldOf (stateFrom b)) Good bytes-call (fresh-wide, subst (FitsSheet a) (sym e) (fresh-fit (grammar a) (a .start-nonterminal))) d)
 
   pub bytes-fed-converted : BytesFedConverts s a
@@ -167,10 +175,6 @@ module _ {s : List ℕ} {a : Sheet} (i : IsSheet s a) (ok : Passed a) where
 
   pub bytes-fed-accepted : BytesFedAccepts s a
   bytes-fed-accepted whole room x v d = of-calls.fed-accepted ok (bytes-fresh d)
-
-  same-visits : (whole : List ℕ) (x y : Result) → SameAnswer whole x y → x .held .run .store .env .count ≡ y .held .run .store .env .count
-  same-visits whole x y (inl q) = ap (λ (r : Result). r .held .run .store .env .count) (sym q)
-  same-visits whole x y (inr c) = ap (λ (r : Result). r .held .run .store .env .count) (sym (c .is))
 
   -- a stream in parts gives what one call gives, but for a reference by number that a part has cut off
   pub parts-as-one : PartsAsOne s a

@@ -45,12 +45,13 @@ pub record BytesCall (s part : List ℕ) (more : Bool) (room : ℕ) (b b′ : Li
   pub result : x ≡ resultIn after b′ counts
   pub visits : v ≡ counts .visits
 
--- the output stands first in the memory that was lent, and every byte past it is as lent
-abbrev pub AsLent : List ℕ → List ℕ → Result → Type 0
-AsLent lent after x = after ≡ x .output ++ drop (length (x .output)) lent
+-- as many bytes are written as the output has; it stands first in the memory that was lent, and every byte past it is as lent
+pub record AsLent (lent after : List ℕ) (written : ℕ) (x : Result) : Type 0 where
+  pub is-written : written ≡ length (x .output)
+  pub left : after ≡ x .output ++ drop (length (x .output)) lent
 
 abbrev pub ValueAsLent : (s part : List ℕ) (more : Bool) (room : ℕ) (z z′ : State) (x : Result) (v : ℕ) → ValueCall s part more room z z′ x v → Type 0
-ValueAsLent s part more room z z′ x v c = AsLent (c .lent) (c .after) x
+ValueAsLent s part more room z z′ x v c = AsLent (c .lent) (c .after) (c .reply .written) x
 
 abbrev pub BytesAsLent : (s part : List ℕ) (more : Bool) (room : ℕ) (b b′ : List ℕ) (x : Result) (v : ℕ) → BytesCall s part more room b b′ x v → Type 0
-BytesAsLent s part more room b b′ x v c = AsLent (c .lent) (c .after) x
+BytesAsLent s part more room b b′ x v c = AsLent (c .lent) (c .after) (c .counts .written) x
