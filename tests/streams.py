@@ -1281,6 +1281,13 @@ def drawn():
     end_group('drawn')
 
 
+def grouped():
+    heading('grouped: a union grouped in two ways')
+    for text, visits in (('(n1|n2)|n3', 8), ('n1|(n2|n3)', 10)):
+        case('%s, the third of the three' % text, Sheet(['r', 'a', 'b', 'c'], [(0, 0, text), (1, 1, ''), (2, 2, ''), (3, 3, '')]), '<r><c/></r>', 0, '', visits)
+    end_group('grouped')
+
+
 # ---------------------------------------------------------------------------------------------------------------------
 
 ABOUT = '''# The calls of cases.txt
@@ -1291,7 +1298,7 @@ and the last, the number answered (by the last), what it is.'''
 
 def files():
     """The three files: where each goes, and its text."""
-    for group in (worked, slips, limits, order, blanks, lines, parts, rooms, ends, closed, states, damaged, drawn):
+    for group in (worked, slips, limits, order, blanks, lines, parts, rooms, ends, closed, states, damaged, drawn, grouped):
         group()
     assert all(COUNTS.get(n, 0) >= 2 for n in [*range(10), 16, 17, *range(20, 31)])
     OUTPUT.append('%d calls in all\n' % GROUP[1])
