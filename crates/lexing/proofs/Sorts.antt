@@ -273,7 +273,7 @@ module _ (x a b : List ℕ) (k : ℕ) (c : Common x a k) (l : length a ≤ k) wh
       begun = λ i. record { spelling = a ++ (97 ∷ b); number = 1; rest = 97 ∷ b; is = plain-tag a b; are = ap (λ z. z ++ 97 ∷ b) (sym (ap (λ n. take n x) long-a ∙ ap (take (length a)) are-a ∙ take-at a (drop k x) (length a) refl)) };
       no-further = λ i s. further i (s .is .name) (s .rest) (s .is .named .a-name) (sym (s .are) ∙ s .is .spelled);
       no-whole = λ n m s. no-first (s .is .name) (b ++ s .rest) (s .is .named .a-name)
-      (behind-a (s .is .name) (b ++ s .rest) (s .are ∙ ap (λ z. z ++ s .rest) (s .is .spelled) ∙ append-assoc a (s .is .name ++ b) (s .rest) ∙ ap (λ z. a ++ z) (append-assoc (s .is .name) b (s .rest))));
+          (behind-a (s .is .name) (b ++ s .rest) (s .are ∙ ap (λ z. z ++ s .rest) (s .is .spelled) ∙ append-assoc a (s .is .name ++ b) (s .rest) ∙ ap (λ z. a ++ z) (append-assoc (s .is .name) b (s .rest))));
     })
       where
         further : k < length x → (name u : List ℕ) → Name name → take (suc k) x ++ u ≡ a ++ (name ++ b) → ⊥

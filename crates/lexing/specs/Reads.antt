@@ -1,11 +1,14 @@
 -- What is read of bytes that may begin with one of some spellings: a whole one with its number, or how many bytes begin one. Assumes nothing.
 use mathlib.Core.Path.{_≡_}
-use mathlib.Core.Bool.{Bool, true, false}
+use mathlib.Core.Bool.{Bool, true, false, cond, _||_}
 use mathlib.Core.List.{List, [], _∷_, _++_}
 use Prim.Native.Nat.{ℕ, zero, suc, _≤_, _<_}
+use lib.Dec.{ltb, eqb}
 use lib.ListN.{length, take, getD}
 use Rattle.text.specs.Names.{nameFirst, nameByte, Name}
-use Rattle.notation.specs.Tokens.{decimal, TagName}
+use Rattle.text.specs.Chars.{Char, utf8}
+use Rattle.text.specs.Characters.{utf8s}
+use Rattle.notation.specs.Tokens.{decimal, in-quotes, all-in-quotes, TagName, StringOf}
 use Rattle.notation.specs.Spelled.{wordByte}
 use Rattle.lexing.specs.declared.Tried.{Tried}
 
@@ -84,3 +87,33 @@ pub record TagSpelling (a b v : List ℕ) (n : ℕ) : Type 0 where
   pub named : TagName name
   pub long : n ≡ length name
   pub spelled : v ≡ a ++ (name ++ b)
+
+-- a character as itself; its number is its length
+pub record CharSpelling (v : List ℕ) (n : ℕ) : Type 0 where
+  pub character : ℕ
+  pub is-char : Char character
+  pub spelled : v ≡ utf8 character
+  pub long : n ≡ length (utf8 character)
+
+-- how many bytes a character has, by its first
+abbrev pub widthOf : ℕ → ℕ
+widthOf a = cond (ltb a 128) 1 (cond (ltb a 224) 2 (cond (ltb a 240) 3 4))
+
+-- the bytes that stand for a character behind a \: " \ t n r
+abbrev pub escapeByte : ℕ → Bool
+escapeByte b = eqb b 34 || (eqb b 92 || (eqb b 116 || (eqb b 110 || eqb b 114)))
+
+-- a character of a string as it is written, of at most so many bytes by itself
+pub record PieceSpelling (room : ℕ) (v : List ℕ) (n : ℕ) : Type 0 where
+  pub character : ℕ
+  pub is-char : Char character
+  pub fits : length (utf8 character) ≤ room
+  pub spelled : v ≡ in-quotes character
+  pub long : n ≡ length (utf8 character)
+
+-- a string; its number is how many bytes it has without its escapes
+pub record StringSpelling (v : List ℕ) (n : ℕ) : Type 0 where
+  pub characters : List ℕ
+  pub are-string : StringOf characters
+  pub spelled : v ≡ 34 ∷ (all-in-quotes characters ++ 34 ∷ [])
+  pub long : n ≡ length (utf8s characters)

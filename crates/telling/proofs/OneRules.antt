@@ -18,11 +18,12 @@ use Rattle.notation.specs.RuleText.{RuleText}
 use Rattle.reading.specs.Machine.{andThen, walk}
 use Rattle.reading.specs.Rules.{Progress, beginning, stepRules, rules}
 use Rattle.telling.specs.Promises.{OneRules}
+use Rattle.notation.proofs.Strings.{same-string}
 use Rattle.reading.proofs.Telling.{none≢some, cases, writes-one}
 use Rattle.reading.proofs.Rules.{reads-rules}
 use Rattle.telling.proofs.Acceptable.{Proper, Fine, taken-is-fine, WantsTag, name-wants-tag, tag-place}
 use Rattle.telling.proofs.Bytes.{OpenTail, InGap, ending-was}
-use Rattle.telling.proofs.Lexical.{Stops, stops-of, same-name, same-string, lexed, View, a-name, a-string, lexical, view, Solid, solid}
+use Rattle.telling.proofs.Lexical.{Stops, stops-of, same-name, lexed, View, a-name, a-string, lexical, view, Solid, solid}
 
 pub clash : {A : Type 0} → _≡_ {A = Bool} true false → A
 clash e = absurd (let z : _≡_ {A = ℕ} 0 1 = cc in omega arith)

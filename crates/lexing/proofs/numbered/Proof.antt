@@ -60,9 +60,11 @@ loop-less c = omega arith
 -- src/lib.rt:99:5
 loop-again : tie.Need-loop-again Inv-loop μ-loop
 loop-again c =
-    let a = c .before .before .before .before .before .before .before .before .before .args in
-    (omega arith, subst (Halts (Numbered (a .a .now) _) (stopsAt true) (a .x .now)) (sym (c .larger .ensures)) (numbers-more (a .a .now) (a .x .now) (c .before .before .before .before .before .before .loop .n) (c .before .before .before .before .before .before .loop .best) _ (c .before .before .before .before .before .before .loop .inv .1)
-    (read-as (OneSpelling (a .a .now ++ decimal (c .before .before .before .before .before .before .loop .n)) (c .before .before .before .before .before .before .loop .n)) (stopsAt true) (a .x .now) (c .before .before .before .before .one-number .result) (Tried.Stuck _) (c .before .before .k .given .1) (c .before .before .before .before .one-number .ensures))))
+    let a = c .before .before .before .before .before .before .before .before .before .args in (
+      omega arith,
+      subst (Halts (Numbered (a .a .now) _) (stopsAt true) (a .x .now)) (sym (c .larger .ensures)) (numbers-more (a .a .now) (a .x .now) (c .before .before .before .before .before .before .loop .n) (c .before .before .before .before .before .before .loop .best) _ (c .before .before .before .before .before .before .loop .inv .1)
+          (read-as (OneSpelling (a .a .now ++ decimal (c .before .before .before .before .before .before .loop .n)) (c .before .before .before .before .before .before .loop .n)) (stopsAt true) (a .x .now) (c .before .before .before .before .one-number .result) (Tried.Stuck _) (c .before .before .k .given .1) (c .before .before .before .before .one-number .ensures))),
+    )
 
 -- src/lib.rt:93:1
 returns-2 : tie.Need-returns-2 Inv-loop μ-loop
