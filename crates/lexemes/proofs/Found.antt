@@ -1,0 +1,521 @@
+-- Each kind of token is read by its sort of spellings, and a token of some kinds is found kind by kind. Assumes nothing.
+use mathlib.Core.Path.{_≡_, refl, sym, _∙_, ap, subst}
+use mathlib.Core.Logic.{_⊎_, inl, inr}
+use mathlib.Core.Bool.{Bool, true, false}
+use mathlib.Core.List.{List, [], _∷_, _++_, append-assoc, append-nil}
+use Prim.Native.Nat.{ℕ, zero, suc, _+_, _-_, _≤_, _<_, max}
+use native.Mathlib.Omega.{arith}
+use native.Mathlib.Decide.{decLe, ℕ-discrete}
+use lib.ListN.{length, take, drop, getD, take-append-drop}
+use lib.Seq.{take-take}
+use Rattle.text.specs.Names.{nameByte}
+use Rattle.notation.specs.Tokens.{Mark, plain, left, right, Token, nonterminal, value, attribute, name, start-tag, end-tag, empty-tag, string, word, Word, CHAR, ECHO, ECHO-OFF, REJECT, PRINT, IF, THEN, ELSE, BEGIN, END, AND, OR, NOT, sign, Sign, DEFINED, ASSIGNED, OPEN, CLOSE, BRACE, UNBRACE, DOT, BAR, STAR, SEMICOLON, EQUALS, decimal, all-in-quotes, bytesOf, TagName}
+use Rattle.notation.specs.Spelled.{wordByte, joins, MayFollow}
+use Rattle.lexing.specs.declared.Tried.{Tried}
+use Rattle.lexemes.specs.declared.Lexeme.{Lexeme}
+use Rattle.lexing.specs.Front.{Whole, Begins, Stuck}
+use Rattle.lexing.specs.Reads.{Stops, stopsAt, nothing, Spelt, Starts, Halts, ReadIs, whole, halts, OneSpelling, Numbered, NameSpelling, TagSpelling, StringSpelling}
+use Rattle.lexemes.specs.Kinds.{kinds, markNumber, wordNumber, signNumber, kindOf, numberOf, Fit, OfKind, Only, Allowed, TriedIs, a-token, no-token, Lexed}
+
+-- a sort of spellings is that of some tokens
+record SortOf (May : Token → Type 0) (L : List ℕ → ℕ → Type 0) (j : ℕ → Bool) : Type 0 where
+  spelled : (t : Token) → May t → L (bytesOf t) (numberOf t)
+  joined : (t : Token) → May t → (b : ℕ) → joins t b ≡ j b
+  token : (w : List ℕ) (n : ℕ) → L w n → (t : Token) × May t × (bytesOf t ≡ w) × (numberOf t ≡ n)
+
+module _ (May : Token → Type 0) (L : List ℕ → ℕ → Type 0) (j : ℕ → Bool) (sort : SortOf May L j) (x : List ℕ) where
+  follow-stops : (t : Token) → May t → (r : List ℕ) → MayFollow t r → Stops j r
+  follow-stops t m [] h = tt
+  follow-stops t m (b ∷ r) h = sym (sort .joined t m b) ∙ h
+
+  stops-follow : (t : Token) → May t → (r : List ℕ) → Stops j r → MayFollow t r
+  stops-follow t m [] h = tt
+  stops-follow t m (b ∷ r) h = sort .joined t m b ∙ h
+
+  starts-begins : (y : List ℕ) → Starts L y → Begins May y
+  starts-begins y s = let t = sort .token (s .spelling) (s .number) (s .is) in record { token = t .0; may = t .1; rest = s .rest; are = t .2 ∙ s .are }
+
+  begins-starts : (y : List ℕ) → Begins May y → Starts L y
+  begins-starts y s = record { spelling = bytesOf (s .token); number = numberOf (s .token); rest = s .rest; is = sort .spelled (s .token) (s .may); are = s .are }
+
+  read-token : (r : Tried) → ReadIs L j x r → TriedIs May x r
+  read-token (Tried.Whole n k) (whole s) =
+      let t = sort .token (s .spelling) n (s .is) in
+      a-token {n = n} {k = k} (t .0) (record { may = t .1; rest = s .rest; are = s .are ∙ ap (λ z. z ++ s .rest) (sym (t .2)); follows = stops-follow (t .0) (t .1) (s .rest) (s .stops) }) (sym (t .3)) (s .long ∙ ap length (sym (t .2)))
+  read-token (Tried.Stuck k) (halts h) = no-token {k = k} (record {
+    reached = h .reached;
+    begun = λ i. starts-begins (take k x) (h .begun i);
+    no-further = λ i s. h .no-further i (begins-starts (take (suc k) x) s);
+    no-token = λ t w. h .no-whole (numberOf t) (length (bytesOf t)) (record { spelling = bytesOf t; rest = w .rest; is = sort .spelled t (w .may); are = w .are; long = refl; stops = follow-stops t (w .may) (w .rest) (w .follows) });
+  })
+
+-- numbers of kinds
+mark-range : (m : Mark) → (2 ≤ markNumber m) × (markNumber m ≤ 4)
+mark-range plain = (omega arith, omega arith)
+mark-range left = (omega arith, omega arith)
+mark-range right = (omega arith, omega arith)
+
+word-range : (w : Word) → (10 ≤ wordNumber w) × (wordNumber w ≤ 22)
+word-range CHAR = (omega arith, omega arith)
+word-range ECHO = (omega arith, omega arith)
+word-range ECHO-OFF = (omega arith, omega arith)
+word-range REJECT = (omega arith, omega arith)
+word-range PRINT = (omega arith, omega arith)
+word-range IF = (omega arith, omega arith)
+word-range THEN = (omega arith, omega arith)
+word-range ELSE = (omega arith, omega arith)
+word-range BEGIN = (omega arith, omega arith)
+word-range END = (omega arith, omega arith)
+word-range AND = (omega arith, omega arith)
+word-range OR = (omega arith, omega arith)
+word-range NOT = (omega arith, omega arith)
+
+sign-range : (s : Sign) → (23 ≤ signNumber s) × (signNumber s ≤ 33)
+sign-range DEFINED = (omega arith, omega arith)
+sign-range ASSIGNED = (omega arith, omega arith)
+sign-range OPEN = (omega arith, omega arith)
+sign-range CLOSE = (omega arith, omega arith)
+sign-range BRACE = (omega arith, omega arith)
+sign-range UNBRACE = (omega arith, omega arith)
+sign-range DOT = (omega arith, omega arith)
+sign-range BAR = (omega arith, omega arith)
+sign-range STAR = (omega arith, omega arith)
+sign-range SEMICOLON = (omega arith, omega arith)
+sign-range EQUALS = (omega arith, omega arith)
+
+pub kind-below : (t : Token) → kindOf t < kinds
+kind-below (nonterminal n) = omega arith
+kind-below (value v) = omega arith
+kind-below (attribute m a) = omega (arith, mark-range m .1)
+kind-below (name n) = omega arith
+kind-below (start-tag n) = omega arith
+kind-below (end-tag n) = omega arith
+kind-below (empty-tag n) = omega arith
+kind-below (string cs) = omega arith
+kind-below (word w) = omega (arith, word-range w .1)
+kind-below (sign s) = omega (arith, sign-range s .1)
+
+one-mark : (m l : Mark) → markNumber m ≡ markNumber l → m ≡ l
+one-mark plain plain e = refl
+one-mark plain left e = absurd (omega arith)
+one-mark plain right e = absurd (omega arith)
+one-mark left plain e = absurd (omega arith)
+one-mark left left e = refl
+one-mark left right e = absurd (omega arith)
+one-mark right plain e = absurd (omega arith)
+one-mark right left e = absurd (omega arith)
+one-mark right right e = refl
+
+-- a word, a sign by its number
+abbrev wordFrom : List Word → Word → ℕ → Word
+wordFrom [] v n = v
+wordFrom (w ∷ ws) v zero = w
+wordFrom (w ∷ ws) v (suc n) = wordFrom ws v n
+
+abbrev signFrom : List Sign → Sign → ℕ → Sign
+signFrom [] v n = v
+signFrom (w ∷ ws) v zero = w
+signFrom (w ∷ ws) v (suc n) = signFrom ws v n
+
+wordAt : ℕ → Word
+wordAt n = wordFrom (CHAR ∷ ECHO ∷ ECHO-OFF ∷ REJECT ∷ PRINT ∷ IF ∷ THEN ∷ ELSE ∷ BEGIN ∷ END ∷ AND ∷ OR ∷ NOT ∷ []) NOT (n - 10)
+
+signAt : ℕ → Sign
+signAt n = signFrom (DEFINED ∷ ASSIGNED ∷ OPEN ∷ CLOSE ∷ BRACE ∷ UNBRACE ∷ DOT ∷ BAR ∷ STAR ∷ SEMICOLON ∷ EQUALS ∷ []) EQUALS (n - 23)
+
+word-at : (w : Word) → wordAt (wordNumber w) ≡ w
+unfolding wordAt
+word-at CHAR = refl
+word-at ECHO = refl
+word-at ECHO-OFF = refl
+word-at REJECT = refl
+word-at PRINT = refl
+word-at IF = refl
+word-at THEN = refl
+word-at ELSE = refl
+word-at BEGIN = refl
+word-at END = refl
+word-at AND = refl
+word-at OR = refl
+word-at NOT = refl
+
+sign-at : (s : Sign) → signAt (signNumber s) ≡ s
+unfolding signAt
+sign-at DEFINED = refl
+sign-at ASSIGNED = refl
+sign-at OPEN = refl
+sign-at CLOSE = refl
+sign-at BRACE = refl
+sign-at UNBRACE = refl
+sign-at DOT = refl
+sign-at BAR = refl
+sign-at STAR = refl
+sign-at SEMICOLON = refl
+sign-at EQUALS = refl
+
+one-word : (w v : Word) → wordNumber w ≡ wordNumber v → w ≡ v
+one-word w v e = sym (word-at w) ∙ ap wordAt e ∙ word-at v
+
+one-sign : (s u : Sign) → signNumber s ≡ signNumber u → s ≡ u
+one-sign s u e = sym (sign-at s) ∙ ap signAt e ∙ sign-at u
+
+-- the only token of a word's kind, of a sign's kind
+word-only : (z : Word) (t : Token) → OfKind (wordNumber z) t → t ≡ word z
+word-only z (nonterminal n) h = absurd (omega (arith, h .kind, word-range z))
+word-only z (value v) h = absurd (omega (arith, h .kind, word-range z))
+word-only z (attribute m a) h = absurd (omega (arith, h .kind, mark-range m, word-range z))
+word-only z (name n) h = absurd (omega (arith, h .kind, word-range z))
+word-only z (start-tag n) h = absurd (omega (arith, h .kind, word-range z))
+word-only z (end-tag n) h = absurd (omega (arith, h .kind, word-range z))
+word-only z (empty-tag n) h = absurd (omega (arith, h .kind, word-range z))
+word-only z (string cs) h = absurd (omega (arith, h .kind, word-range z))
+word-only z (word w) h = ap word (one-word w z (h .kind))
+word-only z (sign s) h = absurd (omega (arith, h .kind, sign-range s, word-range z))
+
+sign-only : (u : Sign) (t : Token) → OfKind (signNumber u) t → t ≡ sign u
+sign-only u (nonterminal n) h = absurd (omega (arith, h .kind, sign-range u))
+sign-only u (value v) h = absurd (omega (arith, h .kind, sign-range u))
+sign-only u (attribute m a) h = absurd (omega (arith, h .kind, mark-range m, sign-range u))
+sign-only u (name n) h = absurd (omega (arith, h .kind, sign-range u))
+sign-only u (start-tag n) h = absurd (omega (arith, h .kind, sign-range u))
+sign-only u (end-tag n) h = absurd (omega (arith, h .kind, sign-range u))
+sign-only u (empty-tag n) h = absurd (omega (arith, h .kind, sign-range u))
+sign-only u (string cs) h = absurd (omega (arith, h .kind, sign-range u))
+sign-only u (word w) h = absurd (omega (arith, h .kind, word-range w, sign-range u))
+sign-only u (sign s) h = ap sign (one-sign s u (h .kind))
+
+word-sort : (v : Word) → SortOf (OfKind (wordNumber v)) (OneSpelling (bytesOf (word v) ++ []) 0) (stopsAt true)
+word-sort v = record {
+  spelled = λ t m. let e = word-only v t m in record { spelled = ap bytesOf e ∙ sym (append-nil (bytesOf (word v))); numbered = ap numberOf e };
+  joined = λ t m b. ap (λ z. joins z b) (word-only v t m);
+  token = λ w n l. (word v, record { kind = refl; fit = tt }, sym (append-nil (bytesOf (word v))) ∙ sym (l .spelled), sym (l .numbered));
+}
+
+sign-sort : (u : Sign) → SortOf (OfKind (signNumber u)) (OneSpelling (bytesOf (sign u) ++ []) 0) (stopsAt false)
+sign-sort u = record {
+  spelled = λ t m. let e = sign-only u t m in record { spelled = ap bytesOf e ∙ sym (append-nil (bytesOf (sign u))); numbered = ap numberOf e };
+  joined = λ t m b. ap (λ z. joins z b) (sign-only u t m);
+  token = λ w n l. (sign u, record { kind = refl; fit = tt }, sym (append-nil (bytesOf (sign u))) ∙ sym (l .spelled), sym (l .numbered));
+}
+
+pub word-read : (v : Word) (k : ℕ) (x : List ℕ) (r : Tried) → k ≡ wordNumber v → ReadIs (OneSpelling (bytesOf (word v) ++ []) 0) (stopsAt true) x r → TriedIs (OfKind k) x r
+word-read v k x r e h = subst (λ z. TriedIs (OfKind z) x r) (sym e) (read-token (OfKind (wordNumber v)) (OneSpelling (bytesOf (word v) ++ []) 0) (stopsAt true) (word-sort v) x r h)
+
+pub sign-read : (u : Sign) (k : ℕ) (x : List ℕ) (r : Tried) → k ≡ signNumber u → ReadIs (OneSpelling (bytesOf (sign u) ++ []) 0) (stopsAt false) x r → TriedIs (OfKind k) x r
+sign-read u k x r e h = subst (λ z. TriedIs (OfKind z) x r) (sym e) (read-token (OfKind (signNumber u)) (OneSpelling (bytesOf (sign u) ++ []) 0) (stopsAt false) (sign-sort u) x r h)
+
+-- the tokens of each other kind
+abbrev As : (ℕ → Token) → (ℕ → Type 0) → Token → Type 0
+As make Good t = (n : ℕ) × Good n × (t ≡ make n)
+
+abbrev Named : (List ℕ → Token) → Token → Type 0
+Named make t = (n : List ℕ) × Fit (make n) × (t ≡ make n)
+
+nonterminal-only : (t : Token) → OfKind 0 t → As nonterminal (λ n. n < 64) t
+nonterminal-only (nonterminal n) h = (n, h .fit, refl)
+nonterminal-only (value v) h = absurd (omega (arith, h .kind))
+nonterminal-only (attribute m a) h = absurd (omega (arith, h .kind, mark-range m))
+nonterminal-only (name n) h = absurd (omega (arith, h .kind))
+nonterminal-only (start-tag n) h = absurd (omega (arith, h .kind))
+nonterminal-only (end-tag n) h = absurd (omega (arith, h .kind))
+nonterminal-only (empty-tag n) h = absurd (omega (arith, h .kind))
+nonterminal-only (string cs) h = absurd (omega (arith, h .kind))
+nonterminal-only (word w) h = absurd (omega (arith, h .kind, word-range w))
+nonterminal-only (sign s) h = absurd (omega (arith, h .kind, sign-range s))
+
+value-only : (t : Token) → OfKind 1 t → As value (λ n. n < 16) t
+value-only (nonterminal n) h = absurd (omega (arith, h .kind))
+value-only (value v) h = (v, h .fit, refl)
+value-only (attribute m a) h = absurd (omega (arith, h .kind, mark-range m))
+value-only (name n) h = absurd (omega (arith, h .kind))
+value-only (start-tag n) h = absurd (omega (arith, h .kind))
+value-only (end-tag n) h = absurd (omega (arith, h .kind))
+value-only (empty-tag n) h = absurd (omega (arith, h .kind))
+value-only (string cs) h = absurd (omega (arith, h .kind))
+value-only (word w) h = absurd (omega (arith, h .kind, word-range w))
+value-only (sign s) h = absurd (omega (arith, h .kind, sign-range s))
+
+attribute-only : (l : Mark) (t : Token) → OfKind (markNumber l) t → As (attribute l) (λ n. n < 4) t
+attribute-only l (nonterminal n) h = absurd (omega (arith, h .kind, mark-range l))
+attribute-only l (value v) h = absurd (omega (arith, h .kind, mark-range l))
+attribute-only l (attribute m a) h = (a, h .fit, ap (λ z. attribute z a) (one-mark m l (h .kind)))
+attribute-only l (name n) h = absurd (omega (arith, h .kind, mark-range l))
+attribute-only l (start-tag n) h = absurd (omega (arith, h .kind, mark-range l))
+attribute-only l (end-tag n) h = absurd (omega (arith, h .kind, mark-range l))
+attribute-only l (empty-tag n) h = absurd (omega (arith, h .kind, mark-range l))
+attribute-only l (string cs) h = absurd (omega (arith, h .kind, mark-range l))
+attribute-only l (word w) h = absurd (omega (arith, h .kind, word-range w, mark-range l))
+attribute-only l (sign s) h = absurd (omega (arith, h .kind, sign-range s, mark-range l))
+
+name-only : (t : Token) → OfKind 5 t → Named name t
+name-only (nonterminal n) h = absurd (omega (arith, h .kind))
+name-only (value v) h = absurd (omega (arith, h .kind))
+name-only (attribute m a) h = absurd (omega (arith, h .kind, mark-range m))
+name-only (name n) h = (n, h .fit, refl)
+name-only (start-tag n) h = absurd (omega (arith, h .kind))
+name-only (end-tag n) h = absurd (omega (arith, h .kind))
+name-only (empty-tag n) h = absurd (omega (arith, h .kind))
+name-only (string cs) h = absurd (omega (arith, h .kind))
+name-only (word w) h = absurd (omega (arith, h .kind, word-range w))
+name-only (sign s) h = absurd (omega (arith, h .kind, sign-range s))
+
+start-only : (t : Token) → OfKind 6 t → Named start-tag t
+start-only (nonterminal n) h = absurd (omega (arith, h .kind))
+start-only (value v) h = absurd (omega (arith, h .kind))
+start-only (attribute m a) h = absurd (omega (arith, h .kind, mark-range m))
+start-only (name n) h = absurd (omega (arith, h .kind))
+start-only (start-tag n) h = (n, h .fit, refl)
+start-only (end-tag n) h = absurd (omega (arith, h .kind))
+start-only (empty-tag n) h = absurd (omega (arith, h .kind))
+start-only (string cs) h = absurd (omega (arith, h .kind))
+start-only (word w) h = absurd (omega (arith, h .kind, word-range w))
+start-only (sign s) h = absurd (omega (arith, h .kind, sign-range s))
+
+end-only : (t : Token) → OfKind 7 t → Named end-tag t
+end-only (nonterminal n) h = absurd (omega (arith, h .kind))
+end-only (value v) h = absurd (omega (arith, h .kind))
+end-only (attribute m a) h = absurd (omega (arith, h .kind, mark-range m))
+end-only (name n) h = absurd (omega (arith, h .kind))
+end-only (start-tag n) h = absurd (omega (arith, h .kind))
+end-only (end-tag n) h = (n, h .fit, refl)
+end-only (empty-tag n) h = absurd (omega (arith, h .kind))
+end-only (string cs) h = absurd (omega (arith, h .kind))
+end-only (word w) h = absurd (omega (arith, h .kind, word-range w))
+end-only (sign s) h = absurd (omega (arith, h .kind, sign-range s))
+
+empty-only : (t : Token) → OfKind 8 t → Named empty-tag t
+empty-only (nonterminal n) h = absurd (omega (arith, h .kind))
+empty-only (value v) h = absurd (omega (arith, h .kind))
+empty-only (attribute m a) h = absurd (omega (arith, h .kind, mark-range m))
+empty-only (name n) h = absurd (omega (arith, h .kind))
+empty-only (start-tag n) h = absurd (omega (arith, h .kind))
+empty-only (end-tag n) h = absurd (omega (arith, h .kind))
+empty-only (empty-tag n) h = (n, h .fit, refl)
+empty-only (string cs) h = absurd (omega (arith, h .kind))
+empty-only (word w) h = absurd (omega (arith, h .kind, word-range w))
+empty-only (sign s) h = absurd (omega (arith, h .kind, sign-range s))
+
+string-only : (t : Token) → OfKind 9 t → Named string t
+string-only (nonterminal n) h = absurd (omega (arith, h .kind))
+string-only (value v) h = absurd (omega (arith, h .kind))
+string-only (attribute m a) h = absurd (omega (arith, h .kind, mark-range m))
+string-only (name n) h = absurd (omega (arith, h .kind))
+string-only (start-tag n) h = absurd (omega (arith, h .kind))
+string-only (end-tag n) h = absurd (omega (arith, h .kind))
+string-only (empty-tag n) h = absurd (omega (arith, h .kind))
+string-only (string cs) h = (cs, h .fit, refl)
+string-only (word w) h = absurd (omega (arith, h .kind, word-range w))
+string-only (sign s) h = absurd (omega (arith, h .kind, sign-range s))
+
+-- tokens with a number behind some bytes
+number-sort : (k count : ℕ) (a : List ℕ) (make : ℕ → Token) → ((t : Token) → OfKind k t → As make (λ n. n < count) t) → ((n : ℕ) → n < count → OfKind k (make n)) → ((n : ℕ) → bytesOf (make n) ≡ a ++ decimal n) → ((n : ℕ) → numberOf (make n) ≡ n)
+    → ((n b : ℕ) → joins (make n) b ≡ wordByte b) → SortOf (OfKind k) (Numbered a count) (stopsAt true)
+number-sort k count a make only made bytes number join = record {
+  spelled = λ t m. let o = only t m in record { below = subst (λ z. z < count) (sym (ap numberOf (o .2) ∙ number (o .0))) (o .1); spelled = ap bytesOf (o .2) ∙ bytes (o .0) ∙ ap (λ z. a ++ decimal z) (sym (ap numberOf (o .2) ∙ number (o .0))) };
+  joined = λ t m b. let o = only t m in ap (λ z. joins z b) (o .2) ∙ join (o .0) b;
+  token = λ w n l. (make n, made n (l .below), bytes n ∙ sym (l .spelled), number n);
+}
+
+pub nonterminal-read : (k : ℕ) (x : List ℕ) (r : Tried) → k ≡ 0 → ReadIs (Numbered (110 ∷ []) 64) (stopsAt true) x r → TriedIs (OfKind k) x r
+nonterminal-read k x r e h = subst (λ z. TriedIs (OfKind z) x r) (sym e) (read-token (OfKind 0) (Numbered (110 ∷ []) 64) (stopsAt true)
+    (number-sort 0 64 (110 ∷ []) nonterminal nonterminal-only (λ n l. record { kind = refl; fit = l }) (λ n. refl) (λ n. refl) (λ n b. refl)) x r h)
+
+pub value-read : (k : ℕ) (x : List ℕ) (r : Tried) → k ≡ 1 → ReadIs (Numbered [] 16) (stopsAt true) x r → TriedIs (OfKind k) x r
+value-read k x r e h = subst (λ z. TriedIs (OfKind z) x r) (sym e) (read-token (OfKind 1) (Numbered [] 16) (stopsAt true)
+    (number-sort 1 16 [] value value-only (λ n l. record { kind = refl; fit = l }) (λ n. refl) (λ n. refl) (λ n b. refl)) x r h)
+
+pub attribute-read : (m : Mark) (a : List ℕ) (k : ℕ) (x : List ℕ) (r : Tried) → k ≡ markNumber m → ((n : ℕ) → bytesOf (attribute m n) ≡ a ++ decimal n) → ReadIs (Numbered a 4) (stopsAt true) x r → TriedIs (OfKind k) x r
+attribute-read m a k x r e bytes h = subst (λ z. TriedIs (OfKind z) x r) (sym e) (read-token (OfKind (markNumber m)) (Numbered a 4) (stopsAt true)
+    (number-sort (markNumber m) 4 a (attribute m) (attribute-only m) (λ n l. record { kind = refl; fit = l }) bytes (λ n. refl) (λ n b. refl)) x r h)
+
+pub name-read : (k : ℕ) (x : List ℕ) (r : Tried) → k ≡ 5 → ReadIs NameSpelling nameByte x r → TriedIs (OfKind k) x r
+name-read k x r e h = subst (λ z. TriedIs (OfKind z) x r) (sym e) (read-token (OfKind 5) NameSpelling nameByte (record {
+  spelled = λ t m. let o = name-only t m in record { named = subst (λ z. TagName (bytesOf z)) (sym (o .2)) (o .1); long = ap numberOf (o .2) ∙ sym (ap (λ z. length (bytesOf z)) (o .2)) };
+  joined = λ t m b. ap (λ z. joins z b) (name-only t m .2);
+  token = λ w n l. (name w, record { kind = refl; fit = l .named }, refl, sym (l .long));
+}) x r h)
+
+-- tags: a name between two rows of bytes
+tag-sort : (k : ℕ) (a b : List ℕ) (make : List ℕ → Token) → ((t : Token) → OfKind k t → Named make t) → ((n : List ℕ) → TagName n → OfKind k (make n)) → ((n : List ℕ) → Fit (make n) → TagName n) → ((n : List ℕ) → bytesOf (make n) ≡ a ++ (n ++ b))
+    → ((n : List ℕ) → numberOf (make n) ≡ length n) → ((n : List ℕ) (c : ℕ) → joins (make n) c ≡ false) → SortOf (OfKind k) (TagSpelling a b) nothing
+tag-sort k a b make only made fits bytes number join = record {
+  spelled = λ t m. let o = only t m in record { name = o .0; named = fits (o .0) (o .1); long = ap numberOf (o .2) ∙ number (o .0); spelled = ap bytesOf (o .2) ∙ bytes (o .0) };
+  joined = λ t m c. let o = only t m in ap (λ z. joins z c) (o .2) ∙ join (o .0) c;
+  token = λ w n l. (make (l .name), made (l .name) (l .named), bytes (l .name) ∙ sym (l .spelled), number (l .name) ∙ sym (l .long));
+}
+
+pub start-read : (k : ℕ) (x : List ℕ) (r : Tried) → k ≡ 6 → ReadIs (TagSpelling (60 ∷ []) (62 ∷ [])) nothing x r → TriedIs (OfKind k) x r
+start-read k x r e h = subst (λ z. TriedIs (OfKind z) x r) (sym e) (read-token (OfKind 6) (TagSpelling (60 ∷ []) (62 ∷ [])) nothing
+    (tag-sort 6 (60 ∷ []) (62 ∷ []) start-tag start-only (λ n t. record { kind = refl; fit = t }) (λ n t. t) (λ n. refl) (λ n. refl) (λ n c. refl)) x r h)
+
+pub end-read : (k : ℕ) (x : List ℕ) (r : Tried) → k ≡ 7 → ReadIs (TagSpelling (60 ∷ 47 ∷ []) (62 ∷ [])) nothing x r → TriedIs (OfKind k) x r
+end-read k x r e h = subst (λ z. TriedIs (OfKind z) x r) (sym e) (read-token (OfKind 7) (TagSpelling (60 ∷ 47 ∷ []) (62 ∷ [])) nothing
+    (tag-sort 7 (60 ∷ 47 ∷ []) (62 ∷ []) end-tag end-only (λ n t. record { kind = refl; fit = t }) (λ n t. t) (λ n. refl) (λ n. refl) (λ n c. refl)) x r h)
+
+pub empty-read : (k : ℕ) (x : List ℕ) (r : Tried) → k ≡ 8 → ReadIs (TagSpelling (60 ∷ []) (47 ∷ 62 ∷ [])) nothing x r → TriedIs (OfKind k) x r
+empty-read k x r e h = subst (λ z. TriedIs (OfKind z) x r) (sym e) (read-token (OfKind 8) (TagSpelling (60 ∷ []) (47 ∷ 62 ∷ [])) nothing
+    (tag-sort 8 (60 ∷ []) (47 ∷ 62 ∷ []) empty-tag empty-only (λ n t. record { kind = refl; fit = t }) (λ n t. t) (λ n. refl) (λ n. refl) (λ n c. refl)) x r h)
+
+pub string-read : (k : ℕ) (x : List ℕ) (r : Tried) → k ≡ 9 → ReadIs StringSpelling nothing x r → TriedIs (OfKind k) x r
+string-read k x r e h = subst (λ z. TriedIs (OfKind z) x r) (sym e) (read-token (OfKind 9) StringSpelling nothing (record {
+  spelled = λ t m. let o = string-only t m in record { characters = o .0; are-string = o .1; spelled = ap bytesOf (o .2); long = ap numberOf (o .2) };
+  joined = λ t m b. ap (λ z. joins z b) (string-only t m .2);
+  token = λ w n l. (string (l .characters), record { kind = refl; fit = l .are-string }, sym (l .spelled), sym (l .long));
+}) x r h)
+
+-- kinds that may stand here
+pub only-read : (m : Bool) (k : ℕ) (x : List ℕ) (r : Tried) → m ≡ true → TriedIs (OfKind k) x r → TriedIs (Only m (OfKind k)) x r
+only-read m k x r e h = subst (λ z. TriedIs (Only z (OfKind k)) x r) (sym e) h
+
+none-of : (May : Token → Type 0) (x : List ℕ) → ((t : Token) → May t → ⊥) → Stuck May x 0
+none-of May x f = record { reached = omega arith; begun = λ i. absurd (omega arith); no-further = λ i s. f (s .token) (s .may); no-token = λ t w. f t (w .may) }
+
+pub none-read : (m : Bool) (k : ℕ) (x : List ℕ) → m ≡ false → TriedIs (Only m (OfKind k)) x (Tried.Stuck 0)
+none-read m k x e = subst (λ z. TriedIs (Only z (OfKind k)) x (Tried.Stuck 0)) (sym e) (no-token (none-of (Only false (OfKind k)) x (λ t h. h)))
+
+-- the kinds below k that are marked
+pub record Below (may : List Bool) (k : ℕ) (t : Token) : Type 0 where
+  pub below : kindOf t < k
+  pub allowed : Allowed may t
+
+begins-less : (May : Token → Type 0) (x : List ℕ) (p q : ℕ) → p ≤ q → Begins May (take q x) → Begins May (take p x)
+begins-less May x p q h s = record {
+  token = s .token;
+  may = s .may;
+  rest = drop p (take q x) ++ s .rest;
+  are = s .are ∙ ap (λ z. z ++ s .rest) (sym (take-append-drop p (take q x)) ∙ ap (λ z. z ++ drop p (take q x)) (take-take p q x h)) ∙ append-assoc (take p x) (drop p (take q x)) (s .rest);
+}
+
+-- two sorts of tokens: the longer beginning counts
+module _ (L M N : Token → Type 0) (x : List ℕ) (split : (t : Token) → N t → L t ⊎ M t) (to-l : (t : Token) → L t → N t) (to-m : (t : Token) → M t → N t) where
+  begins-as : (A B : Token → Type 0) → ((t : Token) → A t → B t) → (y : List ℕ) → Begins A y → Begins B y
+  begins-as A B f y s = record { token = s .token; may = f (s .token) (s .may); rest = s .rest; are = s .are }
+
+  begins-split : (y : List ℕ) → Begins N y → Begins L y ⊎ Begins M y
+  begins-split y s = on (split (s .token) (s .may))
+    where
+      on : L (s .token) ⊎ M (s .token) → Begins L y ⊎ Begins M y
+      on (inl h) = inl (record { token = s .token; may = h; rest = s .rest; are = s .are })
+      on (inr h) = inr (record { token = s .token; may = h; rest = s .rest; are = s .are })
+
+  no-token-union : (p q : ℕ) → Stuck L x p → Stuck M x q → (t : Token) → Whole N x t → ⊥
+  no-token-union p q a b t w = on (split t (w .may))
+    where
+      on : L t ⊎ M t → ⊥
+      on (inl h) = a .no-token t (record { may = h; rest = w .rest; are = w .are; follows = w .follows })
+      on (inr h) = b .no-token t (record { may = h; rest = w .rest; are = w .are; follows = w .follows })
+
+  stuck-union : (p q : ℕ) → Stuck L x p → Stuck M x q → Stuck N x (max p q)
+  stuck-union p q a b = on (decLe p q)
+    where
+      further : (k : ℕ) → p ≤ k → q ≤ k → k < length x → Begins L (take (suc k) x) ⊎ Begins M (take (suc k) x) → ⊥
+      further k lp lq i (inl s) = a .no-further (omega arith) (begins-less L x (suc p) (suc k) (omega arith) s)
+      further k lp lq i (inr s) = b .no-further (omega arith) (begins-less M x (suc q) (suc k) (omega arith) s)
+
+      on : Dec (p ≤ q) → Stuck N x (max p q)
+      on (yes h) = let e : max p q ≡ q = omega arith in subst (Stuck N x) (sym e) (record {
+        reached = b .reached;
+        begun = λ i. begins-as M N to-m (take q x) (b .begun i);
+        no-further = λ i s. further q h (omega arith) i (begins-split (take (suc q) x) s);
+        no-token = no-token-union p q a b;
+      })
+      on (no h) = let e : max p q ≡ p = omega arith in subst (Stuck N x) (sym e) (record {
+        reached = a .reached;
+        begun = λ i. begins-as L N to-l (take p x) (a .begun i);
+        no-further = λ i s. further p (omega arith) (omega arith) i (begins-split (take (suc p) x) s);
+        no-token = no-token-union p q a b;
+      })
+
+only-true : (m : Bool) (May : Token → Type 0) (t : Token) → Only m May t → (m ≡ true) × May t
+only-true true May t h = (refl, h)
+only-true false May t h = absurd h
+
+true-only : (m : Bool) (May : Token → Type 0) (t : Token) → m ≡ true → May t → Only m May t
+true-only true May t e h = h
+true-only false May t e h = absurd (let z : _≡_ {A = ℕ} 0 1 = cc in omega arith)
+
+pub kinds-none : (may : List Bool) (x : List ℕ) → Stuck (Below may 0) x 0
+kinds-none may x = none-of (Below may 0) x (λ t h. omega (arith, h .below))
+
+pub kinds-more : (may : List Bool) (x : List ℕ) (k p q : ℕ) → Stuck (Below may k) x p → TriedIs (Only (getD may k false) (OfKind k)) x (Tried.Stuck q) → Stuck (Below may (k + 1)) x (max p q)
+kinds-more may x k p q h (no-token s) = stuck-union (Below may k) (Only (getD may k false) (OfKind k)) (Below may (k + 1)) x split
+    (λ t i. record { below = omega (arith, i .below); allowed = i .allowed })
+    (λ t i. let o = only-true (getD may k false) (OfKind k) t i in record { below = omega (arith, o .1 .kind); allowed = record { marked = ap (λ z. getD may z false) (o .1 .kind) ∙ o .0; fit = o .1 .fit } })
+    p q h s
+  where
+    split : (t : Token) → Below may (k + 1) t → Below may k t ⊎ Only (getD may k false) (OfKind k) t
+    split t i = on (ℕ-discrete (kindOf t) k)
+      where
+        on : Dec (kindOf t ≡ k) → Below may k t ⊎ Only (getD may k false) (OfKind k) t
+        on (yes e) = inr (true-only (getD may k false) (OfKind k) t (ap (λ z. getD may z false) (sym e) ∙ i .allowed .marked) (record { kind = e; fit = i .allowed .fit }))
+        on (no e) = inl (record { below = omega (arith, i .below); allowed = i .allowed })
+
+pub kind-found : (may : List Bool) (x : List ℕ) (k n l : ℕ) → TriedIs (Only (getD may k false) (OfKind k)) x (Tried.Whole n l) → Lexed may x (Lexeme.Token k n l)
+kind-found may x k n l (a-token t w e f) =
+    let o = only-true (getD may k false) (OfKind k) t (w .may) in
+    Lexed.a-token {k = k} {n = n} {l = l} t (record { may = record { marked = ap (λ z. getD may z false) (o .1 .kind) ∙ o .0; fit = o .1 .fit }; rest = w .rest; are = w .are; follows = w .follows }) (sym (o .1 .kind)) e f
+
+pub kinds-done : (may : List Bool) (x : List ℕ) (k p : ℕ) → kinds ≤ k → Stuck (Below may k) x p → Lexed may x (Lexeme.Stuck p)
+kinds-done may x k p l h = Lexed.no-token {k = p} (record {
+  reached = h .reached;
+  begun = λ i. let s = h .begun i in record { token = s .token; may = s .may .allowed; rest = s .rest; are = s .are };
+  no-further = λ i s. h .no-further i (record { token = s .token; may = record { below = omega (arith, kind-below (s .token)); allowed = s .may }; rest = s .rest; are = s .are });
+  no-token = λ t w. h .no-token t (record { may = record { below = omega (arith, kind-below t); allowed = w .may }; rest = w .rest; are = w .are; follows = w .follows });
+})
+
+pub tried-as : (May : Token → Type 0) (x : List ℕ) (r v : Tried) → r ≡ v → TriedIs May x r → TriedIs May x v
+tried-as May x r v e h = subst (TriedIs May x) e h
+
+-- what is left when the others are told apart
+more : (i k : ℕ) → i ≤ k → (k ≡ i → ⊥) → i + 1 ≤ k
+more i k l n = on (ℕ-discrete k i)
+  where
+    on : Dec (k ≡ i) → i + 1 ≤ k
+    on (yes e) = absurd (n e)
+    on (no e) = omega arith
+
+same : (i k : ℕ) → i ≤ k → k < i + 1 → k ≡ i
+same i k l h = omega arith
+
+pub last-varied : (k : ℕ) → k < 10 → (k ≡ 0 → ⊥) → (k ≡ 1 → ⊥) → (k ≡ 2 → ⊥) → (k ≡ 3 → ⊥) → (k ≡ 4 → ⊥) → (k ≡ 5 → ⊥) → (k ≡ 6 → ⊥) → (k ≡ 7 → ⊥) → (k ≡ 8 → ⊥) → k ≡ 9
+last-varied k h n0 n1 n2 n3 n4 n5 n6 n7 n8 =
+    let g0 : 1 ≤ k = more 0 k (omega arith) n0 in
+    let g1 : 2 ≤ k = more 1 k g0 n1 in
+    let g2 : 3 ≤ k = more 2 k g1 n2 in
+    let g3 : 4 ≤ k = more 3 k g2 n3 in
+    let g4 : 5 ≤ k = more 4 k g3 n4 in
+    let g5 : 6 ≤ k = more 5 k g4 n5 in
+    let g6 : 7 ≤ k = more 6 k g5 n6 in
+    let g7 : 8 ≤ k = more 7 k g6 n7 in
+    let g8 : 9 ≤ k = more 8 k g7 n8 in
+    same 9 k g8 h
+
+pub last-word : (k : ℕ) → 10 ≤ k → k < 23 → (k ≡ 10 → ⊥) → (k ≡ 11 → ⊥) → (k ≡ 12 → ⊥) → (k ≡ 13 → ⊥) → (k ≡ 14 → ⊥) → (k ≡ 15 → ⊥) → (k ≡ 16 → ⊥) → (k ≡ 17 → ⊥) → (k ≡ 18 → ⊥) → (k ≡ 19 → ⊥) → (k ≡ 20 → ⊥) → (k ≡ 21 → ⊥) → k ≡ 22
+last-word k l h n0 n1 n2 n3 n4 n5 n6 n7 n8 n9 n10 n11 =
+    let g0 : 11 ≤ k = more 10 k l n0 in
+    let g1 : 12 ≤ k = more 11 k g0 n1 in
+    let g2 : 13 ≤ k = more 12 k g1 n2 in
+    let g3 : 14 ≤ k = more 13 k g2 n3 in
+    let g4 : 15 ≤ k = more 14 k g3 n4 in
+    let g5 : 16 ≤ k = more 15 k g4 n5 in
+    let g6 : 17 ≤ k = more 16 k g5 n6 in
+    let g7 : 18 ≤ k = more 17 k g6 n7 in
+    let g8 : 19 ≤ k = more 18 k g7 n8 in
+    let g9 : 20 ≤ k = more 19 k g8 n9 in
+    let g10 : 21 ≤ k = more 20 k g9 n10 in
+    let g11 : 22 ≤ k = more 21 k g10 n11 in
+    same 22 k g11 h
+
+pub last-sign : (k : ℕ) → 23 ≤ k → k < 34 → (k ≡ 23 → ⊥) → (k ≡ 24 → ⊥) → (k ≡ 25 → ⊥) → (k ≡ 26 → ⊥) → (k ≡ 27 → ⊥) → (k ≡ 28 → ⊥) → (k ≡ 29 → ⊥) → (k ≡ 30 → ⊥) → (k ≡ 31 → ⊥) → (k ≡ 32 → ⊥) → k ≡ 33
+last-sign k l h n0 n1 n2 n3 n4 n5 n6 n7 n8 n9 =
+    let g0 : 24 ≤ k = more 23 k l n0 in
+    let g1 : 25 ≤ k = more 24 k g0 n1 in
+    let g2 : 26 ≤ k = more 25 k g1 n2 in
+    let g3 : 27 ≤ k = more 26 k g2 n3 in
+    let g4 : 28 ≤ k = more 27 k g3 n4 in
+    let g5 : 29 ≤ k = more 28 k g4 n5 in
+    let g6 : 30 ≤ k = more 29 k g5 n6 in
+    let g7 : 31 ≤ k = more 30 k g6 n7 in
+    let g8 : 32 ≤ k = more 31 k g7 n8 in
+    let g9 : 33 ≤ k = more 32 k g8 n9 in
+    same 33 k g9 h
