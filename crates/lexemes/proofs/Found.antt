@@ -3,7 +3,7 @@ use mathlib.Core.Path.{_≡_, refl, sym, _∙_, ap, subst}
 use mathlib.Core.Logic.{_⊎_, inl, inr}
 use mathlib.Core.Bool.{Bool, true, false}
 use mathlib.Core.List.{List, [], _∷_, _++_, append-assoc, append-nil}
-use Prim.Native.Nat.{ℕ, zero, suc, _+_, _-_, _≤_, _<_, max}
+use Prim.Native.Nat.{ℕ, zero, suc, _+_, _-_, _*_, _≤_, _<_, max}
 use native.Mathlib.Omega.{arith}
 use native.Mathlib.Decide.{decLe, ℕ-discrete}
 use lib.ListN.{length, take, drop, getD, take-append-drop}
@@ -490,32 +490,290 @@ last-varied k h n0 n1 n2 n3 n4 n5 n6 n7 n8 =
     let g8 : 9 ≤ k = more 8 k g7 n8 in
     same 9 k g8 h
 
-pub last-word : (k : ℕ) → 10 ≤ k → k < 23 → (k ≡ 10 → ⊥) → (k ≡ 11 → ⊥) → (k ≡ 12 → ⊥) → (k ≡ 13 → ⊥) → (k ≡ 14 → ⊥) → (k ≡ 15 → ⊥) → (k ≡ 16 → ⊥) → (k ≡ 17 → ⊥) → (k ≡ 18 → ⊥) → (k ≡ 19 → ⊥) → (k ≡ 20 → ⊥) → (k ≡ 21 → ⊥) → k ≡ 22
-last-word k l h n0 n1 n2 n3 n4 n5 n6 n7 n8 n9 n10 n11 =
-    let g0 : 11 ≤ k = more 10 k l n0 in
-    let g1 : 12 ≤ k = more 11 k g0 n1 in
-    let g2 : 13 ≤ k = more 12 k g1 n2 in
-    let g3 : 14 ≤ k = more 13 k g2 n3 in
-    let g4 : 15 ≤ k = more 14 k g3 n4 in
-    let g5 : 16 ≤ k = more 15 k g4 n5 in
-    let g6 : 17 ≤ k = more 16 k g5 n6 in
-    let g7 : 18 ≤ k = more 17 k g6 n7 in
-    let g8 : 19 ≤ k = more 18 k g7 n8 in
-    let g9 : 20 ≤ k = more 19 k g8 n9 in
-    let g10 : 21 ≤ k = more 20 k g9 n10 in
-    let g11 : 22 ≤ k = more 21 k g10 n11 in
-    same 22 k g11 h
+-- the word, the sign of a kind
+word-of-12 : (k : ℕ) → 22 ≤ k → k < 23 → (v : Word) × (k ≡ wordNumber v)
+word-of-12 k l h = (NOT, omega arith)
 
-pub last-sign : (k : ℕ) → 23 ≤ k → k < 34 → (k ≡ 23 → ⊥) → (k ≡ 24 → ⊥) → (k ≡ 25 → ⊥) → (k ≡ 26 → ⊥) → (k ≡ 27 → ⊥) → (k ≡ 28 → ⊥) → (k ≡ 29 → ⊥) → (k ≡ 30 → ⊥) → (k ≡ 31 → ⊥) → (k ≡ 32 → ⊥) → k ≡ 33
-last-sign k l h n0 n1 n2 n3 n4 n5 n6 n7 n8 n9 =
-    let g0 : 24 ≤ k = more 23 k l n0 in
-    let g1 : 25 ≤ k = more 24 k g0 n1 in
-    let g2 : 26 ≤ k = more 25 k g1 n2 in
-    let g3 : 27 ≤ k = more 26 k g2 n3 in
-    let g4 : 28 ≤ k = more 27 k g3 n4 in
-    let g5 : 29 ≤ k = more 28 k g4 n5 in
-    let g6 : 30 ≤ k = more 29 k g5 n6 in
-    let g7 : 31 ≤ k = more 30 k g6 n7 in
-    let g8 : 32 ≤ k = more 31 k g7 n8 in
-    let g9 : 33 ≤ k = more 32 k g8 n9 in
-    same 33 k g9 h
+word-of-11 : (k : ℕ) → 21 ≤ k → k < 23 → (v : Word) × (k ≡ wordNumber v)
+word-of-11 k l h = on (ℕ-discrete k 21)
+  where
+    on : Dec (k ≡ 21) → (v : Word) × (k ≡ wordNumber v)
+    on (yes e) = (OR, e)
+    on (no e) = word-of-12 k (omega arith) h
+
+word-of-10 : (k : ℕ) → 20 ≤ k → k < 23 → (v : Word) × (k ≡ wordNumber v)
+word-of-10 k l h = on (ℕ-discrete k 20)
+  where
+    on : Dec (k ≡ 20) → (v : Word) × (k ≡ wordNumber v)
+    on (yes e) = (AND, e)
+    on (no e) = word-of-11 k (omega arith) h
+
+word-of-9 : (k : ℕ) → 19 ≤ k → k < 23 → (v : Word) × (k ≡ wordNumber v)
+word-of-9 k l h = on (ℕ-discrete k 19)
+  where
+    on : Dec (k ≡ 19) → (v : Word) × (k ≡ wordNumber v)
+    on (yes e) = (END, e)
+    on (no e) = word-of-10 k (omega arith) h
+
+word-of-8 : (k : ℕ) → 18 ≤ k → k < 23 → (v : Word) × (k ≡ wordNumber v)
+word-of-8 k l h = on (ℕ-discrete k 18)
+  where
+    on : Dec (k ≡ 18) → (v : Word) × (k ≡ wordNumber v)
+    on (yes e) = (BEGIN, e)
+    on (no e) = word-of-9 k (omega arith) h
+
+word-of-7 : (k : ℕ) → 17 ≤ k → k < 23 → (v : Word) × (k ≡ wordNumber v)
+word-of-7 k l h = on (ℕ-discrete k 17)
+  where
+    on : Dec (k ≡ 17) → (v : Word) × (k ≡ wordNumber v)
+    on (yes e) = (ELSE, e)
+    on (no e) = word-of-8 k (omega arith) h
+
+word-of-6 : (k : ℕ) → 16 ≤ k → k < 23 → (v : Word) × (k ≡ wordNumber v)
+word-of-6 k l h = on (ℕ-discrete k 16)
+  where
+    on : Dec (k ≡ 16) → (v : Word) × (k ≡ wordNumber v)
+    on (yes e) = (THEN, e)
+    on (no e) = word-of-7 k (omega arith) h
+
+word-of-5 : (k : ℕ) → 15 ≤ k → k < 23 → (v : Word) × (k ≡ wordNumber v)
+word-of-5 k l h = on (ℕ-discrete k 15)
+  where
+    on : Dec (k ≡ 15) → (v : Word) × (k ≡ wordNumber v)
+    on (yes e) = (IF, e)
+    on (no e) = word-of-6 k (omega arith) h
+
+word-of-4 : (k : ℕ) → 14 ≤ k → k < 23 → (v : Word) × (k ≡ wordNumber v)
+word-of-4 k l h = on (ℕ-discrete k 14)
+  where
+    on : Dec (k ≡ 14) → (v : Word) × (k ≡ wordNumber v)
+    on (yes e) = (PRINT, e)
+    on (no e) = word-of-5 k (omega arith) h
+
+word-of-3 : (k : ℕ) → 13 ≤ k → k < 23 → (v : Word) × (k ≡ wordNumber v)
+word-of-3 k l h = on (ℕ-discrete k 13)
+  where
+    on : Dec (k ≡ 13) → (v : Word) × (k ≡ wordNumber v)
+    on (yes e) = (REJECT, e)
+    on (no e) = word-of-4 k (omega arith) h
+
+word-of-2 : (k : ℕ) → 12 ≤ k → k < 23 → (v : Word) × (k ≡ wordNumber v)
+word-of-2 k l h = on (ℕ-discrete k 12)
+  where
+    on : Dec (k ≡ 12) → (v : Word) × (k ≡ wordNumber v)
+    on (yes e) = (ECHO-OFF, e)
+    on (no e) = word-of-3 k (omega arith) h
+
+word-of-1 : (k : ℕ) → 11 ≤ k → k < 23 → (v : Word) × (k ≡ wordNumber v)
+word-of-1 k l h = on (ℕ-discrete k 11)
+  where
+    on : Dec (k ≡ 11) → (v : Word) × (k ≡ wordNumber v)
+    on (yes e) = (ECHO, e)
+    on (no e) = word-of-2 k (omega arith) h
+
+word-of-0 : (k : ℕ) → 10 ≤ k → k < 23 → (v : Word) × (k ≡ wordNumber v)
+word-of-0 k l h = on (ℕ-discrete k 10)
+  where
+    on : Dec (k ≡ 10) → (v : Word) × (k ≡ wordNumber v)
+    on (yes e) = (CHAR, e)
+    on (no e) = word-of-1 k (omega arith) h
+
+sign-of-10 : (k : ℕ) → 33 ≤ k → k < 34 → (v : Sign) × (k ≡ signNumber v)
+sign-of-10 k l h = (EQUALS, omega arith)
+
+sign-of-9 : (k : ℕ) → 32 ≤ k → k < 34 → (v : Sign) × (k ≡ signNumber v)
+sign-of-9 k l h = on (ℕ-discrete k 32)
+  where
+    on : Dec (k ≡ 32) → (v : Sign) × (k ≡ signNumber v)
+    on (yes e) = (SEMICOLON, e)
+    on (no e) = sign-of-10 k (omega arith) h
+
+sign-of-8 : (k : ℕ) → 31 ≤ k → k < 34 → (v : Sign) × (k ≡ signNumber v)
+sign-of-8 k l h = on (ℕ-discrete k 31)
+  where
+    on : Dec (k ≡ 31) → (v : Sign) × (k ≡ signNumber v)
+    on (yes e) = (STAR, e)
+    on (no e) = sign-of-9 k (omega arith) h
+
+sign-of-7 : (k : ℕ) → 30 ≤ k → k < 34 → (v : Sign) × (k ≡ signNumber v)
+sign-of-7 k l h = on (ℕ-discrete k 30)
+  where
+    on : Dec (k ≡ 30) → (v : Sign) × (k ≡ signNumber v)
+    on (yes e) = (BAR, e)
+    on (no e) = sign-of-8 k (omega arith) h
+
+sign-of-6 : (k : ℕ) → 29 ≤ k → k < 34 → (v : Sign) × (k ≡ signNumber v)
+sign-of-6 k l h = on (ℕ-discrete k 29)
+  where
+    on : Dec (k ≡ 29) → (v : Sign) × (k ≡ signNumber v)
+    on (yes e) = (DOT, e)
+    on (no e) = sign-of-7 k (omega arith) h
+
+sign-of-5 : (k : ℕ) → 28 ≤ k → k < 34 → (v : Sign) × (k ≡ signNumber v)
+sign-of-5 k l h = on (ℕ-discrete k 28)
+  where
+    on : Dec (k ≡ 28) → (v : Sign) × (k ≡ signNumber v)
+    on (yes e) = (UNBRACE, e)
+    on (no e) = sign-of-6 k (omega arith) h
+
+sign-of-4 : (k : ℕ) → 27 ≤ k → k < 34 → (v : Sign) × (k ≡ signNumber v)
+sign-of-4 k l h = on (ℕ-discrete k 27)
+  where
+    on : Dec (k ≡ 27) → (v : Sign) × (k ≡ signNumber v)
+    on (yes e) = (BRACE, e)
+    on (no e) = sign-of-5 k (omega arith) h
+
+sign-of-3 : (k : ℕ) → 26 ≤ k → k < 34 → (v : Sign) × (k ≡ signNumber v)
+sign-of-3 k l h = on (ℕ-discrete k 26)
+  where
+    on : Dec (k ≡ 26) → (v : Sign) × (k ≡ signNumber v)
+    on (yes e) = (CLOSE, e)
+    on (no e) = sign-of-4 k (omega arith) h
+
+sign-of-2 : (k : ℕ) → 25 ≤ k → k < 34 → (v : Sign) × (k ≡ signNumber v)
+sign-of-2 k l h = on (ℕ-discrete k 25)
+  where
+    on : Dec (k ≡ 25) → (v : Sign) × (k ≡ signNumber v)
+    on (yes e) = (OPEN, e)
+    on (no e) = sign-of-3 k (omega arith) h
+
+sign-of-1 : (k : ℕ) → 24 ≤ k → k < 34 → (v : Sign) × (k ≡ signNumber v)
+sign-of-1 k l h = on (ℕ-discrete k 24)
+  where
+    on : Dec (k ≡ 24) → (v : Sign) × (k ≡ signNumber v)
+    on (yes e) = (ASSIGNED, e)
+    on (no e) = sign-of-2 k (omega arith) h
+
+sign-of-0 : (k : ℕ) → 23 ≤ k → k < 34 → (v : Sign) × (k ≡ signNumber v)
+sign-of-0 k l h = on (ℕ-discrete k 23)
+  where
+    on : Dec (k ≡ 23) → (v : Sign) × (k ≡ signNumber v)
+    on (yes e) = (DEFINED, e)
+    on (no e) = sign-of-1 k (omega arith) h
+
+abbrev pub wordRow : List ℕ
+wordRow = 67 ∷ 72 ∷ 65 ∷ 82 ∷ 32 ∷ 32 ∷ 32 ∷ 32 ∷ 69 ∷ 67 ∷ 72 ∷ 79 ∷ 32 ∷ 32 ∷ 32 ∷ 32 ∷ 69 ∷ 67 ∷ 72 ∷ 79 ∷ 95 ∷ 79 ∷ 70 ∷ 70 ∷ 114 ∷ 101 ∷ 106 ∷ 101 ∷ 99 ∷ 116 ∷ 32 ∷ 32 ∷ 112 ∷ 114 ∷ 105 ∷ 110 ∷ 116 ∷ 32 ∷ 32 ∷ 32 ∷ 105 ∷ 102 ∷ 32 ∷ 32 ∷ 32 ∷ 32 ∷ 32 ∷ 32 ∷ 116 ∷ 104 ∷ 101 ∷ 110 ∷ 32 ∷ 32 ∷ 32 ∷ 32 ∷ 101 ∷ 108 ∷ 115 ∷ 101 ∷ 32 ∷ 32 ∷ 32 ∷ 32 ∷ 98 ∷ 101 ∷ 103 ∷ 105 ∷ 110 ∷ 32 ∷ 32 ∷ 32 ∷ 101 ∷ 110 ∷ 100 ∷ 32 ∷ 32 ∷ 32 ∷ 32 ∷ 32 ∷ 97 ∷ 110 ∷ 100 ∷ 32 ∷ 32 ∷ 32 ∷ 32 ∷ 32 ∷ 111 ∷ 114 ∷ 32 ∷ 32 ∷ 32 ∷ 32 ∷ 32 ∷ 32 ∷ 110 ∷ 111 ∷ 116 ∷ 32 ∷ 32 ∷ 32 ∷ 32 ∷ 32 ∷ []
+
+abbrev pub wordLengths : List ℕ
+wordLengths = 4 ∷ 4 ∷ 8 ∷ 6 ∷ 5 ∷ 2 ∷ 4 ∷ 4 ∷ 5 ∷ 3 ∷ 3 ∷ 2 ∷ 3 ∷ []
+
+word-length : (v : Word) → getD wordLengths (wordNumber v - 10) 0 ≡ length (bytesOf (word v))
+word-length CHAR = refl
+word-length ECHO = refl
+word-length ECHO-OFF = refl
+word-length REJECT = refl
+word-length PRINT = refl
+word-length IF = refl
+word-length THEN = refl
+word-length ELSE = refl
+word-length BEGIN = refl
+word-length END = refl
+word-length AND = refl
+word-length OR = refl
+word-length NOT = refl
+
+word-part : (v : Word) → take (length (bytesOf (word v))) (drop (8 * (wordNumber v - 10)) wordRow) ≡ bytesOf (word v)
+word-part CHAR = refl
+word-part ECHO = refl
+word-part ECHO-OFF = refl
+word-part REJECT = refl
+word-part PRINT = refl
+word-part IF = refl
+word-part THEN = refl
+word-part ELSE = refl
+word-part BEGIN = refl
+word-part END = refl
+word-part AND = refl
+word-part OR = refl
+word-part NOT = refl
+
+abbrev pub signRow : List ℕ
+signRow = 58 ∷ 58 ∷ 61 ∷ 58 ∷ 61 ∷ 32 ∷ 40 ∷ 32 ∷ 32 ∷ 41 ∷ 32 ∷ 32 ∷ 123 ∷ 32 ∷ 32 ∷ 125 ∷ 32 ∷ 32 ∷ 46 ∷ 32 ∷ 32 ∷ 124 ∷ 32 ∷ 32 ∷ 42 ∷ 32 ∷ 32 ∷ 59 ∷ 32 ∷ 32 ∷ 61 ∷ 32 ∷ 32 ∷ []
+
+abbrev pub signLengths : List ℕ
+signLengths = 3 ∷ 2 ∷ 1 ∷ 1 ∷ 1 ∷ 1 ∷ 1 ∷ 1 ∷ 1 ∷ 1 ∷ 1 ∷ []
+
+sign-length : (v : Sign) → getD signLengths (signNumber v - 23) 0 ≡ length (bytesOf (sign v))
+sign-length DEFINED = refl
+sign-length ASSIGNED = refl
+sign-length OPEN = refl
+sign-length CLOSE = refl
+sign-length BRACE = refl
+sign-length UNBRACE = refl
+sign-length DOT = refl
+sign-length BAR = refl
+sign-length STAR = refl
+sign-length SEMICOLON = refl
+sign-length EQUALS = refl
+
+sign-part : (v : Sign) → take (length (bytesOf (sign v))) (drop (3 * (signNumber v - 23)) signRow) ≡ bytesOf (sign v)
+sign-part DEFINED = refl
+sign-part ASSIGNED = refl
+sign-part OPEN = refl
+sign-part CLOSE = refl
+sign-part BRACE = refl
+sign-part UNBRACE = refl
+sign-part DOT = refl
+sign-part BAR = refl
+sign-part STAR = refl
+sign-part SEMICOLON = refl
+sign-part EQUALS = refl
+
+added-off : (a n : ℕ) → a + n - a ≡ n
+added-off a n = omega arith
+
+word-short : (v : Word) → length (bytesOf (word v)) ≤ 8
+word-short CHAR = omega arith
+word-short ECHO = omega arith
+word-short ECHO-OFF = omega arith
+word-short REJECT = omega arith
+word-short PRINT = omega arith
+word-short IF = omega arith
+word-short THEN = omega arith
+word-short ELSE = omega arith
+word-short BEGIN = omega arith
+word-short END = omega arith
+word-short AND = omega arith
+word-short OR = omega arith
+word-short NOT = omega arith
+
+pub word-long : (k : ℕ) → 10 ≤ k → k < 23 → getD wordLengths (k - 10) 0 ≤ 8
+word-long k l h = let o = word-of-0 k l h in subst (λ z. z ≤ 8) (sym (ap (λ z. getD wordLengths (z - 10) 0) (o .1) ∙ word-length (o .0))) (word-short (o .0))
+
+pub word-cut : (k : ℕ) (x : List ℕ) (r : Tried) → 10 ≤ k → k < 23 → ReadIs (OneSpelling (take (8 * (k - 10) + getD wordLengths (k - 10) 0 - 8 * (k - 10)) (drop (8 * (k - 10)) wordRow) ++ []) 0) (stopsAt true) x r → TriedIs (OfKind k) x r
+word-cut k x r l h i = word-read (o .0) k x r (o .1) (subst (λ z. ReadIs (OneSpelling (z ++ []) 0) (stopsAt true) x r) part i)
+  where
+    o : (v : Word) × (k ≡ wordNumber v)
+    o = word-of-0 k l h
+
+    part : take (8 * (k - 10) + getD wordLengths (k - 10) 0 - 8 * (k - 10)) (drop (8 * (k - 10)) wordRow) ≡ bytesOf (word (o .0))
+    part =
+        ap (λ z. take z (drop (8 * (k - 10)) wordRow)) (added-off (8 * (k - 10)) (getD wordLengths (k - 10) 0) ∙ ap (λ z. getD wordLengths (z - 10) 0) (o .1) ∙ word-length (o .0))
+        ∙ ap (λ z. take (length (bytesOf (word (o .0)))) (drop (8 * (z - 10)) wordRow)) (o .1) ∙ word-part (o .0)
+
+sign-short : (v : Sign) → length (bytesOf (sign v)) ≤ 3
+sign-short DEFINED = omega arith
+sign-short ASSIGNED = omega arith
+sign-short OPEN = omega arith
+sign-short CLOSE = omega arith
+sign-short BRACE = omega arith
+sign-short UNBRACE = omega arith
+sign-short DOT = omega arith
+sign-short BAR = omega arith
+sign-short STAR = omega arith
+sign-short SEMICOLON = omega arith
+sign-short EQUALS = omega arith
+
+pub sign-long : (k : ℕ) → 23 ≤ k → k < 34 → getD signLengths (k - 23) 0 ≤ 3
+sign-long k l h = let o = sign-of-0 k l h in subst (λ z. z ≤ 3) (sym (ap (λ z. getD signLengths (z - 23) 0) (o .1) ∙ sign-length (o .0))) (sign-short (o .0))
+
+pub sign-cut : (k : ℕ) (x : List ℕ) (r : Tried) → 23 ≤ k → k < 34 → ReadIs (OneSpelling (take (3 * (k - 23) + getD signLengths (k - 23) 0 - 3 * (k - 23)) (drop (3 * (k - 23)) signRow) ++ []) 0) (stopsAt false) x r → TriedIs (OfKind k) x r
+sign-cut k x r l h i = sign-read (o .0) k x r (o .1) (subst (λ z. ReadIs (OneSpelling (z ++ []) 0) (stopsAt false) x r) part i)
+  where
+    o : (v : Sign) × (k ≡ signNumber v)
+    o = sign-of-0 k l h
+
+    part : take (3 * (k - 23) + getD signLengths (k - 23) 0 - 3 * (k - 23)) (drop (3 * (k - 23)) signRow) ≡ bytesOf (sign (o .0))
+    part =
+        ap (λ z. take z (drop (3 * (k - 23)) signRow)) (added-off (3 * (k - 23)) (getD signLengths (k - 23) 0) ∙ ap (λ z. getD signLengths (z - 23) 0) (o .1) ∙ sign-length (o .0))
+        ∙ ap (λ z. take (length (bytesOf (sign (o .0)))) (drop (3 * (z - 23)) signRow)) (o .1) ∙ sign-part (o .0)

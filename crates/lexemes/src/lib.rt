@@ -1,5 +1,8 @@
 // Which token bytes begin with, where only some tokens may stand: tried kind by kind.
-ghost use Prim.Native.Nat.{_≤_, _<_};
+ghost use mathlib.Core.List.{[], _++_};
+ghost use Prim.Native.Nat.{_-_, _≤_, _<_};
+ghost use lib.ListN.{length, take, drop};
+ghost use Rattle.lexing.specs.Reads.{ReadIs, stopsAt, OneSpelling};
 ghost use Rattle.lexemes.specs.Kinds.{kinds, OfKind, TriedIs, Only, Lexed};
 
 // A token of the kinds 0 to 9: those with a number, a name or characters.
@@ -21,46 +24,40 @@ fn varied(x: &[u8], k: usize) -> lexing::Tried
     }
 }
 
-// A word: kinds 10 to 22.
+// What is spelled as a part of a row.
+fn cut(x: &[u8], row: &[u8], from: usize, to: usize, joins: bool) -> lexing::Tried
+    requires { ⌜ (from ≤ to) × (to ≤ length (now row)) ⌝ }
+    ensures { λ r. ⌜ ReadIs (OneSpelling (take (to - from) (drop from (now (row .entry))) ++ []) 0) (stopsAt joins) (now (x .entry)) r ⌝ }
+{
+    lexing::plain(x, &row[from..to], joins)
+}
+
+// A word: kinds 10 to 22, each in eight bytes of one row.
 fn word(x: &[u8], k: usize) -> lexing::Tried
     requires { ⌜ (10 ≤ k) × (k < 23) ⌝ }
     ensures { λ r. ⌜ TriedIs (OfKind k) (now (x .entry)) r ⌝ }
 {
-    match k {
-        10 => lexing::plain(x, b"CHAR", true),
-        11 => lexing::plain(x, b"ECHO", true),
-        12 => lexing::plain(x, b"ECHO_OFF", true),
-        13 => lexing::plain(x, b"reject", true),
-        14 => lexing::plain(x, b"print", true),
-        15 => lexing::plain(x, b"if", true),
-        16 => lexing::plain(x, b"then", true),
-        17 => lexing::plain(x, b"else", true),
-        18 => lexing::plain(x, b"begin", true),
-        19 => lexing::plain(x, b"end", true),
-        20 => lexing::plain(x, b"and", true),
-        21 => lexing::plain(x, b"or", true),
-        _ => lexing::plain(x, b"not", true),
-    }
+    let lengths: [usize; 13] = [4, 4, 8, 6, 5, 2, 4, 4, 5, 3, 3, 2, 3];
+    let from = 8 * (k - 10);
+    let to = from + lengths[k - 10];
+    cut(
+        x,
+        b"CHAR    ECHO    ECHO_OFFreject  print   if      then    else    begin   end     and     or      not     ",
+        from,
+        to,
+        true,
+    )
 }
 
-// A sign: kinds 23 to 33.
+// A sign: kinds 23 to 33, each in three bytes of one row.
 fn sign(x: &[u8], k: usize) -> lexing::Tried
     requires { ⌜ (23 ≤ k) × (k < kinds) ⌝ }
     ensures { λ r. ⌜ TriedIs (OfKind k) (now (x .entry)) r ⌝ }
 {
-    match k {
-        23 => lexing::plain(x, b"::=", false),
-        24 => lexing::plain(x, b":=", false),
-        25 => lexing::plain(x, b"(", false),
-        26 => lexing::plain(x, b")", false),
-        27 => lexing::plain(x, b"{", false),
-        28 => lexing::plain(x, b"}", false),
-        29 => lexing::plain(x, b".", false),
-        30 => lexing::plain(x, b"|", false),
-        31 => lexing::plain(x, b"*", false),
-        32 => lexing::plain(x, b";", false),
-        _ => lexing::plain(x, b"=", false),
-    }
+    let lengths: [usize; 11] = [3, 2, 1, 1, 1, 1, 1, 1, 1, 1, 1];
+    let from = 3 * (k - 23);
+    let to = from + lengths[k - 23];
+    cut(x, b"::=:= (  )  {  }  .  |  *  ;  =  ", from, to, false)
 }
 
 // A token of a kind, if it may stand here.
