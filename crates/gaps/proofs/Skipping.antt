@@ -8,12 +8,9 @@ use lib.ListN.{length, take, drop, getD, length-append, length-drop, take-append
 use lib.Seq.{take-suc, take-at, drop-cons, length-take-le, take-all}
 use Rattle.text.specs.Names.{blank, All}
 use Rattle.notation.specs.Gaps.{inComment, Gap, white, comment, Ending, gap, open-comment}
+use Rattle.notation.proofs.Rows.{all-snoc}
 use Rattle.gaps.specs.declared.Skipped.{Skipped}
 use Rattle.gaps.specs.Skipped.{CommentRun, SkippedIs, a-byte, the-end, a-comment}
-
-all-snoc : (p : ℕ → Bool) (l : List ℕ) (b : ℕ) → All p l → p b ≡ true → All p (l ++ b ∷ [])
-all-snoc p [] b h e = (e, tt)
-all-snoc p (x ∷ l) b h e = (h .0, all-snoc p l b (h .1) e)
 
 -- a comment on its way
 pub record Going (x : List ℕ) (from i : ℕ) : Type 0 where

@@ -18,10 +18,11 @@ use Rattle.text.proofs.Shapes.{cons≢[], shape1, shape2, shape3, shape4, Range
 use Rattle.text.proofs.Unique.{decoded-one}
 use Rattle.text.proofs.Decoding.{begun0}
 use Rattle.notation.specs.Tokens.{in-quotes, all-in-quotes, StringOf}
+use Rattle.notation.proofs.Rows.{splits, utf8-some}
 use Rattle.notation.proofs.Strings.{unescaped, Form, by-escape, as-itself, form, escaped-one, no-quote}
 use Rattle.lexing.specs.declared.Tried.{Tried}
 use Rattle.lexing.specs.Reads.{Stops, nothing, Spelt, Starts, Halts, ReadIs, whole, halts, CharSpelling, widthOf, escapeByte, PieceSpelling, StringSpelling}
-use Rattle.lexing.proofs.Spellings.{part, part-is, getD-front, last-taken}
+use Rattle.lexing.proofs.Spellings.{part, part-is, last-taken}
 
 any-stops : (y : List ℕ) → Stops nothing y
 any-stops [] = tt
@@ -96,15 +97,6 @@ width-is c a g u h e = on (range c)
 
 clash : {A : Type 0} → _≡_ {A = Bool} true false → A
 clash e = absurd (let z : _≡_ {A = ℕ} 0 1 = cc in omega arith)
-
-utf8-some : (c : ℕ) → 1 ≤ length (utf8 c)
-utf8-some c = on (range c)
-  where
-    on : Range c → 1 ≤ length (utf8 c)
-    on (inl h) = rw (shape1 c h) (omega arith)
-    on (inr (inl h)) = rw (shape2 c (h .0) (omega arith)) (omega arith)
-    on (inr (inr (inl h))) = rw (shape3 c (h .0) (omega arith)) (omega arith)
-    on (inr (inr (inr h))) = rw (shape4 c h) (omega arith)
 
 -- how a character is written
 data Written (c : ℕ) : Type 0 where
@@ -366,20 +358,6 @@ escape-bad room (a ∷ b ∷ g) r l e h = halts {k = 1} (record {
     behind : (w v q : List ℕ) {n : ℕ} → w ≡ a ∷ v → a ∷ b ∷ g ≡ w ++ q → Leads room a v n → ⊥
     behind w v q i j (itself c f z p o t u x) = o e
     behind w v q i j (a-slash k f p z o t) = clash (sym p ∙ ap escapeByte (sym (head-eq-of-cons-eq (tail-eq-of-cons-eq (j ∙ ap (λ x. x ++ q) i ∙ ap (λ x. (a ∷ x) ++ q) z)))) ∙ h)
-
--- two ways to cut a list: one cut lies behind the other
-splits : (a b c d : List ℕ) → a ++ b ≡ c ++ d → ((e : List ℕ) × (a ≡ c ++ e) × (d ≡ e ++ b)) ⊎ ((e : List ℕ) × (c ≡ a ++ e) × (b ≡ e ++ d))
-splits [] b c d h = inr (c, refl, h)
-splits (x ∷ a) b [] d h = inl (x ∷ a, refl, sym h)
-splits (x ∷ a) b (y ∷ c) d h = on (splits a b c d (tail-eq-of-cons-eq h))
-  where
-    same : x ≡ y
-    same = head-eq-of-cons-eq h
-
-    on : ((e : List ℕ) × (a ≡ c ++ e) × (d ≡ e ++ b)) ⊎ ((e : List ℕ) × (c ≡ a ++ e) × (b ≡ e ++ d))
-        → ((e : List ℕ) × (x ∷ a ≡ y ∷ (c ++ e)) × (d ≡ e ++ b)) ⊎ ((e : List ℕ) × (y ∷ c ≡ x ∷ (a ++ e)) × (b ≡ e ++ d))
-    on (inl (e, i, j)) = inl (e, cc, j)
-    on (inr (e, i, j)) = inr (e, cc, j)
 
 -- strings: the characters read so far
 pub record SoFar (x : List ℕ) (i n : ℕ) : Type 0 where

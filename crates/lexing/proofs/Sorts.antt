@@ -14,9 +14,10 @@ use Rattle.text.specs.Chars.{pick}
 use Rattle.text.specs.Names.{nameFirst, nameByte, All, Name}
 use Rattle.text.proofs.NameLaws.{name-all}
 use Rattle.notation.specs.Tokens.{decimal, TagName}
+use Rattle.notation.proofs.Rows.{getD-front, all-snoc}
 use Rattle.lexing.specs.declared.Tried.{Tried}
 use Rattle.lexing.specs.Reads.{Common, Stops, stopsAt, nothing, Spelt, Starts, Halts, ReadIs, whole, halts, OneSpelling, Numbered, NameRun, NameSpelling, TagSpelling}
-use Rattle.lexing.proofs.Spellings.{part, part-is, all-of, getD-front, last-taken}
+use Rattle.lexing.proofs.Spellings.{part, part-is, all-of, last-taken}
 
 clash : {A : Type 0} → _≡_ {A = Bool} true false → A
 clash e = absurd (let z : _≡_ {A = ℕ} 0 1 = cc in omega arith)
@@ -115,10 +116,6 @@ pub read-as : (L : List ℕ → ℕ → Type 0) (j : ℕ → Bool) (x : List ℕ
 read-as L j x r v e h = subst (ReadIs L j x) e h
 
 -- names
-all-snoc : (p : ℕ → Bool) (l : List ℕ) (b : ℕ) → All p l → p b ≡ true → All p (l ++ b ∷ [])
-all-snoc p [] b h e = (e, tt)
-all-snoc p (x ∷ l) b h e = (h .0, all-snoc p l b (h .1) e)
-
 name-snoc : (l : List ℕ) (b : ℕ) → Name l → nameByte b ≡ true → Name (l ++ b ∷ [])
 name-snoc [] b h e = absurd h
 name-snoc (x ∷ l) b h e = (h .0, all-snoc nameByte l b (h .1) e)

@@ -7,6 +7,7 @@ use native.Mathlib.Omega.{arith}
 use lib.ListN.{length, take, drop, getD, length-append, length-drop, take-append-drop}
 use lib.Seq.{take-append-le, take-append-add, getD-append-add, getD-drop, drop-drop, drop-cons, take-suc, take-append-seam, take-at, take-all, getD-append-seam, getD-at, length-take-le}
 use Rattle.notation.specs.Spelled.{wordByte}
+use Rattle.notation.proofs.Rows.{getD-front}
 use Rattle.lexing.specs.declared.Tried.{Tried}
 use Rattle.lexing.specs.Reads.{Common, Stops, stopsAt, Spelt, Starts, Halts, ReadIs, whole, halts, OneSpelling}
 
@@ -17,12 +18,6 @@ same-more x w i h lx lw e =
   where
     one : (n : ℕ) → n + 1 ≡ suc n
     one n = omega arith
-
--- a byte at a place of bytes with more behind them
-pub getD-front : (l m : List ℕ) (j : ℕ) → j < length l → getD (l ++ m) j 0 ≡ getD l j 0
-getD-front [] m j h = absurd (omega arith)
-getD-front (x ∷ l) m zero h = refl
-getD-front (x ∷ l) m (suc j) h = getD-front l m j (omega arith)
 
 pub last-taken : (x u : List ℕ) (k : ℕ) → k < length x → getD (take (suc k) x ++ u) k 0 ≡ getD x k 0
 last-taken [] u k h = absurd (omega arith)

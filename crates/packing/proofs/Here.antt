@@ -6,17 +6,13 @@ use native.Mathlib.Omega.{arith}
 use lib.ListN.{length, take, drop, getD, length-append}
 use lib.Seq.{take-append-seam, getD-append-add, drop-at}
 use Rattle.layout.specs.Layout.{byteAt, wordAt}
+use Rattle.notation.proofs.Rows.{getD-front}
 
 pub record Here (s : List ℕ) (at : ℕ) (l : List ℕ) : Type 0 where
   pub front : List ℕ
   pub back : List ℕ
   pub are : s ≡ front ++ (l ++ back)
   pub placed : length front ≡ at
-
-getD-front : (l m : List ℕ) (j : ℕ) → j < length l → getD (l ++ m) j 0 ≡ getD l j 0
-getD-front [] m j h = absurd (omega arith)
-getD-front (x ∷ l) m zero h = refl
-getD-front (x ∷ l) m (suc j) h = getD-front l m j (omega arith)
 
 pub here-byte : (s : List ℕ) (at : ℕ) (l : List ℕ) → Here s at l → (j : ℕ) → j < length l → byteAt s (at + j) ≡ getD l j 0
 here-byte s at l h j i =

@@ -23,6 +23,7 @@ use Rattle.notation.specs.Program.{Program}
 use Rattle.notation.specs.Rules.{Tree}
 use Rattle.notation.specs.Tokens.{Mark, plain, left, right, Token, nonterminal, value, attribute, name, start-tag, end-tag, empty-tag, string, word, Word, CHAR, ECHO, ECHO-OFF, REJECT, PRINT, IF, THEN, ELSE, BEGIN, END, AND, OR, NOT, sign, Sign, DEFINED, ASSIGNED, OPEN, CLOSE, BRACE, UNBRACE, DOT, BAR, STAR, SEMICOLON, EQUALS, decimal, bytesOf, markBytes, TagName, StringOf}
 use Rattle.notation.specs.Statements.{parentheses}
+use Rattle.notation.proofs.Rows.{utf8-some}
 use Rattle.reading.specs.Tests.{tagName?, string?}
 use Rattle.reading.specs.Conditions.{Part, other, partIf, value?, attribute?, attributePart, attributeOf, partOf, Reading, stepPart, stepCondition, valueOf}
 use Rattle.reading.specs.Statements.{Start, no-start, targetIf, current?, startOf, Next, nothing, itemIf, nextOf, Level, Listing, wants, target, assigning, printing, testing, after, thenned, tested, started, targeted, assignedBy, printed, followed, stepStatements, valueOfList}
@@ -128,15 +129,6 @@ tag-bounded n h = name-bounded 15 n (name-all n (h .a-name)) (h .short)
 name-some : (n : List ℕ) → Name n → n ≡ [] → ⊥
 name-some [] h e = h
 name-some (x ∷ n) h e = cons≢[] e
-
-utf8-some : (c : ℕ) → 1 ≤ length (utf8 c)
-utf8-some c = on (range c)
-  where
-    on : Range c → 1 ≤ length (utf8 c)
-    on (inl h) = rw (shape1 c h) (omega arith)
-    on (inr (inl h)) = rw (shape2 c (h .0) (omega arith)) (omega arith)
-    on (inr (inr (inl h))) = rw (shape3 c (h .0) (omega arith)) (omega arith)
-    on (inr (inr (inr h))) = rw (shape4 c h) (omega arith)
 
 chars-bounded : (k : ℕ) (cs : List ℕ) → AllChar cs → length (utf8s cs) ≤ k → Bounded k 0x110000 cs
 chars-bounded zero [] h l = tt

@@ -15,21 +15,8 @@ use Rattle.notation.specs.Program.{Program}
 use Rattle.notation.specs.Rules.{Visits, Tree, contentOf, visitsIn, Rule, Rules}
 use Rattle.notation.specs.Limits.{sizeOf, nestingOf, ProgramWithin, OptionWithin, VisitsWithin, AllWithin, depthOf, ContentWithin, RuleWithin, EachWithin, nodesInAll, Within}
 use Rattle.notation.specs.Gaps.{inComment, Gap, white, comment, Ending, gap, open-comment}
+use Rattle.notation.proofs.Rows.{splits}
 use Rattle.reading.specs.Tests.{both?, either?, true?, all?}
-
--- two ways to cut a list: one cut lies behind the other
-pub splits : (a b c d : List ℕ) → a ++ b ≡ c ++ d → ((e : List ℕ) × (a ≡ c ++ e) × (d ≡ e ++ b)) ⊎ ((e : List ℕ) × (c ≡ a ++ e) × (b ≡ e ++ d))
-splits [] b c d h = inr (c, refl, h)
-splits (x ∷ a) b [] d h = inl (x ∷ a, refl, sym h)
-splits (x ∷ a) b (y ∷ c) d h = on (splits a b c d (tail-eq-of-cons-eq h))
-  where
-    same : x ≡ y
-    same = head-eq-of-cons-eq h
-
-    on : ((e : List ℕ) × (a ≡ c ++ e) × (d ≡ e ++ b)) ⊎ ((e : List ℕ) × (c ≡ a ++ e) × (b ≡ e ++ d))
-        → ((e : List ℕ) × (x ∷ a ≡ y ∷ (c ++ e)) × (d ≡ e ++ b)) ⊎ ((e : List ℕ) × (y ∷ c ≡ x ∷ (a ++ e)) × (b ≡ e ++ d))
-    on (inl (e, i, j)) = inl (e, cc, j)
-    on (inr (e, i, j)) = inr (e, cc, j)
 
 -- some cut of a list
 pub split? : (p : List ℕ) (P : List ℕ → List ℕ → Type 0) → ((a b : List ℕ) → p ≡ a ++ b → Dec (P a b)) → Dec ((a b : List ℕ) × (p ≡ a ++ b) × P a b)

@@ -18,6 +18,7 @@ use Rattle.notation.specs.Spelled.{joins, MayFollow, Spelled, end, token}
 use Rattle.notation.specs.Productions.{RulesAre}
 use Rattle.notation.specs.RuleText.{RuleText}
 use Rattle.notation.specs.Refusal.{GoesOn, RefusedAt, Told, written, refused}
+use Rattle.notation.proofs.Rows.{splits}
 use Rattle.reading.specs.Machine.{andThen, walk, next}
 use Rattle.reading.specs.Reads.{Limited}
 use Rattle.reading.specs.Tests.{both?, either?, true?}
@@ -27,7 +28,7 @@ use Rattle.reading.proofs.Telling.{none≢some, cases, walk-on, run-was, next-w
 use Rattle.reading.proofs.Rules.{reads-rules}
 use Rattle.telling.proofs.Search.{Good, token?}
 use Rattle.telling.proofs.Acceptable.{Fine, taken-is-fine}
-use Rattle.telling.proofs.Bytes.{splits, split?, same?, begins?, gap?, OpenTail, InGap, in-gap?, gap-append, gap-front, ending-was, ending-is, within?}
+use Rattle.telling.proofs.Bytes.{split?, same?, begins?, gap?, OpenTail, InGap, in-gap?, gap-append, gap-front, ending-was, ending-is, within?}
 
 -- a step of the machine with its limits
 abbrev pub take-token : Progress → Token → Option Progress
