@@ -101,14 +101,15 @@ SCHEDULES = {
     'after': LISTINGS['nothing'] + '\n<schedule/>\n',
 }
 
-HOLDS = 'production 1 <programme> holds [1 <start>] then [2 <title>]* then [3 <people>]* then [4 <description>]*; this is after the %s.\n'
+HOLDS = ('production 1 (n1 <programme>) holds [1 n2 <start>] then [2 n3 <title>]* then [3 n4 <people>]* then [4 n6 <description>]*; '
+         'this is after the %s.\n')
 
 # Number, the bytes that are refused, and what is said of the open elements.
 REFUSALS = {
     'half': (27, '&', 'Open there, from the outside in: <schedule> <programme> <title>\n'
-                      'production 3 <title> holds [1 any character]*; this is after the 1st atom (any character).\n'),
-    'damaged': (23, '<titel>', 'Open there, from the outside in: <schedule> <programme>\n' + HOLDS % '1st atom (<start>)'),
-    'twice': (25, '<title>Or', 'Open there, from the outside in: <schedule> <programme>\n' + HOLDS % '2nd atom (<title>)'),
+                      'production 3 (n3 <title>) holds [1 any character]*; this is after the 1st atom (any character).\n'),
+    'damaged': (23, '<titel>', 'Open there, from the outside in: <schedule> <programme>\n' + HOLDS % '1st atom (n2 <start>)'),
+    'twice': (25, '<title>Or', 'Open there, from the outside in: <schedule> <programme>\n' + HOLDS % '2nd atom (n3 <title>)'),
     'after': (26, '<schedule/>', 'No element is open there; the root of a schedule is <schedule>.\n'),
 }
 

@@ -388,6 +388,17 @@ def what_to_write_instead_mends_the_case():
 
 
 @test
+def a_fault_is_shown_by_two_atoms_and_the_sign():
+    status, out, _ = run("check", example("places.sheet"))
+    expect(f"places.sheet gives 9, not {status}", status == 9)
+    for says in [
+        b"<title> could be [1 n2 <title>] or [2 n5 <title>]; the two part at the \"or\" of [1 n2 <title>] or [2 n5 <title>], which may go left or right\n",
+        b"a character could be [1 any character] or [3 any character]; the two part at the * of [1 any character]*, which may go round or end\n",
+    ]:
+        expect(f"{says!r} is said", says in out)
+
+
+@test
 def a_byte_order_mark_is_named():
     out = told(b"\xef\xbb\xbf" + programme(b""), 23)
     expect("it is named", b"byte order mark" in out and b"\\xef\\xbb\\xbf" in out)

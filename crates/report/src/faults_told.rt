@@ -3,6 +3,7 @@ ghost use Prim.Native.Nat.{_+_, _<_};
 ghost use lib.ListN.{length};
 ghost use Rattle.layout.specs.LaidOut.{LaidOut};
 ghost use Rattle.trees.specs.Parsed.{RunsInside};
+use crate::reasons::say_reason;
 use layout::Layout;
 use layout::byte_at;
 use layout::nonterminal_of;
@@ -56,8 +57,11 @@ pub(crate) fn say_production(s: &[u8], l: Layout, q: usize)
 {
     say(b"production ");
     say_number(q);
+    say(b" (n");
+    say_number(nonterminal_of(s, l, q));
     say(b" ");
     say_tag(s, l, tag_number_of(s, l, q));
+    say(b")");
 }
 
 // A place of production q.
@@ -122,7 +126,7 @@ fn say_about_s() {
         b"\nPlaces where the same input could be read in two ways, so the listing could come out in two ways.\n",
     );
     say(
-        b"A production says what an element may hold. Its atoms are numbered from the left, [1 ..] [2 ..]; * is any number of times.\n",
+        b"A production says what an element may hold. Its atoms are numbered from the left, [1 ..] [2 ..]; n1 is nonterminal 1, and * is\nany number of times. Under each place stands what could come next there, and the sign at which the two ways to read it part.\n",
     );
     say(
         b"Change the expression so that one way is left: one change often mends several places. Usual causes: a star over a part\n",
@@ -206,17 +210,19 @@ fn say_entry(s: &[u8], l: Layout, list: &[u8], i: usize)
     requires { ⌜ i + 3 < length (now list) ⌝ }
 {
     let rule = byte_at(list, i);
+    let first = byte_at(list, i + 1);
+    let second = byte_at(list, i + 2);
+    let third = byte_at(list, i + 3);
     if rule == 8 {
         say_t_entry(s, l, list, i);
-    } else {
-        say_s_entry(s, l, list, i);
+        say_bytes(rule, first, second, third);
+        return;
     }
-    say_bytes(
-        rule,
-        byte_at(list, i + 1),
-        byte_at(list, i + 2),
-        byte_at(list, i + 3),
-    );
+    say_s_entry(s, l, list, i);
+    say_bytes(rule, first, second, third);
+    if first < l.productions {
+        say_reason(s, l, first, second, third);
+    }
 }
 
 // The first `count` entries.

@@ -1,6 +1,7 @@
 // What people are told of a rule sheet: whether it passes and every place to mend; and where in its expressions a schedule stands.
 mod faults_told;
 mod opened;
+mod reasons;
 
 use layout::layout_of;
 use words::say;

@@ -46,7 +46,8 @@ fn say_joint(kind: usize) {
     }
 }
 
-fn say_numbered(s: &[u8], l: Layout, i: usize, atom: usize)
+// An atom by its number.
+pub fn say_numbered(s: &[u8], l: Layout, i: usize, atom: usize)
     requires { ⌜ LaidOut (now s) l ⌝ }
     requires { ⌜ i < l .nodes ⌝ }
 {
@@ -58,7 +59,7 @@ fn say_numbered(s: &[u8], l: Layout, i: usize, atom: usize)
 }
 
 // The tree at node i, of at most `left` nodes, whose first atom is numbered `atom`, as a part of the kind `around`.
-fn say_tree(s: &[u8], l: Layout, i: usize, left: usize, atom: usize, around: usize) -> Past
+pub fn say_tree(s: &[u8], l: Layout, i: usize, left: usize, atom: usize, around: usize) -> Past
     requires { ⌜ LaidOut (now s) l ⌝ }
     requires { ⌜ i + left ≤ l .nodes ⌝ }
     requires { ⌜ atom ≤ i + 1 ⌝ }

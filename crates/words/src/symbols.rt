@@ -3,6 +3,7 @@ ghost use Prim.Native.Nat.{_<_};
 ghost use lib.ListN.{length};
 ghost use Rattle.layout.specs.LaidOut.{LaidOut};
 use crate::speech::say;
+use crate::speech::say_number;
 use layout::Layout;
 use layout::argument_of;
 use layout::byte_at;
@@ -78,7 +79,7 @@ pub fn say_tags_of(s: &[u8], l: Layout, n: usize)
     }
 }
 
-// What the atom that is node i can be.
+// What the atom that is node i is: its nonterminal and the tags that it can be, or any character.
 pub fn say_atom(s: &[u8], l: Layout, i: usize)
     requires { ⌜ LaidOut (now s) l ⌝ }
     requires { ⌜ i < l .nodes ⌝ }
@@ -88,5 +89,8 @@ pub fn say_atom(s: &[u8], l: Layout, i: usize)
         return;
     }
     let n = argument_of(s, l, i);
+    say(b"n");
+    say_number(n);
+    say(b" ");
     say_tags_of(s, l, n);
 }
