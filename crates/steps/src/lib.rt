@@ -415,7 +415,7 @@ impl Run {
         requires { ⌜ Char c ⌝ }
         requires { ⌜ self .at ≤ 2 ^ 57 ⌝ }
         requires { ⌜ self .live .count ≤ mostVisits ⌝ }
-        ensures { λ r. ⌜ OneTokenAs (now (s .entry)) (literal c) (full (self .live) (now (stack .entry))) (record { write = write; lent = now (out .entry); at = self .at }) (whole r (now (stack .entry))) (now (out .exit)) ⌝ }
+        ensures { λ r. ⌜ OneTokenAs (now (s .entry)) (characterToken literal c) (full (self .live) (now (stack .entry))) (record { write = write; lent = now (out .entry); at = self .at }) (whole r (now (stack .entry))) (now (out .exit)) ⌝ }
     {
         if !(literal & is_blank(c)) {
             return self.character(s, l, c, stack, out, write);

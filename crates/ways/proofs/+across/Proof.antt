@@ -5,7 +5,7 @@ use native.Mathlib.Omega.{arith}
 use borrow.Author.Needs.{needs}
 use borrow.Fn.Kinds.{In}
 use borrow.Fn.PlainCycle.{Measures, is, falls, and}
-use Rattle.ways.proofs.Acrosses.{across-empty, across-leaf, across-turn, across-turns, across-first, across-between, across-cat, across-alt}
+use Rattle.ways.proofs.Acrosses.{across-empty, across-leaf, across-turn, across-turns, across-second, across-first, across-cat, across-alt}
 use Rattle.ways.proofs.Spots.{five, part-in}
 use Rattle.layout.proofs.kind_of.Reads as kind-of-reads
 use Rattle.ways.proofs.no_way.Reads as no-way-reads
@@ -76,51 +76,33 @@ parts-of-requires t c κs = (c .before .before .before .before .before .before .
 
 across-requires-2 : (t : ℕ) → across-lts.Need-across-requires-2 (callees t) (across-at t) across.Post
 across-requires-2 t c κs =
-    let w = c .before .before .before .before .before .before .before .before .before .before in
-    let p = c .before .before .before .parts-of .ensures in
-    (omega (arith, w .pre .0, p .both), (w .pre .1 .0, (p .first-in, omega (arith, c .before .before .before .before .before .before .before .before .before .before .pre .1 .1 .1, p .both))))
+    let w = c .before .before .before .before .before .before .before .before .before .before .before .before in
+    let p = c .before .before .before .before .before .parts-of .ensures in
+    (omega (arith, w .pre .0, p .both), (w .pre .1 .0, (p .second-in, omega (arith, w .pre .1 .1 .1, p .both))))
 
 same-length-3 : (t : ℕ) → across-lts.Need-same-length-3 (callees t) (across-at t) across.Post
-same-length-3 t c = omega (arith, c .before .before .before .across2 .ensures .kept .long)
+same-length-3 t c = omega (arith, c .before .before .across2 .ensures .kept .long)
 
 returns-5 : (t : ℕ) → across-lts.Need-returns-5 (callees t) (across-at t) across.Post
-returns-5 t c = across-first _ _ _ (c .before .before .before .before .before .before .before .before .before .before .before .kind-of .ensures .is) _ _ _ (c .before .before .before .before .before .before .before .before .before .if2 .left) (c .before .before .before .before .before .before .before .before .if3 .left) _ (c .before .before .before .before .before .before .before .parts-of .ensures) _ (c .before .before .before .across2 .ensures) (c .if5 .taken)
-
-out-of-requires-2 : (t : ℕ) → across-lts.Need-out-of-requires-2 (callees t) (across-at t) across.Post
-out-of-requires-2 t c κs =
-    let w = c .before .before .before .before .before .before .before .before .before .before .before .before .before .before .before .before in
-    let p = c .before .before .before .before .before .before .before .before .before .parts-of .ensures in
-    (w .pre .1 .0, (p .first-in, omega (arith, c .before .before .before .before .before .before .before .before .before .before .before .before .before .before .before .before .pre .1 .1 .1, p .both, c .before .before .before .before .before .across2 .ensures .kept .long)))
-
-into-requires-2 : (t : ℕ) → across-lts.Need-into-requires-2 (callees t) (across-at t) across.Post
-into-requires-2 t c κs =
-    let w = c .before .before .before .before .before .before .before .before .before .before .before .before .before .before .before .before .before .before .before .before in
-    let p = c .before .before .before .before .before .before .before .before .before .before .before .before .before .parts-of .ensures in
-    (w .pre .1 .0, (p .second-in, omega (arith, c .before .before .before .before .before .before .before .before .before .before .before .before .before .before .before .before .before .before .before .before .pre .1 .1 .1, p .both, c .before .before .before .out-of2 .ensures .few, c .before .before .before .out-of2 .ensures .kept .long, c .before .before .before .before .before .before .before .before .before .across2 .ensures .kept .long)))
-
-same-length-4 : (t : ℕ) → across-lts.Need-same-length-4 (callees t) (across-at t) across.Post
-same-length-4 t c = omega (arith, c .before .before .before .into2 .ensures .kept .long, c .before .before .before .before .before .before .before .out-of2 .ensures .kept .long, c .before .before .before .before .before .before .before .before .before .before .before .before .before .across2 .ensures .kept .long)
-
-returns-6 : (t : ℕ) → across-lts.Need-returns-6 (callees t) (across-at t) across.Post
-returns-6 t c = across-between _ _ _ (c .before .before .before .before .before .before .before .before .before .before .before .before .before .before .before .before .before .before .before .before .before .kind-of .ensures .is) _ _ _ (c .before .before .before .before .before .before .before .before .before .before .before .before .before .before .before .before .before .before .before .if2 .left) (c .before .before .before .before .before .before .before .before .before .before .before .before .before .before .before .before .before .before .if3 .left) _ (c .before .before .before .before .before .before .before .before .before .before .before .before .before .before .before .before .before .parts-of .ensures) _ (c .before .before .before .before .before .before .before .before .before .before .before .before .before .across2 .ensures) (c .before .before .before .before .before .before .before .before .before .before .if5 .left) (c .before .before .before .before .before .before .before .before .before .if6 .taken) _ (c .before .before .before .before .before .before .before .out-of2 .ensures) _ (c .before .before .before .into2 .ensures) (c .if7 .taken)
+returns-5 t c = across-second _ _ _ (c .before .before .before .before .before .before .before .before .before .before .before .before .kind-of .ensures .is) _ _ _ (c .before .before .before .before .before .before .before .before .before .before .if2 .left) (c .before .before .before .before .before .before .before .before .before .if3 .left) _ (c .before .before .before .before .before .before .before .before .parts-of .ensures) (c .before .before .before .before .if5 .taken) _ (c .before .before .across2 .ensures)
 
 across-requires-3 : (t : ℕ) → across-lts.Need-across-requires-3 (callees t) (across-at t) across.Post
 across-requires-3 t c κs =
-    let w = c .before .before .before .before .before .before .before .before .before .before .before .before .before .before .before .before .before .before .before .before .before .before .before .before .before in
-    let p = c .before .before .before .before .before .before .before .before .before .before .before .before .before .before .before .before .before .before .parts-of .ensures in
-    (omega (arith, w .pre .0, p .both), (w .pre .1 .0, (p .second-in, omega (arith, c .before .before .before .before .before .before .before .before .before .before .before .before .before .before .before .before .before .before .before .before .before .before .before .before .before .pre .1 .1 .1, p .both, c .before .before .before .before .into2 .ensures .kept .long, c .before .before .before .before .before .before .before .before .out-of2 .ensures .kept .long, c .before .before .before .before .before .before .before .before .before .before .before .before .before .before .across2 .ensures .kept .long))))
+    let w = c .before .before .before .before .before .before .before .before .before .before .before .before in
+    let p = c .before .before .before .before .before .parts-of .ensures in
+    (omega (arith, w .pre .0, p .both), (w .pre .1 .0, (p .first-in, omega (arith, w .pre .1 .1 .1, p .both))))
 
 same-length-4 : (t : ℕ) → across-lts.Need-same-length-4 (callees t) (across-at t) across.Post
 same-length-4 t c = omega (arith, c .before .before .before .across3 .ensures .kept .long)
 
-returns-7 : (t : ℕ) → across-lts.Need-returns-7 (callees t) (across-at t) across.Post
-returns-7 t c = across-cat _ _ _ (c .before .before .before .before .before .before .before .before .before .before .before .before .before .before .before .before .before .before .before .before .before .before .before .before .before .kind-of .ensures .is) _ _ _ (c .before .before .before .before .before .before .before .before .before .before .before .before .before .before .before .before .before .before .before .before .before .before .before .if2 .left) (c .before .before .before .before .before .before .before .before .before .before .before .before .before .before .before .before .before .before .before .before .before .before .if3 .left) _ (c .before .before .before .before .before .before .before .before .before .before .before .before .before .before .before .before .before .before .before .before .before .parts-of .ensures) _ (c .before .before .before .before .before .before .before .before .before .before .before .before .before .before .before .before .before .across2 .ensures) (c .before .before .before .before .before .before .before .before .before .before .before .before .before .before .if5 .left) (c .before .before .before .before .before .before .before .before .before .before .before .before .before .if6 .taken) _ (c .before .before .before .before .before .before .before .before .before .before .before .out-of2 .ensures) _ (c .before .before .before .before .before .before .before .into2 .ensures) (c .before .before .before .before .if7 .left) _ (c .before .before .across3 .ensures)
+returns-6 : (t : ℕ) → across-lts.Need-returns-6 (callees t) (across-at t) across.Post
+returns-6 t c = across-first _ _ _ (c .before .before .before .before .before .before .before .before .before .before .before .before .before .kind-of .ensures .is) _ _ _ (c .before .before .before .before .before .before .before .before .before .before .before .if2 .left) (c .before .before .before .before .before .before .before .before .before .before .if3 .left) _ (c .before .before .before .before .before .before .before .before .before .parts-of .ensures) _ (c .before .before .before .across3 .ensures) (c .if6 .taken)
 
-across-requires-4 : (t : ℕ) → across-lts.Need-across-requires-4 (callees t) (across-at t) across.Post
-across-requires-4 t c κs =
-    let w = c .before .before .before .before .before .before .before .before .before .before .before .before .before .before .before .before in
-    let p = c .before .before .before .before .before .before .before .before .before .parts-of .ensures in
-    (omega (arith, w .pre .0, p .both), (w .pre .1 .0, (p .second-in, omega (arith, c .before .before .before .before .before .before .before .before .before .before .before .before .before .before .before .before .pre .1 .1 .1, p .both, c .before .before .before .before .before .across2 .ensures .kept .long))))
+out-of-requires-2 : (t : ℕ) → across-lts.Need-out-of-requires-2 (callees t) (across-at t) across.Post
+out-of-requires-2 t c κs =
+    let w = c .before .before .before .before .before .before .before .before .before .before .before .before .before .before .before .before .before .before in
+    let p = c .before .before .before .before .before .before .before .before .before .before .before .parts-of .ensures in
+    (w .pre .1 .0, (p .first-in, omega (arith, w .pre .1 .1 .1, p .both, c .before .before .before .before .before .across3 .ensures .kept .long)))
 
 into-requires-2 : (t : ℕ) → across-lts.Need-into-requires-2 (callees t) (across-at t) across.Post
 into-requires-2 t c κs =
@@ -131,8 +113,14 @@ into-requires-2 t c κs =
 same-length-5 : (t : ℕ) → across-lts.Need-same-length-5 (callees t) (across-at t) across.Post
 same-length-5 t c = omega (arith, c .before .before .into2 .ensures .kept .long, c .before .before .before .before .before .before .out-of2 .ensures .kept .long, c .before .before .before .before .before .before .before .before .before .before .before .before .across3 .ensures .kept .long)
 
+returns-7 : (t : ℕ) → across-lts.Need-returns-7 (callees t) (across-at t) across.Post
+returns-7 t c = across-cat _ _ _ (c .before .before .before .before .before .before .before .before .before .before .before .before .before .before .before .before .before .before .before .before .before .before .kind-of .ensures .is) _ _ _ (c .before .before .before .before .before .before .before .before .before .before .before .before .before .before .before .before .before .before .before .before .if2 .left) (c .before .before .before .before .before .before .before .before .before .before .before .before .before .before .before .before .before .before .before .if3 .left) _ (c .before .before .before .before .before .before .before .before .before .before .before .before .before .before .before .before .before .before .parts-of .ensures) _ (c .before .before .before .before .before .before .before .before .before .before .before .before .across3 .ensures) (c .before .before .before .before .before .before .before .before .before .before .before .before .before .before .if5 .left) (c .before .before .before .before .before .before .before .before .before .if6 .left) (c .before .before .before .before .before .before .before .before .if7 .taken) _ (c .before .before .before .before .before .before .out-of2 .ensures) _ (c .before .before .into2 .ensures)
+
+same-length-6 : (t : ℕ) → across-lts.Need-same-length-6 (callees t) (across-at t) across.Post
+same-length-6 t c = omega (arith, c .before .before .before .before .across3 .ensures .kept .long)
+
 returns-8 : (t : ℕ) → across-lts.Need-returns-8 (callees t) (across-at t) across.Post
-returns-8 t c = across-alt _ _ _ (c .before .before .before .before .before .before .before .before .before .before .before .before .before .before .before .before .kind-of .ensures .is) _ _ _ (c .before .before .before .before .before .before .before .before .before .before .before .before .before .before .if2 .left) (c .before .before .before .before .before .before .before .before .before .before .before .before .before .if3 .left) _ (c .before .before .before .before .before .before .before .before .before .before .before .before .parts-of .ensures) _ (c .before .before .before .before .before .before .before .before .across2 .ensures) (c .before .before .before .before .before .if5 .left) (c .before .before .before .before .if6 .left) _ (c .before .before .across4 .ensures)
+returns-8 t c = across-alt _ _ _ (c .before .before .before .before .before .before .before .before .before .before .before .before .before .before .kind-of .ensures .is) _ _ _ (c .before .before .before .before .before .before .before .before .before .before .before .before .if2 .left) (c .before .before .before .before .before .before .before .before .before .before .before .if3 .left) _ (c .before .before .before .before .before .before .before .before .before .before .parts-of .ensures) _ (c .before .before .before .before .across3 .ensures) (c .before .before .before .before .before .before .if5 .left) (c .if7 .left)
 
 pub +across-spec : {M : Type 1} → statement M
 +across-spec =
@@ -159,13 +147,12 @@ pub +across-spec : {M : Type 1} → statement M
     (across-requires-2 t)
     (same-length-3 t)
     (returns-5 t)
-    (out-of-requires-2 t)
-    (into-requires-2 t)
+    (across-requires-3 t)
     (same-length-4 t)
     (returns-6 t)
-    (across-requires-3 t)
+    (out-of-requires-2 t)
+    (into-requires-2 t)
     (same-length-5 t)
     (returns-7 t)
-    (across-requires-4 t)
     (same-length-6 t)
     (returns-8 t)

@@ -70,45 +70,49 @@ parts-of-requires t c κs = (c .before .before .before .before .before .before .
 
 out-of-requires-2 : (t : ℕ) → out-of-lts.Need-out-of-requires-2 (callees t) (out-of-at t) out-of.Post
 out-of-requires-2 t c κs =
-    let w = c .before .before .before .before .before .before .before .before .before .before in
-    let p = c .before .before .before .parts-of .ensures in
-    (omega (arith, w .pre .0, p .both), (w .pre .1 .0, (p .first-in, omega (arith, c .before .before .before .before .before .before .before .before .before .before .pre .1 .1 .1, p .both))))
+    let w = c .before .before .before .before .before .before .before .before .before .before .before .before in
+    let p = c .before .before .before .before .before .parts-of .ensures in
+    (omega (arith, w .pre .0, p .both), (w .pre .1 .0, (p .first-in, omega (arith, w .pre .1 .1 .1, p .both))))
 
 if-joined-requires : (t : ℕ) → out-of-lts.Need-if-joined-requires (callees t) (out-of-at t) out-of.Post
 if-joined-requires t c κs =
-    let w = c .before .before .before .before .before .before .before .before .before .before .before .before .before .before in
-    let p = c .before .before .before .before .before .before .before .parts-of .ensures in
-    (w .pre .1 .0, (p .second-in, omega (arith, c .before .before .before .before .before .before .before .before .before .before .before .before .before .before .pre .1 .1 .1, p .both, c .before .before .before .out-of2 .ensures .few, c .before .before .before .out-of2 .ensures .kept .long)))
+    let w = c .before .before .before .before .before .before .before .before .before .before .before .before .before .before .before .before in
+    let p = c .before .before .before .before .before .before .before .before .before .parts-of .ensures in
+    (w .pre .1 .0, (p .second-in, omega (arith, w .pre .1 .1 .1, p .both, c .before .before .before .out-of2 .ensures .few)))
 
 closed-requires-3 : (t : ℕ) → out-of-lts.Need-closed-requires-3 (callees t) (out-of-at t) out-of.Post
 closed-requires-3 t c κs =
-    let w = c .before .before .before .before .before .before .before .before .before .before .before .before .before .before .before .before .before .before .before in
-    let p = c .before .before .before .before .before .before .before .before .before .before .before .before .parts-of .ensures in
-    (omega (arith, c .before .before .before .before .before .before .before .before .before .before .before .before .before .before .before .before .before .before .before .pre .1 .1 .0 .few), omega (arith, c .before .before .before .before .before .before .before .before .before .before .before .before .before .before .before .before .before .before .before .pre .1 .1 .1, p .both, c .before .before .before .before .if-joined .ensures .few, c .before .before .before .before .before .before .before .before .out-of2 .ensures .few, c .before .before .before .before .if-joined .ensures .kept .long, c .before .before .before .before .before .before .before .before .out-of2 .ensures .kept .long))
+    let w = c .before .before .before .before .before .before .before .before .before .before .before .before .before .before .before .before .before .before .before .before in
+    let p = c .before .before .before .before .before .before .before .before .before .before .before .before .before .parts-of .ensures in
+    (omega (arith, w .pre .1 .1 .0 .few), omega (arith, w .pre .1 .1 .1, p .both, c .before .before .before .if-joined .ensures .few, c .before .before .before .before .before .before .before .out-of2 .ensures .few))
 
 same-length-3 : (t : ℕ) → out-of-lts.Need-same-length-3 (callees t) (out-of-at t) out-of.Post
 same-length-3 t c = omega (arith, c .before .before .closed3 .ensures .kept .long, c .before .before .before .before .before .before .if-joined .ensures .kept .long, c .before .before .before .before .before .before .before .before .before .before .out-of2 .ensures .kept .long)
 
 returns-5 : (t : ℕ) → out-of-lts.Need-returns-5 (callees t) (out-of-at t) out-of.Post
-returns-5 t c = out-first _ _ _ (c .before .before .before .before .before .before .before .before .before .before .before .before .before .before .before .before .before .before .before .kind-of .ensures .is) (c .before .before .before .before .before .before .before .before .before .before .before .before .before .before .before .before .before .before .before .before .before .before .pre .1 .1 .0) _ _ (c .before .before .before .before .before .before .before .before .before .before .before .before .before .before .before .before .before .if2 .left) (c .before .before .before .before .before .before .before .before .before .before .before .before .before .before .before .before .if4 .left) _ (c .before .before .before .before .before .before .before .before .before .before .before .before .before .before .before .parts-of .ensures) _ _ (c .before .before .before .before .before .before .before .before .before .before .before .out-of2 .ensures) (c .before .before .before .before .before .before .before .if-joined .ensures) (c .before .before .before .before .if5 .taken) _ (c .before .before .closed3 .ensures)
+returns-5 t c =
+    let w = c .before .before .before .before .before .before .before .before .before .before .before .before .before .before .before .before .before .before .before .before .before .before .before in
+    out-first _ _ _ (c .before .before .before .before .before .before .before .before .before .before .before .before .before .before .before .before .before .before .before .before .kind-of .ensures .is) (w .pre .1 .1 .0) _ _ (c .before .before .before .before .before .before .before .before .before .before .before .before .before .before .before .before .before .before .if2 .left) (c .before .before .before .before .before .before .before .before .before .before .before .before .before .before .before .before .before .if4 .left) _ (c .before .before .before .before .before .before .before .before .before .before .before .before .before .before .before .before .parts-of .ensures) (c .before .before .before .before .before .before .before .before .before .before .before .before .if5 .taken) _ _ (c .before .before .before .before .before .before .before .before .before .before .out-of2 .ensures) (c .before .before .before .before .before .before .if-joined .ensures) _ (c .before .before .closed3 .ensures)
 
 out-of-requires-3 : (t : ℕ) → out-of-lts.Need-out-of-requires-3 (callees t) (out-of-at t) out-of.Post
 out-of-requires-3 t c κs =
-    let w = c .before .before .before .before .before .before .before .before .before .before .before .before .before .before .before .before .before .before .before in
-    let p = c .before .before .before .before .before .before .before .before .before .before .before .before .parts-of .ensures in
-    (omega (arith, w .pre .0, p .both), (w .pre .1 .0, (p .second-in, omega (arith, c .before .before .before .before .before .before .before .before .before .before .before .before .before .before .before .before .before .before .before .pre .1 .1 .1, p .both, c .before .before .before .before .if-joined .ensures .kept .long, c .before .before .before .before .before .before .before .before .out-of2 .ensures .kept .long))))
+    let w = c .before .before .before .before .before .before .before .before .before .before .before .before in
+    let p = c .before .before .before .before .before .parts-of .ensures in
+    (omega (arith, w .pre .0, p .both), (w .pre .1 .0, (p .second-in, omega (arith, w .pre .1 .1 .1, p .both))))
 
 closed-requires-4 : (t : ℕ) → out-of-lts.Need-closed-requires-4 (callees t) (out-of-at t) out-of.Post
 closed-requires-4 t c κs =
-    let w = c .before .before .before .before .before .before .before .before .before .before .before .before .before .before .before .before .before .before .before .before .before .before .before in
-    let p = c .before .before .before .before .before .before .before .before .before .before .before .before .before .before .before .before .parts-of .ensures in
-    (omega (arith, c .before .before .before .before .before .before .before .before .before .before .before .before .before .before .before .before .before .before .before .before .before .before .before .pre .1 .1 .0 .few), omega (arith, c .before .before .before .before .before .before .before .before .before .before .before .before .before .before .before .before .before .before .before .before .before .before .before .pre .1 .1 .1, p .both, c .before .before .before .out-of3 .ensures .few, c .before .before .before .out-of3 .ensures .kept .long, c .before .before .before .before .before .before .before .before .if-joined .ensures .kept .long, c .before .before .before .before .before .before .before .before .before .before .before .before .out-of2 .ensures .kept .long))
+    let w = c .before .before .before .before .before .before .before .before .before .before .before .before .before .before .before .before in
+    let p = c .before .before .before .before .before .before .before .before .before .parts-of .ensures in
+    (omega (arith, w .pre .1 .1 .0 .few), omega (arith, w .pre .1 .1 .1, p .both, c .before .before .before .out-of3 .ensures .few))
 
 same-length-4 : (t : ℕ) → out-of-lts.Need-same-length-4 (callees t) (out-of-at t) out-of.Post
 same-length-4 t c = omega (arith, c .before .before .closed4 .ensures .kept .long, c .before .before .before .before .before .before .out-of3 .ensures .kept .long)
 
 returns-6 : (t : ℕ) → out-of-lts.Need-returns-6 (callees t) (out-of-at t) out-of.Post
-returns-6 t c = out-second _ _ _ (c .before .before .before .before .before .before .before .before .before .before .before .before .before .before .before .before .before .before .before .before .before .before .before .kind-of .ensures .is) (c .before .before .before .before .before .before .before .before .before .before .before .before .before .before .before .before .before .before .before .before .before .before .before .before .before .before .pre .1 .1 .0) _ _ (c .before .before .before .before .before .before .before .before .before .before .before .before .before .before .before .before .before .before .before .before .before .if2 .left) (c .before .before .before .before .before .before .before .before .before .before .before .before .before .before .before .before .before .before .before .before .if4 .left) _ (c .before .before .before .before .before .before .before .before .before .before .before .before .before .before .before .before .before .before .before .parts-of .ensures) _ _ (c .before .before .before .before .before .before .before .before .before .before .before .before .before .before .before .out-of2 .ensures) (c .before .before .before .before .before .before .before .before .before .before .before .if-joined .ensures) (c .before .before .before .before .before .before .before .before .if5 .left) _ _ (c .before .before .before .before .before .before .out-of3 .ensures) (c .before .before .closed4 .ensures)
+returns-6 t c =
+    let w = c .before .before .before .before .before .before .before .before .before .before .before .before .before .before .before .before .before .before .before in
+    out-second _ _ _ (c .before .before .before .before .before .before .before .before .before .before .before .before .before .before .before .before .kind-of .ensures .is) (w .pre .1 .1 .0) _ _ (c .before .before .before .before .before .before .before .before .before .before .before .before .before .before .if2 .left) (c .before .before .before .before .before .before .before .before .before .before .before .before .before .if4 .left) _ (c .before .before .before .before .before .before .before .before .before .before .before .before .parts-of .ensures) (c .before .before .before .before .before .before .before .before .if5 .left) _ _ (c .before .before .before .before .before .before .out-of3 .ensures) (c .before .before .closed4 .ensures)
 
 pub +out-of-spec : {M : Type 1} → statement M
 +out-of-spec =
