@@ -1,5 +1,6 @@
 // Runs the token reader over the fronts of its input, a line of hex digits for each. It writes a line for each: the answer in words with its numbers,
 // and for a token what the writer writes of it again, in hex.
+use cases::digit;
 use tokens::Answer;
 use tokens::Cursor;
 use tokens::Event;
@@ -38,25 +39,6 @@ fn run(s: &[u8], front: &mut [u8], out: &mut [u8])
             i += 2;
         }
     }
-}
-
-// The value of a hex digit, 0 for any other byte.
-fn digit(b: u8) -> u8
-    ensures { λ r. ⌜ r ≤ 15 ⌝ }
-{
-    if b < b'0' {
-        return 0;
-    }
-    if b <= b'9' {
-        return b - b'0';
-    }
-    if b < b'a' {
-        return 0;
-    }
-    if b <= b'f' {
-        return b - b'a' + 10;
-    }
-    0
 }
 
 // What stands at the start of s.
