@@ -19,7 +19,7 @@ use Rattle.runs.specs.Options.{bind}
 use Rattle.runs.specs.Execute.{Effect}
 use Rattle.runs.specs.Visits.{programsOf, performed, tagName, whileOn, Env as Running, Saved as Kept, saved, visited, echoed, returned}
 use Rattle.runs.specs.Acts.{letter-read, Store, innermost, without-node, without-element, act}
-use Rattle.runs.specs.Machine.{Open, inside, outer, at-start, State as Run}
+use Rattle.runs.specs.Machine.{Open, inside, outer, at-start, Configuration as Run}
 use Rattle.calls.specs.Limits.{silent}
 use Rattle.state.specs.Changes.{topOf, started, pushed, popped, Restored, restored, withEnv}
 use Rattle.state.specs.Meaning.{meaningOf, opensOf, Fits, Shaped}

@@ -23,7 +23,7 @@ use Rattle.runs.specs.Options.{bind}
 use Rattle.runs.specs.Execute.{Effect}
 use Rattle.runs.specs.Visits.{programsOf, performed, Env as Running, saved, visited, returned}
 use Rattle.runs.specs.Acts.{Act, bracket-act, bracket-acts, Store, pushed as pushed-on, innermost, without-node, act, acts, store-behind}
-use Rattle.runs.specs.Machine.{Open, Control, inside, State as Run}
+use Rattle.runs.specs.Machine.{Open, Control, inside, Configuration as Run}
 use Rattle.runs.specs.Nodes.{only-if, through-nodes}
 use Rattle.runs.proofs.Frame.{acts-frame}
 use Rattle.calls.specs.Limits.{silent}

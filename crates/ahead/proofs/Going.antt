@@ -18,7 +18,7 @@ use Rattle.sheet.specs.Sheet.{Sheet, IsSheet}
 use Rattle.visits.specs.Written.{Pen}
 use Rattle.runs.specs.Visits.{grammar, mostVisits, Env, Saved as Kept}
 use Rattle.runs.specs.Events.{letter}
-use Rattle.runs.specs.Machine.{Open, Control, before, inside, after, State as Standing, Answer, took, refused, step}
+use Rattle.runs.specs.Machine.{Open, Control, before, inside, after, Configuration as Standing, Answer, took, refused, step}
 use Rattle.runs.specs.Spells.{passesAt}
 use Rattle.calls.specs.Names.{sameName}
 use Rattle.calls.specs.Limits.{silent, outputOf}

@@ -9,13 +9,13 @@ use native.Mathlib.Omega.{arith}
 use lib.ListN.{length, take, drop, set, getD, replicate, length-append, length-map, length-replicate}
 use lib.Seq.{sets, sets-eq, set-at, take-suc, take-append-seam, length-take-le}
 use borrow.Author.Tests.{lt-ltb}
-use Rattle.runs.specs.Machine.{inside, most, State as Run}
+use Rattle.runs.specs.Machine.{inside, most, Configuration as Run}
 use Rattle.state.specs.declared.Frame.{Frame}
 use Rattle.state.specs.declared.State.{State}
 use Rattle.state.specs.Bytes.{gathered, frameAt, usedAt}
 use Rattle.state.specs.Bounds.{frameWidth}
 use Rattle.state.specs.Changes.{bareSaved, bareFrame, putLast, pushed, withStack, bareFrom, tidyFrame}
-use Rattle.state.specs.Meaning.{setsOf, openOf, opensOf, All, none, more, Fits, meaningOf, Shaped}
+use Rattle.state.specs.Meaning.{setsOf, openOf, opensOf, Every, none, more, Fits, meaningOf, Shaped}
 use Rattle.state.proofs.Gathered.{length-gathered, fill-none}
 use Rattle.state.proofs.Meant.{meaning-put-on}
 use Rattle.state.proofs.Tidy.{bare-is, bare-twice}
@@ -36,7 +36,7 @@ push-up : (z : State) (i : ℕ) (x : Frame) → i < most → pushed (upTo z i) (
 unfolding pushed
 push-up z i x h = rw (lt-ltb i most h, set-same (z .frames) i x)
 
-all-first : {P : Frame → Type 0} (l : List Frame) (i d : ℕ) → i ≤ d → All P (take d l) → All P (take i l)
+all-first : {P : Frame → Type 0} (l : List Frame) (i d : ℕ) → i ≤ d → Every P (take d l) → Every P (take i l)
 all-first [] zero d h a = none
 all-first [] (suc i) d h a = none
 all-first (x ∷ l) zero d h a = none
@@ -46,7 +46,7 @@ all-first (x ∷ l) (suc i) (suc d) h (more p a) = more p (all-first l i d (omeg
 up-shaped : (z : State) (i : ℕ) → i ≤ z .depth → Shaped z → Shaped (upTo z i)
 up-shaped z i h s = record { deep = omega (arith, s .deep); frames = s .frames; fits = all-first (z .frames) i (z .depth) h (s .fits) }
 
-all-at : {P : Frame → Type 0} (l : List Frame) (i d : ℕ) (x : Frame) → i < d → i < length l → All P (take d l) → P (getD l i x)
+all-at : {P : Frame → Type 0} (l : List Frame) (i d : ℕ) (x : Frame) → i < d → i < length l → Every P (take d l) → P (getD l i x)
 all-at [] i d x h k a = absurd (omega arith)
 all-at (y ∷ l) i zero x h k a = absurd (omega arith)
 all-at (y ∷ l) zero (suc d) x h k (more p a) = p

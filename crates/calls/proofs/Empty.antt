@@ -12,7 +12,7 @@ use Rattle.tokens.proofs.Streams.{flat-one}
 use Rattle.sheet.specs.Sheet.{Sheet}
 use Rattle.runs.specs.Visits.{Env}
 use Rattle.runs.specs.Events.{starts, ends}
-use Rattle.runs.specs.Machine.{State, fresh-state, Answer, took, refused, onward, answered, run, step}
+use Rattle.runs.specs.Machine.{Configuration, fresh-configuration, Answer, took, refused, onward, answered, run, step}
 use Rattle.runs.specs.Taken.{Passed, closed-with}
 use Rattle.runs.specs.Spells.{Token, start-token, end-token, empty-token, stepToken, TokenOutcome, through, onward-token, runTokens}
 use Rattle.runs.proofs.Spells.{spelled-iff}
@@ -30,12 +30,12 @@ module _ (a : Sheet) where
       by (refused n) = refl
 
   -- where a row of tokens is taken, so is the other
-  one-for-two : (z z′ : State) (t : Option ℕ) (ts : List Token) →
+  one-for-two : (z z′ : Configuration) (t : Option ℕ) (ts : List Token) →
       (runTokens a z (empty-token t ∷ ts) ≡ through z′) ↔ (runTokens a z (start-token t ∷ end-token t ∷ ts) ≡ through z′)
   one-for-two z z′ t ts =
       by (stepToken a z (start-token t)) (stepToken a z (empty-token t)) (empty-is-both z t)
     where
-      by-end : (y : State) (w : Answer) → (onward-token z (empty-token t ∷ ts) w (λ x. runTokens a x ts) ≡ through z′) ↔ (onward-token y (end-token t ∷ ts) w (λ x. runTokens a x ts) ≡ through z′)
+      by-end : (y : Configuration) (w : Answer) → (onward-token z (empty-token t ∷ ts) w (λ x. runTokens a x ts) ≡ through z′) ↔ (onward-token y (end-token t ∷ ts) w (λ x. runTokens a x ts) ≡ through z′)
       by-end y (took x) = ((λ e. e), (λ e. e))
       by-end y (refused n) = ((λ e. absurd (let q : _≡_ {A = ℕ} 0 1 = cc in omega arith)), (λ e. absurd (let q : _≡_ {A = ℕ} 0 1 = cc in omega arith)))
 
@@ -53,12 +53,12 @@ module _ (a : Sheet) where
           stops-at n = onward-token z (start-token t ∷ end-token t ∷ ts) (refused n) (λ y. runTokens a y (end-token t ∷ ts))
 
   -- and behind others
-  behind : (ks us vs : List Token) → ((z z′ : State) → (runTokens a z us ≡ through z′) ↔ (runTokens a z vs ≡ through z′)) →
-      (z z′ : State) → (runTokens a z (ks ++ us) ≡ through z′) ↔ (runTokens a z (ks ++ vs) ≡ through z′)
+  behind : (ks us vs : List Token) → ((z z′ : Configuration) → (runTokens a z us ≡ through z′) ↔ (runTokens a z vs ≡ through z′)) →
+      (z z′ : Configuration) → (runTokens a z (ks ++ us) ≡ through z′) ↔ (runTokens a z (ks ++ vs) ≡ through z′)
   behind [] us vs f z z′ = f z z′
   behind (k ∷ ks) us vs f z z′ = by (λ y. behind ks us vs f y z′) (stepToken a z k)
     where
-      by : ((y : State) → (runTokens a y (ks ++ us) ≡ through z′) ↔ (runTokens a y (ks ++ vs) ≡ through z′)) → (x : Answer) → (onward-token z (k ∷ (ks ++ us)) x (λ y. runTokens a y (ks ++ us)) ≡ through z′) ↔ (onward-token z (k ∷ (ks ++ vs)) x (λ y. runTokens a y (ks ++ vs)) ≡ through z′)
+      by : ((y : Configuration) → (runTokens a y (ks ++ us) ≡ through z′) ↔ (runTokens a y (ks ++ vs) ≡ through z′)) → (x : Answer) → (onward-token z (k ∷ (ks ++ us)) x (λ y. runTokens a y (ks ++ us)) ≡ through z′) ↔ (onward-token z (k ∷ (ks ++ vs)) x (λ y. runTokens a y (ks ++ vs)) ≡ through z′)
       by g (took y) = g y
       by g (refused n) = ((λ e. absurd (let q : _≡_ {A = ℕ} 0 1 = cc in omega arith)), (λ e. absurd (let q : _≡_ {A = ℕ} 0 1 = cc in omega arith)))
 
@@ -69,7 +69,7 @@ module _ (a : Sheet) where
 module _ (a : Sheet) (ok : Passed a) where
   -- a stream of these tokens is accepted where the machine takes them
   abbrev Taken : List Tok → Env → Type 0
-  Taken ts v = runTokens a fresh-state (tokensFor a ts) ≡ through (closed-with v)
+  Taken ts v = runTokens a fresh-configuration (tokensFor a ts) ≡ through (closed-with v)
 
   same-run : (ts us : List Tok) (v : Env) → Stream ts → Stream us → (Taken ts v → Taken us v) → Accepted a (flat ts) v → Accepted a (flat us) v
   same-run ts us v g h f x =
@@ -80,7 +80,7 @@ module _ (a : Sheet) (ok : Passed a) where
         short = h .1;
         whole = h .2;
         are-bytes = refl;
-        spells = spelled-iff a ok (tokensFor a us) v .0 (f (ap (λ (l : List Tok). runTokens a fresh-state (tokensFor a l)) e ∙ spelled-iff a ok (tokensFor a (x .tokens)) v .1 (x .spells)));
+        spells = spelled-iff a ok (tokensFor a us) v .0 (f (ap (λ (l : List Tok). runTokens a fresh-configuration (tokensFor a l)) e ∙ spelled-iff a ok (tokensFor a (x .tokens)) v .1 (x .spells)));
         counts = x .counts;
       }
 
@@ -89,11 +89,11 @@ module _ (a : Sheet) (ok : Passed a) where
       let t = tagNamed (a .names) n in
       let ks : List Token = tokensFor a ts in
       let ls : List Token = tokensFor a us in
-      let i = behind a ks (empty-token t ∷ ls) (start-token t ∷ end-token t ∷ ls) (λ z z′. one-for-two a z z′ t ls) fresh-state (closed-with v) in
+      let i = behind a ks (empty-token t ∷ ls) (start-token t ∷ end-token t ∷ ls) (λ z z′. one-for-two a z z′ t ls) fresh-configuration (closed-with v) in
       let one : tokensFor a (ts ++ tag empty n b ∷ us) ≡ ks ++ empty-token t ∷ ls = tokens-behind a ts (tag empty n b ∷ us) in
       let two : tokensFor a (ts ++ tag start n b₁ ∷ tag end n b₂ ∷ us) ≡ ks ++ start-token t ∷ end-token t ∷ ls = tokens-behind a ts (tag start n b₁ ∷ tag end n b₂ ∷ us) in (
         same-run (ts ++ tag empty n b ∷ us) (ts ++ tag start n b₁ ∷ tag end n b₂ ∷ us) v g h
-            (λ e. ap (runTokens a fresh-state) two ∙ i .0 (ap (runTokens a fresh-state) (sym one) ∙ e)),
+            (λ e. ap (runTokens a fresh-configuration) two ∙ i .0 (ap (runTokens a fresh-configuration) (sym one) ∙ e)),
         same-run (ts ++ tag start n b₁ ∷ tag end n b₂ ∷ us) (ts ++ tag empty n b ∷ us) v h g
-            (λ e. ap (runTokens a fresh-state) one ∙ i .1 (ap (runTokens a fresh-state) (sym two) ∙ e)),
+            (λ e. ap (runTokens a fresh-configuration) one ∙ i .1 (ap (runTokens a fresh-configuration) (sym two) ∙ e)),
       )

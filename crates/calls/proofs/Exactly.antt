@@ -16,7 +16,7 @@ use Rattle.output.specs.Escape.{Piece}
 use Rattle.sheet.specs.Sheet.{Sheet}
 use Rattle.runs.specs.Visits.{grammar}
 use Rattle.runs.specs.Events.{Event}
-use Rattle.runs.specs.Machine.{Control, before, inside, after, State, fresh-state, Answer, took, refused, Outcome, finished, stopped, answered, run}
+use Rattle.runs.specs.Machine.{Control, before, inside, after, Configuration, fresh-configuration, Answer, took, refused, Outcome, finished, stopped, answered, run}
 use Rattle.runs.specs.Taken.{Passed}
 use Rattle.runs.specs.Spells.{Token, eventsOfToken, isBlank, passesAt, unless-blank, stepToken}
 use Rattle.runs.proofs.Moves.{run-through, run-stops}
@@ -33,12 +33,12 @@ use Rattle.calls.proofs.Frame.{state-behind, answer-behind, token-frame
 use Rattle.calls.proofs.Steps.{outOf, behind-silent, takes-one}
 
 -- a token in a state without output, and in the same with it
-module _ (a : Sheet) (y : State) (k : Token) where
+module _ (a : Sheet) (y : Configuration) (k : Token) where
   from-silent : stepToken a y k ≡ answer-behind (outOf y) (stepToken a (silent y) k)
-  from-silent = ap (λ (x : State). stepToken a x k) (behind-silent [] y) ∙ token-frame a (outOf y) (silent y) k
+  from-silent = ap (λ (x : Configuration). stepToken a x k) (behind-silent [] y) ∙ token-frame a (outOf y) (silent y) k
 
   -- taken: it is white space that passes, or its events are
-  pub took-events : (z : State) → stepToken a y k ≡ took z → (xs : List Event) × (run a y xs ≡ finished z)
+  pub took-events : (z : Configuration) → stepToken a y k ≡ took z → (xs : List Event) × (run a y xs ≡ finished z)
   took-events z e = by (isBlank k && passesAt (grammar a) (y .control)) e
     where
       by : (b : Bool) → unless-blank b y (answered (run a y (eventsOfToken k))) ≡ took z → (xs : List Event) × (run a y xs ≡ finished z)
@@ -46,22 +46,22 @@ module _ (a : Sheet) (y : State) (k : Token) where
       by false e = (eventsOfToken k, run-through (run a y (eventsOfToken k)) z e)
 
 module _ (a : Sheet) where
-  pub fresh-reached : ReachedBy a fresh-state
-  fresh-reached = record { events = []; full = fresh-state; runs = refl; is = refl }
+  pub fresh-reached : ReachedBy a fresh-configuration
+  fresh-reached = record { events = []; full = fresh-configuration; runs = refl; is = refl }
 
-  token-reached : (z : State) (k : Token) (y : State) → ReachedBy a z → stepToken a z k ≡ took y → ReachedBy a (silent y)
+  token-reached : (z : Configuration) (k : Token) (y : Configuration) → ReachedBy a z → stepToken a z k ≡ took y → ReachedBy a (silent y)
   token-reached z k y h e =
-      let w : State = h .full in
+      let w : Configuration = h .full in
       let o : List Piece = outOf w in
-      let t = took-events a w k (state-behind o y) (from-silent a w k ∙ ap (λ (x : State). answer-behind o (stepToken a x k)) (sym (h .is)) ∙ ap (answer-behind o) e) in
+      let t = took-events a w k (state-behind o y) (from-silent a w k ∙ ap (λ (x : Configuration). answer-behind o (stepToken a x k)) (sym (h .is)) ∙ ap (answer-behind o) e) in
       record {
         events = h .events ++ t .0;
         full = state-behind o y;
-        runs = run-append a fresh-state w (h .events) (t .0) (h .runs) ∙ t .1;
+        runs = run-append a fresh-configuration w (h .events) (t .0) (h .runs) ∙ t .1;
         is = refl;
       }
 
-  runs-reached : {part : List ℕ} {more : Bool} {at room : ℕ} {z : State} {r : Result} → Runs a part more at room z r → ReachedBy a z → ReachedBy a (r .held .run)
+  runs-reached : {part : List ℕ} {more : Bool} {at room : ℕ} {z : Configuration} {r : Result} → Runs a part more at room z r → ReachedBy a z → ReachedBy a (r .held .run)
   runs-reached {part} (takes {at} {room} {z} e next z′ w m t d) h =
       let o = takes-one a z room (tokenOf a part e) z′ w t in
       runs-reached d (subst (ReachedBy a) (sym (o .silenced)) (token-reached z (tokenOf a part e) (o .reached) h (o .stepped)))
@@ -76,26 +76,26 @@ module _ (a : Sheet) where
       by (some n) d = subst (λ (x : Result). ReachedBy a (x .held .run)) (sym d) w
 
 -- 22 to 26: the first of the token's events that is refused after those so far
-module _ (a : Sheet) (ok : Passed a) (z : State) (h : ReachedBy a z) (k : Token) (n : ℕ) where
+module _ (a : Sheet) (ok : Passed a) (z : Configuration) (h : ReachedBy a z) (k : Token) (n : ℕ) where
   same-refusal : stepToken a (h .full) k ≡ answer-behind (outOf (h .full)) (stepToken a z k)
-  same-refusal = from-silent a (h .full) k ∙ ap (λ (x : State). answer-behind (outOf (h .full)) (stepToken a x k)) (sym (h .is))
+  same-refusal = from-silent a (h .full) k ∙ ap (λ (x : Configuration). answer-behind (outOf (h .full)) (stepToken a x k)) (sym (h .is))
 
   to-stops : stepToken a z k ≡ refused n → StopsAt h k n
   to-stops e =
       let t = token-refused a (h .full) k n (same-refusal ∙ ap (answer-behind (outOf (h .full))) e) .1 in
-      let y : State = t .0 in (
+      let y : Configuration = t .0 in (
         y .store,
         t .1,
         stopped-iff a ok (h .events ++ eventsOfToken k) n (y .store) (t .1) .0
-            (y .control, run-append a fresh-state (h .full) (h .events) (eventsOfToken k) (h .runs) ∙ t .2),
+            (y .control, run-append a fresh-configuration (h .full) (h .events) (eventsOfToken k) (h .runs) ∙ t .2),
       )
 
   from-stops : isBlank k && passesAt (grammar a) (z .control) ≡ false → StopsAt h k n → stepToken a z k ≡ refused n
   from-stops b (m, left, s) =
       let t = stopped-iff a ok (h .events ++ eventsOfToken k) n m left .1 s in
       let r : run a (h .full) (eventsOfToken k) ≡ stopped n (record { control = t .0; store = m }) left =
-      sym (run-append a fresh-state (h .full) (h .events) (eventsOfToken k) (h .runs)) ∙ t .1 in
-      let c : isBlank k && passesAt (grammar a) (h .full .control) ≡ false = ap (λ (x : State). isBlank k && passesAt (grammar a) (x .control)) (sym (h .is)) ∙ b in
+      sym (run-append a fresh-configuration (h .full) (h .events) (eventsOfToken k) (h .runs)) ∙ t .1 in
+      let c : isBlank k && passesAt (grammar a) (h .full .control) ≡ false = ap (λ (x : Configuration). isBlank k && passesAt (grammar a) (x .control)) (sym (h .is)) ∙ b in
       let e : stepToken a (h .full) k ≡ refused n =
       ap (λ (x : Bool). unless-blank x (h .full) (answered (run a (h .full) (eventsOfToken k)))) c ∙ ap answered r in
       by (stepToken a z k) (sym same-refusal ∙ e)
@@ -108,12 +108,12 @@ module _ (a : Sheet) (ok : Passed a) (z : State) (h : ReachedBy a z) (k : Token)
   pub refused-iff : (stepToken a z k ≡ refused n) ↔ ((isBlank k && passesAt (grammar a) (z .control) ≡ false) × StopsAt h k n)
   refused-iff = ((λ e. (token-refused a z k n e .0, to-stops e)), (λ p. from-stops (p .0) (p .1)))
 
-module _ (a : Sheet) (z : State) (room : ℕ) (k : Token) where
+module _ (a : Sheet) (z : Configuration) (room : ℕ) (k : Token) where
   -- 30: it would be taken, and takes the count over the limit
   pub refuses-iff : (n : ℕ) → (oneToken a z room k ≡ refuses n) ↔ ((stepToken a z k ≡ refused n) ⊎ Over a z k n)
   refuses-iff n = (to (stepToken a z k) refl, from)
     where
-      by-tests : (y : State) → stepToken a z k ≡ took y → (c f : Bool) → leb (countOf y) mostVisits ≡ c → limited y c f ≡ refuses n → (stepToken a z k ≡ refused n) ⊎ Over a z k n
+      by-tests : (y : Configuration) → stepToken a z k ≡ took y → (c f : Bool) → leb (countOf y) mostVisits ≡ c → limited y c f ≡ refuses n → (stepToken a z k ≡ refused n) ⊎ Over a z k n
       by-tests y t false f hc e = let h : 30 ≡ n = cc in inr (sym h, (y, t, leb-false (countOf y) mostVisits hc))
       by-tests y t true false hc e = absurd (let x : _≡_ {A = ℕ} 0 1 = cc in omega arith)
       by-tests y t true true hc e = absurd (let x : _≡_ {A = ℕ} 0 1 = cc in omega arith)
@@ -131,7 +131,7 @@ module _ (a : Sheet) (z : State) (room : ℕ) (k : Token) where
   pub no-room-iff : (oneToken a z room k ≡ no-room) ↔ Full a z room k
   no-room-iff = (to (stepToken a z k) refl, from)
     where
-      by-tests : (y : State) → stepToken a z k ≡ took y → (c f : Bool) → leb (countOf y) mostVisits ≡ c → leb (length (outputOf y)) room ≡ f → limited y c f ≡ no-room → Full a z room k
+      by-tests : (y : Configuration) → stepToken a z k ≡ took y → (c f : Bool) → leb (countOf y) mostVisits ≡ c → leb (length (outputOf y)) room ≡ f → limited y c f ≡ no-room → Full a z room k
       by-tests y t false f hc hf e = absurd (let x : _≡_ {A = ℕ} 0 1 = cc in omega arith)
       by-tests y t true false hc hf e = (y, t, leb-true (countOf y) mostVisits hc, leb-false (length (outputOf y)) room hf)
       by-tests y t true true hc hf e = absurd (let x : _≡_ {A = ℕ} 0 1 = cc in omega arith)
@@ -156,7 +156,7 @@ closing-is true n m e = absurd (let x : _≡_ {A = ℕ} 0 1 = cc in omega arith)
 closing-is false n m e = cc
 
 -- and it is closed by the number that the call answered
-pub closed-by : {a : Sheet} {part : List ℕ} {more : Bool} {at room : ℕ} {z : State} {r : Result} → Runs a part more at room z r → (n : ℕ) → r .held .closing ≡ some n →
+pub closed-by : {a : Sheet} {part : List ℕ} {more : Bool} {at room : ℕ} {z : Configuration} {r : Result} → Runs a part more at room z r → (n : ℕ) → r .held .closing ≡ some n →
     r .number ≡ n
 closed-by (takes e next z′ w m t d) n h = closed-by d n h
 closed-by (halts {n = j} q) n h = closing-is (leavesOpen j) j n h
@@ -186,7 +186,7 @@ none-number more left c Bad j q = let h : 20 ≡ j = cc in inr (closed-by-refusa
 none-number more left c Long j q = let h : 21 ≡ j = cc in inr (closed-by-refusal {n = j} (omega arith) (omega arith))
 
 module _ {a : Sheet} {part : List ℕ} {more : Bool} where
-  pub closing-fits : {at room : ℕ} {z : State} {r : Result} → Runs a part more at room z r → (n : ℕ) → r .held .closing ≡ some n → Closing n
+  pub closing-fits : {at room : ℕ} {z : Configuration} {r : Result} → Runs a part more at room z r → (n : ℕ) → r .held .closing ≡ some n → Closing n
   closing-fits (takes e next z′ w m t d) n h = closing-fits d n h
   closing-fits (halts {at} {room} {z} (stops e next j m t)) n h =
       subst Closing (closing-is (leavesOpen j) j n h) (by (refuses-iff a z room (tokenOf a part e) j .0 t))
@@ -201,8 +201,8 @@ module _ {a : Sheet} {part : List ℕ} {more : Bool} where
       by (inl e) = absurd (none-closes n (subst (λ (i : ℕ). closingOf (leavesOpen i) i ≡ some n) e h))
       by (inr c) = subst Closing (closing-is (leavesOpen j) j n h) c
 
-  pub count-fits : {at room : ℕ} {z : State} {r : Result} → Runs a part more at room z r → countOf z ≤ mostVisits → countOf (r .held .run) ≤ mostVisits
+  pub count-fits : {at room : ℕ} {z : Configuration} {r : Result} → Runs a part more at room z r → countOf z ≤ mostVisits → countOf (r .held .run) ≤ mostVisits
   count-fits (takes {at} {room} {z} e next z′ w m t d) h =
       let o = takes-one a z room (tokenOf a part e) z′ w t in
-      count-fits d (subst (λ (y : State). countOf y ≤ mostVisits) (sym (o .silenced)) (o .counts))
+      count-fits d (subst (λ (y : Configuration). countOf y ≤ mostVisits) (sym (o .silenced)) (o .counts))
   count-fits (halts q) h = h

@@ -22,7 +22,7 @@ use Rattle.sheet.specs.Sheet.{Sheet}
 use Rattle.runs.specs.Visits.{mostVisits}
 use Rattle.runs.specs.Events.{letter}
 use Rattle.runs.specs.Acts.{Store}
-use Rattle.runs.specs.Machine.{Control, before, inside, after, State, fresh-state, took, refused}
+use Rattle.runs.specs.Machine.{Control, before, inside, after, Configuration, fresh-configuration, took, refused}
 use Rattle.runs.specs.Taken.{Passed, RootClosed}
 use Rattle.runs.specs.Spells.{stepToken, through, onward-token, runTokens}
 use Rattle.runs.specs.SoFar.{SpelledSoFar, eventsSoFar, TokenRefused}
@@ -32,7 +32,7 @@ use Rattle.calls.specs.Names.{tokenFor, tokensFor, tokenOf}
 use Rattle.calls.specs.Limits.{outputOf, Over}
 use Rattle.calls.specs.Held.{fresh-held, handed}
 use Rattle.calls.specs.Call.{Result, numberAt, Stop, stops, full, no-token, Called}
-use Rattle.calls.specs.Explained.{Next, Why, all-taken, used-up, no-space, begins-none, too-long, next-refused, cut-off, not-closed, too-many, Explained, Answers, ExplainedExactly}
+use Rattle.calls.specs.Explained.{NextToken, Why, all-taken, used-up, no-space, begins-none, too-long, next-refused, cut-off, not-closed, too-many, Explained, Answers, ExplainedExactly}
 use Rattle.calls.proofs.Answers.{call-one}
 use Rattle.calls.proofs.Empty.{tokens-behind}
 use Rattle.calls.proofs.Exactly.{refuses-iff, no-room-iff}
@@ -42,16 +42,16 @@ use Rattle.calls.proofs.Read.{NoToken, none-read, read-token, read-toke
 use Rattle.calls.proofs.Steps.{RunToken, RunAnswer, outOf, tokensOf, steps-silent, steps-count, steps-run, run-steps, run-does, steps-stop}
 
 -- a run over more tokens
-run-more : (a : Sheet) (z z′ : State) (ks us : List RunToken) → runTokens a z ks ≡ through z′ → runTokens a z (ks ++ us) ≡ runTokens a z′ us
-run-more a z z′ [] us e = let h : z ≡ z′ = cc in ap (λ (y : State). runTokens a y us) h
+run-more : (a : Sheet) (z z′ : Configuration) (ks us : List RunToken) → runTokens a z ks ≡ through z′ → runTokens a z (ks ++ us) ≡ runTokens a z′ us
+run-more a z z′ [] us e = let h : z ≡ z′ = cc in ap (λ (y : Configuration). runTokens a y us) h
 run-more a z z′ (k ∷ ks) us e = by (λ y h. run-more a y z′ ks us h) (stepToken a z k) e
   where
-    by : ((y : State) → runTokens a y ks ≡ through z′ → runTokens a y (ks ++ us) ≡ runTokens a z′ us) → (x : RunAnswer) →
+    by : ((y : Configuration) → runTokens a y ks ≡ through z′ → runTokens a y (ks ++ us) ≡ runTokens a z′ us) → (x : RunAnswer) →
         onward-token z (k ∷ ks) x (λ y. runTokens a y ks) ≡ through z′ → onward-token z (k ∷ (ks ++ us)) x (λ y. runTokens a y (ks ++ us)) ≡ runTokens a z′ us
     by f (took y) e = f y e
     by f (refused n) e = absurd (let q : _≡_ {A = ℕ} 0 1 = cc in omega arith)
 
-through-one : (z z′ : State) → through z ≡ through z′ → z ≡ z′
+through-one : (z z′ : Configuration) → through z ≡ through z′ → z ≡ z′
 through-one z z′ e = cc
 
 nil-of : (l : List ℕ) → length l ≡ 0 → l ≡ []
@@ -63,13 +63,13 @@ some-length [] h = absurd (h refl)
 some-length (x ∷ l) h = (length l, refl)
 
 -- after the tokens ts the bytes `left` are still to be read; they were printed as p, and the run stands at `last`
-module _ (a : Sheet) (ok : Passed a) (s : List ℕ) (more : Bool) (room : ℕ) (ts : List Tok) (left : List ℕ) (s-is : s ≡ flat ts ++ left) (p : List Piece) (last : State)
+module _ (a : Sheet) (ok : Passed a) (s : List ℕ) (more : Bool) (room : ℕ) (ts : List Tok) (left : List ℕ) (s-is : s ≡ flat ts ++ left) (p : List Piece) (last : Configuration)
     (fits : length (render p) ≤ room) (so : SpelledSoFar a (tokensFor a ts) (state-behind p last .store))
-    (ran : runTokens a fresh-state (tokensFor a ts) ≡ through (state-behind p last)) where
+    (ran : runTokens a fresh-configuration (tokensFor a ts) ≡ through (state-behind p last)) where
   abbrev at : ℕ
   at = length (flat ts)
 
-  abbrev behind : State
+  abbrev behind : Configuration
   behind = state-behind p last
 
   here : drop at s ≡ left
@@ -78,7 +78,7 @@ module _ (a : Sheet) (ok : Passed a) (s : List ℕ) (more : Bool) (room : ℕ) (
   of-run : RunSoFar a ok (tokensFor a ts) (behind .store) so
   of-run = so-far-run a ok (tokensFor a ts) (behind .store) so
 
-  abbrev found : State
+  abbrev found : Configuration
   found = record { control = of-run .control; store = behind .store }
 
   same-state : found ≡ behind
@@ -87,16 +87,16 @@ module _ (a : Sheet) (ok : Passed a) (s : List ℕ) (more : Bool) (room : ℕ) (
   -- the root is closed exactly where the control stands after it
   closed-here : RootClosed a (eventsSoFar so) → last .control ≡ after
   closed-here h =
-      sym (ap (λ (z : State). z .control) same-state) ∙ closed-after a ok (eventsSoFar so) found (of-run .events-run) (letter 0) h
+      sym (ap (λ (z : Configuration). z .control) same-state) ∙ closed-after a ok (eventsSoFar so) found (of-run .events-run) (letter 0) h
 
   here-closed : last .control ≡ after → RootClosed a (eventsSoFar so)
-  here-closed c = after-closed a ok (eventsSoFar so) found (of-run .events-run) (letter 0) (ap (λ (z : State). z .control) same-state ∙ c)
+  here-closed c = after-closed a ok (eventsSoFar so) found (of-run .events-run) (letter 0) (ap (λ (z : Configuration). z .control) same-state ∙ c)
 
   -- the token that comes next
   record Coming (e : Event) : Type 0 where
     pub tok : Tok
     pub rest : List ℕ
-    pub next : Next more left tok rest
+    pub next : NextToken more left tok rest
     pub same : tokenOf a s e ≡ tokenFor a tok
 
   comes : (e : Event) (to : ℕ) → ReadAs more s at (Token e (record { at = to })) → Coming e
@@ -110,23 +110,23 @@ module _ (a : Sheet) (ok : Passed a) (s : List ℕ) (more : Bool) (room : ℕ) (
       }
 
   -- and back
-  reads-next : (t : Tok) (rest : List ℕ) → Next more left t rest →
+  reads-next : (t : Tok) (rest : List ℕ) → NextToken more left t rest →
       ReadAs more s at (Token (eventOf at t) (record { at = at + length (bytes t) })) × (tokenOf a s (eventOf at t) ≡ tokenFor a t)
   reads-next t rest n =
       let stands : drop at s ≡ bytes t ++ rest = here ∙ n .are-bytes in
       (token-reads s at t rest stands (n .good) (n .short) more (n .whole), token-at a s t at rest stands)
 
   -- a token that is taken here, and one that is refused
-  on-token : (t : Tok) (y : State) → stepToken a last (tokenFor a t) ≡ took y → SpelledSoFar a (tokensFor a (ts ++ t ∷ [])) (state-behind p y .store)
+  on-token : (t : Tok) (y : Configuration) → stepToken a last (tokenFor a t) ≡ took y → SpelledSoFar a (tokensFor a (ts ++ t ∷ [])) (state-behind p y .store)
   on-token t y e =
       so-far-iff a ok (tokensFor a (ts ++ t ∷ [])) (state-behind p y .store) .0 (
         y .control,
-        ap (runTokens a fresh-state) (tokens-behind a ts (t ∷ [])) ∙ run-more a fresh-state behind (tokensFor a ts) (tokenFor a t ∷ []) ran
+        ap (runTokens a fresh-configuration) (tokens-behind a ts (t ∷ [])) ∙ run-more a fresh-configuration behind (tokensFor a ts) (tokenFor a t ∷ []) ran
             ∙ ap (λ (x : RunAnswer). onward-token behind (tokenFor a t ∷ []) x (λ z. through z)) (token-frame a p last (tokenFor a t) ∙ ap (answer-behind p) e),
       )
 
   record Took (t : Tok) (m : Store) : Type 0 where
-    pub reached : State
+    pub reached : Configuration
     pub stepped : stepToken a last (tokenFor a t) ≡ took reached
     pub store-is : state-behind p reached .store ≡ m
 
@@ -135,17 +135,17 @@ module _ (a : Sheet) (ok : Passed a) (s : List ℕ) (more : Bool) (room : ℕ) (
       let r = so-far-iff a ok (tokensFor a (ts ++ t ∷ [])) m .1 h in
       by (stepToken a last (tokenFor a t)) refl (r .0)
       (ap (λ (x : RunAnswer). onward-token behind (tokenFor a t ∷ []) x (λ z. through z)) (sym (token-frame a p last (tokenFor a t)))
-      ∙ sym (ap (runTokens a fresh-state) (tokens-behind a ts (t ∷ [])) ∙ run-more a fresh-state behind (tokensFor a ts) (tokenFor a t ∷ []) ran) ∙ r .1)
+      ∙ sym (ap (runTokens a fresh-configuration) (tokens-behind a ts (t ∷ [])) ∙ run-more a fresh-configuration behind (tokensFor a ts) (tokenFor a t ∷ []) ran) ∙ r .1)
     where
       by : (x : RunAnswer) → stepToken a last (tokenFor a t) ≡ x → (c : Control) →
           onward-token behind (tokenFor a t ∷ []) (answer-behind p x) (λ z. through z) ≡ through (record { control = c; store = m }) → Took t m
-      by (took y) e c q = record { reached = y; stepped = e; store-is = ap (λ (z : State). z .store) (through-one (state-behind p y) (record { control = c; store = m }) q) }
+      by (took y) e c q = record { reached = y; stepped = e; store-is = ap (λ (z : Configuration). z .store) (through-one (state-behind p y) (record { control = c; store = m }) q) }
       by (refused n) e c q = absurd (let z : _≡_ {A = ℕ} 0 1 = cc in omega arith)
 
   refused-here : (t : Tok) (n : ℕ) → (stepToken a last (tokenFor a t) ≡ refused n) ↔ TokenRefused so (tokenFor a t) n
   refused-here t n = (
-    (λ e. i .0 (ap (λ (z : State). stepToken a z (tokenFor a t)) same-state ∙ token-frame a p last (tokenFor a t) ∙ ap (answer-behind p) e)),
-    (λ d. by (stepToken a last (tokenFor a t)) (sym (token-frame a p last (tokenFor a t)) ∙ ap (λ (z : State). stepToken a z (tokenFor a t)) (sym same-state) ∙ i .1 d)),
+    (λ e. i .0 (ap (λ (z : Configuration). stepToken a z (tokenFor a t)) same-state ∙ token-frame a p last (tokenFor a t) ∙ ap (answer-behind p) e)),
+    (λ d. by (stepToken a last (tokenFor a t)) (sym (token-frame a p last (tokenFor a t)) ∙ ap (λ (z : Configuration). stepToken a z (tokenFor a t)) (sym same-state) ∙ i .1 d)),
   )
     where
       i : (stepToken a found (tokenFor a t) ≡ refused n) ↔ TokenRefused so (tokenFor a t) n
@@ -156,7 +156,7 @@ module _ (a : Sheet) (ok : Passed a) (s : List ℕ) (more : Bool) (room : ℕ) (
       by (refused j) e = let h : j ≡ n = cc in ap refused h
 
   -- what is printed with one token more
-  longer : (y : State) → length (render (state-behind p y .store .env .out)) ≡ length (render p) + length (outputOf y)
+  longer : (y : Configuration) → length (render (state-behind p y .store .env .out)) ≡ length (render p) + length (outputOf y)
   longer y = ap length (render-append p (outOf y)) ∙ length-append (render p) (outputOf y)
 
   abbrev leftover : ℕ
@@ -218,7 +218,7 @@ module _ (a : Sheet) (ok : Passed a) (s : List ℕ) (more : Bool) (room : ℕ) (
   why-stop n (no-space t rest nx m′ h k over) =
       let d = token-on t m′ h in
       let r = reads-next t rest nx in
-      let y : State = d .reached in
+      let y : Configuration = d .reached in
       full (eventOf at t) (at + length (bytes t)) (r .0)
       (no-room-iff a last leftover (tokenOf a s (eventOf at t)) .1
       (y, ap (stepToken a last) (r .1) ∙ d .stepped, omega (arith, k, ap (λ (m : Store). m .env .count) (d .store-is)), omega (arith, over, longer y, ap (λ (m : Store). length (render (m .env .out))) (d .store-is), fits)))
@@ -242,20 +242,20 @@ module _ (a : Sheet) (ok : Passed a) (s : List ℕ) (more : Bool) (room : ℕ) (
   why-stop n (too-many t rest nx m′ h over) =
       let d = token-on t m′ h in
       let r = reads-next t rest nx in
-      let y : State = d .reached in
+      let y : Configuration = d .reached in
       stops (eventOf at t) (at + length (bytes t)) 30 (r .0)
       (refuses-iff a last leftover (tokenOf a s (eventOf at t)) 30 .1
       (inr (refl, (y, ap (stepToken a last) (r .1) ∙ d .stepped, omega (arith, over, ap (λ (m : Store). m .env .count) (d .store-is))))))
 
 module _ (a : Sheet) (ok : Passed a) (s : List ℕ) (more : Bool) (room : ℕ) where
-  behind-out : (p : List Piece) (z : State) → outOf z ≡ [] → state-behind p z .store .env .out ≡ p
+  behind-out : (p : List Piece) (z : Configuration) → outOf z ≡ [] → state-behind p z .store .env .out ≡ p
   behind-out p z h = ap (λ (l : List Piece). p ++ l) h ∙ append-nil p
 
   explain : (r : Result) → Called a s more room fresh-held r → Explained a s more room (r .number) (r .taken) (r .output) (countOf (r .held .run))
   explain r d =
       let w = run-does a s d in
       let p : List Piece = w .printed in
-      let last : State = r .held .run in
+      let last : Configuration = r .held .run in
       let ks : List RunToken = tokensOf a s (w .events) in
       let k = read-tokens more s 0 (w .events) (r .taken) (w .reads) in
       let ts : List Tok = k .toks in
@@ -264,9 +264,9 @@ module _ (a : Sheet) (ok : Passed a) (s : List ℕ) (more : Bool) (room : ℕ) w
       let left : List ℕ = drop (r .taken) s in
       let n : r .taken ≡ length (flat ts) = omega (arith, k .ends) in
       let same : ks ≡ tokensFor a ts = ap (tokensOf a s) i ∙ tokens-at a s ts 0 left e in
-      let ran : runTokens a fresh-state (tokensFor a ts) ≡ through (state-behind p last) =
-      ap (runTokens a fresh-state) (sym same) ∙ steps-run a fresh-state ks last p [] (w .steps) in
-      let quiet : outOf last ≡ [] = steps-silent a fresh-state ks last p refl (w .steps) in
+      let ran : runTokens a fresh-configuration (tokensFor a ts) ≡ through (state-behind p last) =
+      ap (runTokens a fresh-configuration) (sym same) ∙ steps-run a fresh-configuration ks last p [] (w .steps) in
+      let quiet : outOf last ≡ [] = steps-silent a fresh-configuration ks last p refl (w .steps) in
       let o : state-behind p last .store .env .out ≡ p = behind-out p last quiet in
       let f = w .fits in
       let so = so-far-iff a ok (tokensFor a ts) (state-behind p last .store) .0 (last .control, ran) in
@@ -282,7 +282,7 @@ module _ (a : Sheet) (ok : Passed a) (s : List ℕ) (more : Bool) (room : ℕ) w
         are-bytes = e;
         store = state-behind p last .store;
         so-far = so;
-        counts = steps-count a fresh-state ks last p (omega arith) (w .steps);
+        counts = steps-count a fresh-configuration ks last p (omega arith) (w .steps);
         has-room = omega (arith, f, ap (λ (l : List Piece). length (render l)) o);
         why = stop-why a ok s more room ts left e p last f so ran (r .number) st;
         is-taken = n;
@@ -305,23 +305,23 @@ module _ (a : Sheet) (ok : Passed a) (s : List ℕ) (more : Bool) (room : ℕ) w
       subst (Reads more s 0 es) to (subst (λ (l : List ℕ). Reads more l 0 es (0 + length (flat ts))) (sym (x .are-bytes)) (reads-flat more ts [] (x .left) (x .good) (x .short) (x .whole))) in
       let same : tokensOf a s es ≡ tokensFor a ts = tokens-at a s ts 0 (x .left) (x .are-bytes) in
       let r = so-far-iff a ok (tokensFor a ts) (x .store) .1 (x .so-far) in
-      let st = run-steps a fresh-state (tokensOf a s es) [] (record { control = r .0; store = x .store }) (ap (runTokens a fresh-state) same ∙ r .1) (x .counts) in
+      let st = run-steps a fresh-configuration (tokensOf a s es) [] (record { control = r .0; store = x .store }) (ap (runTokens a fresh-configuration) same ∙ r .1) (x .counts) in
       let p : List Piece = st .printed in
-      let last : State = st .last in
-      let quiet : outOf last ≡ [] = steps-silent a fresh-state (tokensOf a s es) last p refl (st .steps) in
-      let is : x .store ≡ state-behind p last .store = ap (λ (z : State). z .store) (st .is) in
+      let last : Configuration = st .last in
+      let quiet : outOf last ≡ [] = steps-silent a fresh-configuration (tokensOf a s es) last p refl (st .steps) in
+      let is : x .store ≡ state-behind p last .store = ap (λ (z : Configuration). z .store) (st .is) in
       let out : render (x .store .env .out) ≡ render p = ap (λ (m : Store). render (m .env .out)) is ∙ ap render (behind-out p last quiet) in
-      let ran : runTokens a fresh-state (tokensFor a ts) ≡ through (state-behind p last) = r .1 ∙ ap through (st .is) in
+      let ran : runTokens a fresh-configuration (tokensFor a ts) ≡ through (state-behind p last) = r .1 ∙ ap through (st .is) in
       let fits : length (render p) ≤ room = omega (arith, x .has-room, ap length out) in
       let stop = by ts (x .left) (x .are-bytes) p last fits (x .store) is (x .so-far) ran (x .why) in
       record {
         result = record { number = n; taken = length (flat ts); output = render p; held = handed n last };
-        called = steps-stop a s more es 0 room fresh-state (length (flat ts)) last p n rd (st .steps) fits stop;
+        called = steps-stop a s more es 0 room fresh-configuration (length (flat ts)) last p n rd (st .steps) fits stop;
         answers = record { is-number = refl; is-taken = sym (x .is-taken); is-output = sym (x .is-output ∙ out); is-visits = sym (x .is-visits ∙ ap (λ (m : Store). m .env .count) is) };
       }
     where
-      by : (ts : List Tok) (left : List ℕ) → s ≡ flat ts ++ left → (p : List Piece) (last : State) → length (render p) ≤ room → (m : Store) → m ≡ state-behind p last .store →
-          (so : SpelledSoFar a (tokensFor a ts) m) → runTokens a fresh-state (tokensFor a ts) ≡ through (state-behind p last) → Why a more room ts left so n →
+      by : (ts : List Tok) (left : List ℕ) → s ≡ flat ts ++ left → (p : List Piece) (last : Configuration) → length (render p) ≤ room → (m : Store) → m ≡ state-behind p last .store →
+          (so : SpelledSoFar a (tokensFor a ts) m) → runTokens a fresh-configuration (tokensFor a ts) ≡ through (state-behind p last) → Why a more room ts left so n →
           Stop a s more (length (flat ts)) (room - length (render p)) last n
       by ts left e p last f m i so ran w =
           subst (λ (m : Store). (so : SpelledSoFar a (tokensFor a ts) m) → Why a more room ts left so n → Stop a s more (length (flat ts)) (room - length (render p)) last n) (sym i)
@@ -369,7 +369,7 @@ explained-exactly a ok s more room r d n t o v = (
 
 -- a stream of which a token is refused, from the run over the tokens before it
 pub halt-explained : (a : Sheet) → Passed a → (s : List ℕ) (more : Bool) (room n taken : ℕ) (o : List ℕ) (ts : List Tok) → AllGood ts → AllShort ts → (t : Tok) (rest : List ℕ) → AllWhole more ts (bytes t ++ rest) →
-    Next more (bytes t ++ rest) t rest → s ≡ flat ts ++ (bytes t ++ rest) → (z : State) → runTokens a fresh-state (tokensFor a ts) ≡ through z → stepToken a z (tokenFor a t) ≡ refused n → countOf z ≤ mostVisits →
+    NextToken more (bytes t ++ rest) t rest → s ≡ flat ts ++ (bytes t ++ rest) → (z : Configuration) → runTokens a fresh-configuration (tokensFor a ts) ≡ through z → stepToken a z (tokenFor a t) ≡ refused n → countOf z ≤ mostVisits →
     length (flat ts) ≡ taken → render (outOf z) ≡ o → length o ≤ room → Explained a s more room n taken o (countOf z)
 halt-explained a ok s more room n taken o ts g h t rest l next e z ran r c at w f =
     let so = so-far-iff a ok (tokensFor a ts) (z .store) .0 (z .control, ran) in
@@ -386,7 +386,7 @@ halt-explained a ok s more room n taken o ts g h t rest l next e z ran r c at w 
       so-far = so;
       counts = c;
       has-room = omega (arith, f, ap length w);
-      why = next-refused t rest n next (token-refused-iff a ok (tokensFor a ts) (z .store) so d (tokenFor a t) n .0 (ap (λ (x : State). stepToken a x (tokenFor a t)) same ∙ r));
+      why = next-refused t rest n next (token-refused-iff a ok (tokensFor a ts) (z .store) so d (tokenFor a t) n .0 (ap (λ (x : Configuration). stepToken a x (tokenFor a t)) same ∙ r));
       is-taken = sym at;
       is-output = sym w;
       is-visits = refl;

@@ -20,7 +20,7 @@ use Rattle.runs.specs.Visits.{grammar}
 use Rattle.runs.specs.Events.{Event, starts, ends, letter}
 use Rattle.runs.specs.Acts.{Act, start-tag, bracket-acts, Store, acts, store-behind}
 use Rattle.runs.specs.Way.{Way, endWay, atomWay}
-use Rattle.runs.specs.Machine.{Open, at-place, at-start, Control, before, inside, after, Turn, refuse, go, most, opening-up, start-at, productionFor, start-by, root-by, end-by, same-tag, own-tag, char-by, move, State, Answer, took, refused, acted, turned, step, Outcome, finished, stopped, onward, answered, run}
+use Rattle.runs.specs.Machine.{Open, at-place, at-start, Control, before, inside, after, Turn, refuse, go, most, opening-up, start-at, productionFor, start-by, root-by, end-by, same-tag, own-tag, char-by, move, Configuration, Answer, took, refused, acted, turned, step, Outcome, finished, stopped, onward, answered, run}
 use Rattle.runs.specs.Spells.{Token, eventsOfToken, isBlank, passesAt, unless-blank, stepToken, TokenOutcome, through, onward-token, runTokens}
 use Rattle.runs.proofs.Frame.{acts-frame}
 use Rattle.runs.proofs.Counts.{acts-count}
@@ -28,7 +28,7 @@ use Rattle.runs.proofs.Moves.{run-through, moves-run}
 use Rattle.runs.proofs.Spells.{token-refused}
 
 -- a state after more output
-abbrev pub state-behind : List Piece → State → State
+abbrev pub state-behind : List Piece → Configuration → Configuration
 state-behind o z = record { control = z .control; store = store-behind o (z .store) }
 
 abbrev pub answer-behind : List Piece → Answer → Answer
@@ -44,21 +44,21 @@ module _ (s : Sheet) (o : List Piece) where
       by none = refl
       by (some m′) = refl
 
-  pub step-frame : (z : State) (x : Event) → step s (state-behind o z) x ≡ answer-behind o (step s z x)
+  pub step-frame : (z : Configuration) (x : Event) → step s (state-behind o z) x ≡ answer-behind o (step s z x)
   step-frame z x = turned-frame (z .store) (move (grammar s) (s .start-nonterminal) most (z .control) x)
 
-  run-frame : (z : State) (xs : List Event) → answered (run s (state-behind o z) xs) ≡ answer-behind o (answered (run s z xs))
+  run-frame : (z : Configuration) (xs : List Event) → answered (run s (state-behind o z) xs) ≡ answer-behind o (answered (run s z xs))
   run-frame z [] = refl
   run-frame z (x ∷ xs) =
       ap (λ (y : Answer). answered (onward (state-behind o z) (x ∷ xs) y (λ z′. run s z′ xs))) (step-frame z x) ∙ by (λ z′. run-frame z′ xs) (step s z x)
     where
-      by : ((z′ : State) → answered (run s (state-behind o z′) xs) ≡ answer-behind o (answered (run s z′ xs))) → (y : Answer) →
+      by : ((z′ : Configuration) → answered (run s (state-behind o z′) xs) ≡ answer-behind o (answered (run s z′ xs))) → (y : Answer) →
           answered (onward (state-behind o z) (x ∷ xs) (answer-behind o y) (λ z′. run s z′ xs))
           ≡ answer-behind o (answered (onward z (x ∷ xs) y (λ z′. run s z′ xs)))
       by f (took z′) = f z′
       by f (refused n) = refl
 
-  pub token-frame : (z : State) (k : Token) → stepToken s (state-behind o z) k ≡ answer-behind o (stepToken s z k)
+  pub token-frame : (z : Configuration) (k : Token) → stepToken s (state-behind o z) k ≡ answer-behind o (stepToken s z k)
   token-frame z k = by (isBlank k && passesAt (grammar s) (z .control))
     where
       by : (b : Bool) → unless-blank b (state-behind o z) (answered (run s (state-behind o z) (eventsOfToken k)))
@@ -66,28 +66,28 @@ module _ (s : Sheet) (o : List Piece) where
       by true = refl
       by false = run-frame z (eventsOfToken k)
 
-abbrev pub countOf : State → ℕ
+abbrev pub countOf : Configuration → ℕ
 countOf z = z .store .env .count
 
 module _ (s : Sheet) where
-  run-count : (z : State) (xs : List Event) (z′ : State) → run s z xs ≡ finished z′ → countOf z ≤ countOf z′
+  run-count : (z : Configuration) (xs : List Event) (z′ : Configuration) → run s z xs ≡ finished z′ → countOf z ≤ countOf z′
   run-count z xs z′ e =
       let t = moves-run s (z .control) (z .store) xs z′ e in
       let h = acts-count s (t .row) (z .store) (z′ .store) (t .done) in
       omega arith
 
-  pub token-count : (z : State) (k : Token) (z′ : State) → stepToken s z k ≡ took z′ → countOf z ≤ countOf z′
+  pub token-count : (z : Configuration) (k : Token) (z′ : Configuration) → stepToken s z k ≡ took z′ → countOf z ≤ countOf z′
   token-count z k z′ e = by (isBlank k && passesAt (grammar s) (z .control)) e
     where
       by : (b : Bool) → unless-blank b z (answered (run s z (eventsOfToken k))) ≡ took z′ → countOf z ≤ countOf z′
       by true e = let h : z ≡ z′ = cc in let i : countOf z ≡ countOf z′ = ap countOf h in omega arith
       by false e = run-count z (eventsOfToken k) z′ (run-through (run s z (eventsOfToken k)) z′ e)
 
-  pub tokens-count : (z : State) (ks : List Token) (z′ : State) → runTokens s z ks ≡ through z′ → countOf z ≤ countOf z′
+  pub tokens-count : (z : Configuration) (ks : List Token) (z′ : Configuration) → runTokens s z ks ≡ through z′ → countOf z ≤ countOf z′
   tokens-count z [] z′ e = let h : z ≡ z′ = cc in let i : countOf z ≡ countOf z′ = ap countOf h in omega arith
   tokens-count z (k ∷ ks) z′ e = by (λ y h. tokens-count y ks z′ h) (stepToken s z k) refl e
     where
-      by : ((y : State) → runTokens s y ks ≡ through z′ → countOf y ≤ countOf z′) → (x : Answer) → stepToken s z k ≡ x →
+      by : ((y : Configuration) → runTokens s y ks ≡ through z′ → countOf y ≤ countOf z′) → (x : Answer) → stepToken s z k ≡ x →
           onward-token z (k ∷ ks) x (λ y. runTokens s y ks) ≡ through z′ → countOf z ≤ countOf z′
       by f (took y) t e = let h = token-count z k y t in let i = f y e in omega arith
       by f (refused n) t e = absurd (let y : _≡_ {A = ℕ} 0 1 = cc in omega arith)
@@ -136,7 +136,7 @@ module _ (g : List Production) (n : ℕ) where
   move-number after x = (omega arith, omega arith)
 
 module _ (s : Sheet) where
-  pub step-number : (z : State) (x : Event) (j : ℕ) → step s z x ≡ refused j → (22 ≤ j) × (j ≤ 26)
+  pub step-number : (z : Configuration) (x : Event) (j : ℕ) → step s z x ≡ refused j → (22 ≤ j) × (j ≤ 26)
   step-number z x j e =
       by (move (grammar s) (s .start-nonterminal) most (z .control) x) (move-number (grammar s) (s .start-nonterminal) (z .control) x) e
     where
@@ -148,15 +148,15 @@ module _ (s : Sheet) where
       by (refuse n) h e = let i : n ≡ j = cc in (omega (arith, h .0), omega (arith, h .1))
       by (go bs c) h e = acted-number c (acts s bs (z .store)) e
 
-  run-number : (z : State) (xs : List Event) (j : ℕ) (z′ : State) (left : List Event) → run s z xs ≡ stopped j z′ left → (22 ≤ j) × (j ≤ 26)
+  run-number : (z : Configuration) (xs : List Event) (j : ℕ) (z′ : Configuration) (left : List Event) → run s z xs ≡ stopped j z′ left → (22 ≤ j) × (j ≤ 26)
   run-number z [] j z′ left e = absurd (let y : _≡_ {A = ℕ} 0 1 = cc in omega arith)
   run-number z (x ∷ xs) j z′ left e = by (λ y h. run-number y xs j z′ left h) (step s z x) refl e
     where
-      by : ((y : State) → run s y xs ≡ stopped j z′ left → (22 ≤ j) × (j ≤ 26)) → (y : Answer) → step s z x ≡ y →
+      by : ((y : Configuration) → run s y xs ≡ stopped j z′ left → (22 ≤ j) × (j ≤ 26)) → (y : Answer) → step s z x ≡ y →
           onward z (x ∷ xs) y (λ y. run s y xs) ≡ stopped j z′ left → (22 ≤ j) × (j ≤ 26)
       by f (took y) t e = f y e
       by f (refused n) t e = let i : n ≡ j = cc in step-number z x j (t ∙ ap refused i)
 
   -- a token is refused with a number from 22 to 26
-  pub token-number : (z : State) (k : Token) (j : ℕ) → stepToken s z k ≡ refused j → (22 ≤ j) × (j ≤ 26)
+  pub token-number : (z : Configuration) (k : Token) (j : ℕ) → stepToken s z k ≡ refused j → (22 ≤ j) × (j ≤ 26)
   token-number z k j e = let t = token-refused s z k j e in run-number z (eventsOfToken k) j (t .1 .0) (t .1 .1) (t .1 .2)

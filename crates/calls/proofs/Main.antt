@@ -18,7 +18,7 @@ use Rattle.output.specs.Escape.{Piece, render}
 use Rattle.sheet.specs.Sheet.{Sheet}
 use Rattle.runs.specs.Visits.{Env}
 use Rattle.runs.specs.Parse.{yield}
-use Rattle.runs.specs.Machine.{Control, after, State, fresh-state}
+use Rattle.runs.specs.Machine.{Control, after, Configuration, fresh-configuration}
 use Rattle.runs.specs.Taken.{Passed, closed-with}
 use Rattle.runs.specs.Spells.{Token, eventsOfMarks, Spelled, through, runTokens}
 use Rattle.runs.proofs.Main.{to-tree, parsed-count}
@@ -44,7 +44,7 @@ module _ (a : Sheet) (s : List ℕ) where
       ap₂ (λ (k : Token) (ks : List Token). k ∷ ks) (token-at a s t at (flat ts ++ r) e₁) (tokens-at ts (at + length (bytes t)) r d)
 
 -- a state that holds no output
-quiet : (z : State) → z .store .env .out ≡ [] → silent z ≡ z
+quiet : (z : Configuration) → z .store .env .out ≡ [] → silent z ≡ z
 quiet z h =
     ap (λ (l : List Piece). record { control = z .control; store = record { kept = z .store .kept; env = record { values = z .store .env .values; echo = z .store .env .echo; out = l; count = z .store .env .count } } })
     (sym h)
@@ -55,27 +55,27 @@ length-nil (x ∷ l) e = absurd (omega (arith, e))
 
 module _ (a : Sheet) (ok : Passed a) (s : List ℕ) (room : ℕ) where
   -- the state that steps from fresh come to, where the root is closed
-  last-is : (v : Env) (last : State) (p : List Piece) → last .store .env .out ≡ [] → state-behind p last ≡ closed-with v →
+  last-is : (v : Env) (last : Configuration) (p : List Piece) → last .store .env .out ≡ [] → state-behind p last ≡ closed-with v →
       (last ≡ closed-with (without-output v)) × (v .out ≡ p) × (v .count ≡ countOf last)
   last-is v last p h e =
-      (sym (quiet last h) ∙ ap silent e, sym (ap (λ (z : State). z .store .env .out) e) ∙ ap (λ (l : List Piece). p ++ l) h ∙ append-nil p, sym (ap countOf e))
+      (sym (quiet last h) ∙ ap silent e, sym (ap (λ (z : Configuration). z .store .env .out) e) ∙ ap (λ (l : List Piece). p ++ l) h ∙ append-nil p, sym (ap countOf e))
 
-  ended-is : (v : Env) (to : ℕ) (p : List Piece) (last : State) → to ≡ length s → v .out ≡ p → last ≡ closed-with (without-output v) → ended to p last ≡ accepted s v
+  ended-is : (v : Env) (to : ℕ) (p : List Piece) (last : Configuration) → to ≡ length s → v .out ≡ p → last ≡ closed-with (without-output v) → ended to p last ≡ accepted s v
   ended-is v to p last n o l =
       ap₂ (λ (j : ℕ) (x : List Piece). ended j x last) n (sym o)
-      ∙ ap (λ (z : State). record { number = 0; taken = length s; output = render (v .out); held = record { run = z; closing = some 0 } }) l
+      ∙ ap (λ (z : Configuration). record { number = 0; taken = length s; output = render (v .out); held = record { run = z; closing = some 0 } }) l
 
   to-accepted : (r : Result) → Called a s false room fresh-held r → r .number ≡ 0 → (v : Env) × AcceptedIn a s room r v
   to-accepted r d h =
       let n = run-ends a s d h in
       let es : List Event = n .events in
-      let run : runTokens a fresh-state (tokensOf a s es) ≡ through (state-behind (n .printed) (n .last)) =
-      steps-run a fresh-state (tokensOf a s es) (n .last) (n .printed) [] (n .steps) in
+      let run : runTokens a fresh-configuration (tokensOf a s es) ≡ through (state-behind (n .printed) (n .last)) =
+      steps-run a fresh-configuration (tokensOf a s es) (n .last) (n .printed) [] (n .steps) in
       let w = through-spells a (tokensOf a s es) (state-behind (n .printed) (n .last)) run in
       let t = to-tree a (eventsOfMarks (w .0)) (state-behind (n .printed) (n .last)) (w .1) (n .root-closed) in
       let v : Env = t .0 in
-      let l = last-is v (n .last) (n .printed) (steps-silent a fresh-state (tokensOf a s es) (n .last) (n .printed) refl (n .steps)) (t .2) in
-      let c = steps-count a fresh-state (tokensOf a s es) (n .last) (n .printed) (omega arith) (n .steps) in
+      let l = last-is v (n .last) (n .printed) (steps-silent a fresh-configuration (tokensOf a s es) (n .last) (n .printed) refl (n .steps)) (t .2) in
+      let c = steps-count a fresh-configuration (tokensOf a s es) (n .last) (n .printed) (omega arith) (n .steps) in
       let k = read-tokens false s 0 es (n .to) (n .reads) in
       let ts : List Tok = k .toks in
       let p = k .events in
@@ -93,7 +93,7 @@ module _ (a : Sheet) (ok : Passed a) (s : List ℕ) (room : ℕ) where
             short = k .short;
             whole = subst (AllWhole false ts) nil (k .whole);
             are-bytes = b;
-            spells = spelled-iff a ok (tokensFor a ts) v .0 (ap (runTokens a fresh-state) (sym same) ∙ run ∙ ap through (t .2));
+            spells = spelled-iff a ok (tokensFor a ts) v .0 (ap (runTokens a fresh-configuration) (sym same) ∙ run ∙ ap through (t .2));
             counts = omega (arith, c, l .2);
           },
           omega (arith, ap length o, n .fits),
@@ -108,12 +108,12 @@ module _ (a : Sheet) (ok : Passed a) (s : List ℕ) (room : ℕ) where
       let rd : Reads false s 0 es (0 + length (flat ts)) =
       subst (λ (l : List ℕ). Reads false l 0 es (0 + length (flat ts))) (append-nil (flat ts) ∙ sym (x .are-bytes)) (reads-flat false ts [] [] (x .good) (x .short) (x .whole)) in
       let same : tokensOf a s es ≡ tokensFor a ts = tokens-at a s ts 0 [] (x .are-bytes ∙ sym (append-nil (flat ts))) in
-      let st = run-steps a fresh-state (tokensOf a s es) [] (closed-with v) (ap (runTokens a fresh-state) same ∙ spelled-iff a ok (tokensFor a ts) v .1 (x .spells)) (x .counts) in
-      let l = last-is v (st .last) (st .printed) (steps-silent a fresh-state (tokensOf a s es) (st .last) (st .printed) refl (st .steps)) (sym (st .is)) in
+      let st = run-steps a fresh-configuration (tokensOf a s es) [] (closed-with v) (ap (runTokens a fresh-configuration) same ∙ spelled-iff a ok (tokensFor a ts) v .1 (x .spells)) (x .counts) in
+      let l = last-is v (st .last) (st .printed) (steps-silent a fresh-configuration (tokensOf a s es) (st .last) (st .printed) refl (st .steps)) (sym (st .is)) in
       let n : 0 + length (flat ts) ≡ length s = omega (arith, ap length (x .are-bytes)) in
       let o : render (v .out) ≡ render (st .printed) = ap render (l .1) in
       let e : drop (0 + length (flat ts)) s ≡ [] = ap₂ (λ (i : ℕ) (x : List ℕ). drop i x) n (sym (append-nil s)) ∙ drop-append-seam s [] in
-      let d = ends-run a s es 0 room fresh-state (0 + length (flat ts)) (st .last) (st .printed) rd (st .steps) (ap (λ (z : State). z .control) (l .0)) (ap length e)
+      let d = ends-run a s es 0 room fresh-configuration (0 + length (flat ts)) (st .last) (st .printed) rd (st .steps) (ap (λ (z : Configuration). z .control) (l .0)) (ap length e)
       (omega (arith, ap length o, f)) in
       subst (Called a s false room fresh-held)
       (ended-is v (0 + length (flat ts)) (st .printed) (st .last) n (l .1) (l .0)) d
@@ -131,9 +131,9 @@ accepted-one a ok s v v′ x x′ =
     let e : x .tokens ≡ x′ .tokens = flat-one (x .tokens) (x′ .tokens) (x .good) (x′ .good) (x .whole) (x′ .whole) (sym (x .are-bytes) ∙ x′ .are-bytes) in
     let r = spelled-iff a ok (tokensFor a (x .tokens)) v .1 (x .spells) in
     let r′ = spelled-iff a ok (tokensFor a (x′ .tokens)) v′ .1 (x′ .spells) in
-    let q : through (closed-with v) ≡ through (closed-with v′) = sym r ∙ ap (λ (ts : List Tok). runTokens a fresh-state (tokensFor a ts)) e ∙ r′ in
+    let q : through (closed-with v) ≡ through (closed-with v′) = sym r ∙ ap (λ (ts : List Tok). runTokens a fresh-configuration (tokensFor a ts)) e ∙ r′ in
     let p : closed-with v ≡ closed-with v′ = cc in
-    ap (λ (z : State). z .store .env) p
+    ap (λ (z : Configuration). z .store .env) p
 
 -- the count is twice the number of nodes of the tree
 pub accepted-count : (a : Sheet) → TwiceTheNodes a

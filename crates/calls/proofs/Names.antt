@@ -13,7 +13,7 @@ use Rattle.tokens.specs.Tokens.{Ref, amp, lt, gt, apos, quot, stands}
 use Rattle.sheet.specs.Sheet.{Sheet}
 use Rattle.runs.specs.Execute.{nameOf}
 use Rattle.runs.specs.Lookup.{orLater}
-use Rattle.runs.specs.Machine.{State}
+use Rattle.runs.specs.Machine.{Configuration}
 use Rattle.runs.specs.Spells.{literal, reference, stepToken}
 use Rattle.calls.specs.Names.{sameName, tagNamed}
 
@@ -61,7 +61,7 @@ none-named (m ∷ ms) n e t h q = by (λ i u. none-named ms n i u) (sameName m n
     by f false i e zero h q = let w : sameName m n ≡ true = ap (sameName m) (sym q) ∙ same-self m in let z : _≡_ {A = ℕ} 0 1 = cc in omega arith
     by f false i e (suc t) h q = f (later (tagNamed ms n) refl e) t (omega arith) q
 
-pub reference-is : (a : Sheet) (z : State) (x : Ref) → stepToken a z (reference (stands x)) ≡ stepToken a z (literal (stands x))
+pub reference-is : (a : Sheet) (z : Configuration) (x : Ref) → stepToken a z (reference (stands x)) ≡ stepToken a z (literal (stands x))
 reference-is a z amp = refl
 reference-is a z lt = refl
 reference-is a z gt = refl

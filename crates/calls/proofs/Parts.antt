@@ -22,7 +22,7 @@ use Rattle.tokens.specs.Tokens.{bytes, front}
 use Rattle.tokens.specs.Stream.{ReadAs}
 use Rattle.tokens.specs.Parts.{CutNumber}
 use Rattle.sheet.specs.Sheet.{Sheet}
-use Rattle.runs.specs.Machine.{Control, before, inside, after, State, took, refused}
+use Rattle.runs.specs.Machine.{Control, before, inside, after, Configuration, took, refused}
 use Rattle.runs.specs.Spells.{stepToken}
 use Rattle.calls.specs.Names.{tokenOf}
 use Rattle.runs.specs.Visits.{mostVisits}
@@ -36,8 +36,8 @@ use Rattle.calls.proofs.Frame.{countOf}
 use Rattle.calls.proofs.Steps.{RunToken, RunAnswer, takes-one, one-takes, refuses-over}
 
 -- more room changes nothing where there is enough, and no refusal
-module _ (a : Sheet) (z : State) (room extra : ℕ) (k : RunToken) where
-  taken-in-more : (z′ : State) (w : List ℕ) → oneToken a z room k ≡ taken z′ w → (oneToken a z (room + extra) k ≡ taken z′ w) × (length w ≤ room)
+module _ (a : Sheet) (z : Configuration) (room extra : ℕ) (k : RunToken) where
+  taken-in-more : (z′ : Configuration) (w : List ℕ) → oneToken a z room k ≡ taken z′ w → (oneToken a z (room + extra) k ≡ taken z′ w) × (length w ≤ room)
   taken-in-more z′ w e =
       let o = takes-one a z room k z′ w e in (
         one-takes a z (room + extra) k (o .reached) (o .stepped) (o .counts) (omega (arith, o .fits)) ∙ ap₂ taken (sym (o .silenced)) (sym (o .writes)),
@@ -47,7 +47,7 @@ module _ (a : Sheet) (z : State) (room extra : ℕ) (k : RunToken) where
   refused-in-more : (n : ℕ) → oneToken a z room k ≡ refuses n → oneToken a z (room + extra) k ≡ refuses n
   refused-in-more n e = by (stepToken a z k) e
     where
-      by-tests : (y : State) (c f f′ : Bool) → limited y c f ≡ refuses n → limited y c f′ ≡ refuses n
+      by-tests : (y : Configuration) (c f f′ : Bool) → limited y c f ≡ refuses n → limited y c f′ ≡ refuses n
       by-tests y false f f′ e = e
       by-tests y true false f′ e = absurd (let x : _≡_ {A = ℕ} 0 1 = cc in omega arith)
       by-tests y true true f′ e = absurd (let x : _≡_ {A = ℕ} 0 1 = cc in omega arith)
@@ -109,7 +109,7 @@ module _ (a : Sheet) (s r : List ℕ) (b more : Bool) (told : Told b r more) (ex
       by (inr k) = absurd (l (k .0))
 
   -- where the part's call stops open, the whole's goes on from there
-  from-here : (at room : ℕ) (z : State) (R : Result) (n : ℕ) → Runs a (s ++ r) more at (room + extra) z R → Onward room (stopped-at n at z) R none
+  from-here : (at room : ℕ) (z : Configuration) (R : Result) (n : ℕ) → Runs a (s ++ r) more at (room + extra) z R → Onward room (stopped-at n at z) R none
   from-here at room z R n d = (R, subst (λ (m : ℕ). Runs a (s ++ r) more at m z R) (omega arith) d, refl)
 
   lift : (room : ℕ) (w : List ℕ) (r₁ R R′ : Result) (c : Option ℕ) → length w ≤ room → R ≡ after-writing w R′ → Onward (room - length w) r₁ R′ c →
@@ -123,7 +123,7 @@ module _ (a : Sheet) (s r : List ℕ) (b more : Bool) (told : Told b r more) (ex
   lift room w r₁ R R′ (some n) h e (inr c) = inr (record { number = c .number; had = c .had; cut = c .cut; stands = c .stands; is = e ∙ ap (after-writing w) (c .is) })
 
   -- where the part's call stops at a token that is only begun
-  at-begun : (at room : ℕ) (z : State) (R : Result) (n : ℕ) → ReadAs b s at Begun → numberAt b (length (drop at s)) (z .control) Begun ≡ some n →
+  at-begun : (at room : ℕ) (z : Configuration) (R : Result) (n : ℕ) → ReadAs b s at Begun → numberAt b (length (drop at s)) (z .control) Begun ≡ some n →
       Runs a (s ++ r) more at (room + extra) z R → Onward room (stopped-at n at z) R (handed n z .closing)
   at-begun at room z R n m q d = by b refl told
     where
@@ -145,7 +145,7 @@ module _ (a : Sheet) (s r : List ℕ) (b more : Bool) (told : Told b r more) (ex
           (inl (to-number a (s ++ r) more at (room + extra) z R Begun n k (split a (s ++ r) more d Begun (subst (λ (y : List ℕ). ReadAs more y at Begun) w (subst (λ (x : Bool). ReadAs x s at Begun) t m)))))
 
   -- where it stops at a token that can only be too long
-  at-long : (at room : ℕ) (z : State) (R : Result) (n : ℕ) → n ≡ 21 → numberAt b (length (drop at s)) (z .control) Long ≡ some n → Runs a (s ++ r) more at (room + extra) z R →
+  at-long : (at room : ℕ) (z : Configuration) (R : Result) (n : ℕ) → n ≡ 21 → numberAt b (length (drop at s)) (z .control) Long ≡ some n → Runs a (s ++ r) more at (room + extra) z R →
       ReadAs more (s ++ r) at Long ⊎ ((Long ≡ Long) × ReadAs more (s ++ r) at Bad × CutNumber (front s at)) → SameAnswer (s ++ r) (stopped-at n at z) R
   at-long at room z R n i q d (inl m) = inl (to-number a (s ++ r) more at (room + extra) z R Long n q (split a (s ++ r) more d Long m))
   at-long at room z R n i q d (inr (e, m, c)) =
@@ -166,7 +166,7 @@ module _ (a : Sheet) (s r : List ℕ) (b more : Bool) (told : Told b r more) (ex
             drop-append-le at s r within ∙ ap (λ (l : List ℕ). l ++ r) (sym (take-append-drop 32 (drop at s))) ∙ append-assoc (front s at) (drop 32 (drop at s)) r,
           )
 
-  resume : {at room : ℕ} {z : State} {r₁ R : Result} → Runs a s b at room z r₁ → Runs a (s ++ r) more at (room + extra) z R → Onward room r₁ R (r₁ .held .closing)
+  resume : {at room : ℕ} {z : Configuration} {r₁ R : Result} → Runs a s b at room z r₁ → Runs a (s ++ r) more at (room + extra) z R → Onward room r₁ R (r₁ .held .closing)
   resume {R = R} (takes {at} {room} {z} {r = r₁} e next z′ w m t d) d′ =
       let m′ = read-whole at (Token e (record { at = next })) (token≢begun e (record { at = next })) (token≢long e (record { at = next })) m in
       let o = taken-in-more a z room extra (tokenOf a s e) z′ w t in
@@ -203,13 +203,13 @@ module _ (a : Sheet) (whole : List ℕ) (more : Bool) (n : ℕ) where
   abbrev rest : List ℕ
   rest = drop n whole
 
-  abbrev Shifted : ℕ → ℕ → State → Result → Type 0
+  abbrev Shifted : ℕ → ℕ → Configuration → Result → Type 0
   Shifted at room z r = (r′ : Result) × Runs a rest more at room z r′ × (r ≡ moved-by n r′)
 
   bytes-moved : (at from : ℕ) → from ≡ n + at → drop at rest ≡ drop from whole
   bytes-moved at from h = drop-drop at n whole ∙ ap (λ (i : ℕ). drop i whole) (sym h)
 
-  number-moved : (at from : ℕ) (x : Answer) (k : ℕ) (z : State) → from ≡ n + at → numberAt more (length (drop from whole)) (z .control) x ≡ some k →
+  number-moved : (at from : ℕ) (x : Answer) (k : ℕ) (z : Configuration) → from ≡ n + at → numberAt more (length (drop from whole)) (z .control) x ≡ some k →
       numberAt more (length (drop at rest)) (z .control) x ≡ some k
   number-moved at from x k z h q = ap (λ (l : List ℕ). numberAt more (length l) (z .control) x) (bytes-moved at from h) ∙ q
 
@@ -225,7 +225,7 @@ module _ (a : Sheet) (whole : List ℕ) (more : Bool) (n : ℕ) where
       Alike more whole rest from at (sym (bytes-moved at from h)) e next
   left-token at from e next h m = token-there more whole rest from at (sym (bytes-moved at from h)) e next m
 
-  shift : {from room : ℕ} {z : State} {r : Result} → Runs a whole more from room z r → (at : ℕ) → from ≡ n + at → Shifted at room z r
+  shift : {from room : ℕ} {z : Configuration} {r : Result} → Runs a whole more from room z r → (at : ℕ) → from ≡ n + at → Shifted at room z r
   shift (takes {at = from} {room} {z} e next z′ w m t d) at h =
       let l = left-token at from e next h m in
       let i = shift d (l .to) (omega (arith, l .as-long, h)) in
@@ -251,7 +251,7 @@ module _ (a : Sheet) (s r : List ℕ) (b more : Bool) (told : Told b r more) (ro
       )
   as-call r₁ R (some n) h q = q
 
-  by-closing : (z : State) (c : Option ℕ) (r₁ R : Result) → CalledBy a s b room z c r₁ → CalledBy a (s ++ r) more (room + extra) z c R →
+  by-closing : (z : Configuration) (c : Option ℕ) (r₁ R : Result) → CalledBy a s b room z c r₁ → CalledBy a (s ++ r) more (room + extra) z c R →
       Continued a (s ++ r) more (room + extra) r₁ R (r₁ .held .closing)
   by-closing z none r₁ R d d′ = as-call r₁ R (r₁ .held .closing) refl (resume a s r b more told extra d d′)
   by-closing z (some n) r₁ R d d′ = subst (Continued a (s ++ r) more (room + extra) r₁ R) (sym (ap (λ (x : Result). x .held .closing) d)) (inl (d′ ∙ sym d))

@@ -15,7 +15,7 @@ use Rattle.output.specs.Escape.{Piece, render, AllFit, events}
 use Rattle.output.proofs.ReadBack.{reads-back, pieces-back, never-cr}
 use Rattle.runs.specs.Visits.{grammar}
 use Rattle.runs.specs.Fits.{EventsFit, SheetFits, StoreFits}
-use Rattle.runs.specs.Machine.{State, took, answered, run}
+use Rattle.runs.specs.Machine.{Configuration, took, answered, run}
 use Rattle.runs.specs.Spells.{eventsOfToken, isBlank, passesAt, unless-blank, stepToken}
 use Rattle.runs.proofs.Moves.{run-through}
 use Rattle.runs.proofs.Execute.{fit-append}
@@ -42,17 +42,17 @@ module _ (a : Sheet) (fits : SheetFits a) (s : List ℕ) (more : Bool) where
   event-fits at next (Character c true) m = (read-char more s at c true next m, tt)
   event-fits at next (Character c false) m = (read-char more s at c false next m, tt)
 
-  token-fits : (z y : State) (k : RunToken) → StoreFits (z .store) → EventsFit (eventsOfToken k) → stepToken a z k ≡ took y → StoreFits (y .store)
+  token-fits : (z y : Configuration) (k : RunToken) → StoreFits (z .store) → EventsFit (eventsOfToken k) → stepToken a z k ≡ took y → StoreFits (y .store)
   token-fits z y k f h e = by (isBlank k && passesAt (grammar a) (z .control)) e
     where
       by : (b : Bool) → unless-blank b z (answered (run a z (eventsOfToken k))) ≡ took y → StoreFits (y .store)
-      by true e = let q : z ≡ y = cc in subst (λ (x : State). StoreFits (x .store)) q f
+      by true e = let q : z ≡ y = cc in subst (λ (x : Configuration). StoreFits (x .store)) q f
       by false e = run-fits a fits z f (eventsOfToken k) h y (run-through (run a z (eventsOfToken k)) y e)
 
-  silent-fits : (y : State) → StoreFits (y .store) → StoreFits (silent y .store)
+  silent-fits : (y : Configuration) → StoreFits (y .store) → StoreFits (silent y .store)
   silent-fits y f = record { values-fit = f .values-fit; kept-fit = f .kept-fit; output-fits = tt }
 
-  steps-fit : (es : List Event) (at to : ℕ) (z z″ : State) (p : List Piece) → StoreFits (z .store) → Reads more s at es to → Steps a z (tokensOf a s es) z″ p → AllFit p
+  steps-fit : (es : List Event) (at to : ℕ) (z z″ : Configuration) (p : List Piece) → StoreFits (z .store) → Reads more s at es to → Steps a z (tokensOf a s es) z″ p → AllFit p
   steps-fit [] at to z z″ p f rd (e, q) = subst AllFit (sym q) tt
   steps-fit (e ∷ es) at to z z″ p f (next, m, rd) (y, t, c, p′, st, q) =
       let g = token-fits z y (tokenOf a s e) f (event-fits at next e m) t in

@@ -15,7 +15,7 @@ use Rattle.output.specs.Escape.{Piece}
 use Rattle.runs.specs.Events.{Event, starts, ends, letter}
 use Rattle.runs.specs.Acts.{Store}
 use Rattle.runs.specs.Fits.{EventsFit, StoreFits}
-use Rattle.runs.specs.Machine.{fresh-state, after}
+use Rattle.runs.specs.Machine.{fresh-configuration, after}
 use Rattle.runs.specs.Taken.{Passed, closed-with}
 use Rattle.runs.specs.Spells.{Token, eventsOfToken, Mark, eventsOfMarks, Spells, all-read, blank-after, blank-between, one-event, empty-tag}
 use Rattle.runs.specs.SoFar.{SpelledSoFar, eventsSoFar}
@@ -68,7 +68,7 @@ spelled-fit (empty-tag t b b′ d) f = spelled-fit d (f .1)
 module _ {b : List ℕ} {a : Sheet} (i : IsSheet b a) (ok : Passed a) where
   so-far-fits : (ts : List Tok) → AllGood ts → (m : Store) → SpelledSoFar a (tokensFor a ts) m → StoreFits m
   so-far-fits ts g m so =
-      run-fits a (sheet-fits i) fresh-state fresh-fits (eventsSoFar so) (spelled-fit (so .spells) (tokens-fit a ts g)) _ (so-far-run a ok (tokensFor a ts) m so .events-run)
+      run-fits a (sheet-fits i) fresh-configuration fresh-fits (eventsSoFar so) (spelled-fit (so .spells) (tokens-fit a ts g)) _ (so-far-run a ok (tokensFor a ts) m so .events-run)
 
   pub explained-read-back : ExplainedReadBack a
   explained-read-back s more room n t o v x =

@@ -16,7 +16,7 @@ use Rattle.tokens.specs.declared.Answer.the-variants.{Token, Waiting, Begun, Ba
 use Rattle.output.specs.Escape.{Piece, render}
 use Rattle.output.proofs.Writing.{render-append}
 use Rattle.sheet.specs.Sheet.{Sheet}
-use Rattle.runs.specs.Machine.{Control, before, inside, after, State, took, refused}
+use Rattle.runs.specs.Machine.{Control, before, inside, after, Configuration, took, refused}
 use Rattle.runs.specs.Spells.{stepToken, TokenOutcome, through, onward-token, runTokens}
 use Rattle.calls.specs.Names.{tokenOf}
 use Rattle.runs.specs.Visits.{mostVisits}
@@ -33,23 +33,23 @@ RunToken = Rattle.runs.specs.Spells.Token
 abbrev pub RunAnswer : Type 0
 RunAnswer = Rattle.runs.specs.Machine.Answer
 
-abbrev pub outOf : State → List Piece
+abbrev pub outOf : Configuration → List Piece
 outOf z = z .store .env .out
 
 -- what it is for a token to be taken within the limits
-pub record TakesOne (a : Sheet) (z : State) (room : ℕ) (k : RunToken) (z′ : State) (w : List ℕ) : Type 0 where
-  pub reached : State
+pub record TakesOne (a : Sheet) (z : Configuration) (room : ℕ) (k : RunToken) (z′ : Configuration) (w : List ℕ) : Type 0 where
+  pub reached : Configuration
   pub stepped : stepToken a z k ≡ took reached
   pub counts : countOf reached ≤ mostVisits
   pub fits : length (outputOf reached) ≤ room
   pub silenced : z′ ≡ silent reached
   pub writes : w ≡ outputOf reached
 
-module _ (a : Sheet) (z : State) (room : ℕ) (k : RunToken) where
-  pub takes-one : (z′ : State) (w : List ℕ) → oneToken a z room k ≡ taken z′ w → TakesOne a z room k z′ w
+module _ (a : Sheet) (z : Configuration) (room : ℕ) (k : RunToken) where
+  pub takes-one : (z′ : Configuration) (w : List ℕ) → oneToken a z room k ≡ taken z′ w → TakesOne a z room k z′ w
   takes-one z′ w e = by (stepToken a z k) refl e
     where
-      by-tests : (y : State) → stepToken a z k ≡ took y → (c : Bool) → leb (countOf y) mostVisits ≡ c → (f : Bool) → leb (length (outputOf y)) room ≡ f →
+      by-tests : (y : Configuration) → stepToken a z k ≡ took y → (c : Bool) → leb (countOf y) mostVisits ≡ c → (f : Bool) → leb (length (outputOf y)) room ≡ f →
           limited y c f ≡ taken z′ w → TakesOne a z room k z′ w
       by-tests y t false hc f hf e = absurd (let x : _≡_ {A = ℕ} 0 1 = cc in omega arith)
       by-tests y t true hc false hf e = absurd (let x : _≡_ {A = ℕ} 0 1 = cc in omega arith)
@@ -67,7 +67,7 @@ module _ (a : Sheet) (z : State) (room : ℕ) (k : RunToken) where
       by (took y) t e = by-tests y t (leb (countOf y) mostVisits) refl (leb (length (outputOf y)) room) refl e
       by (refused n) t e = absurd (let x : _≡_ {A = ℕ} 0 1 = cc in omega arith)
 
-  pub one-takes : (y : State) → stepToken a z k ≡ took y → countOf y ≤ mostVisits → length (outputOf y) ≤ room → oneToken a z room k ≡ taken (silent y) (outputOf y)
+  pub one-takes : (y : Configuration) → stepToken a z k ≡ took y → countOf y ≤ mostVisits → length (outputOf y) ≤ room → oneToken a z room k ≡ taken (silent y) (outputOf y)
   one-takes y t c f =
       ap (within room) t ∙ ap₂ (λ (b b′ : Bool). limited y b b′) (le-leb (countOf y) mostVisits c) (le-leb (length (outputOf y)) room f)
 
@@ -75,7 +75,7 @@ module _ (a : Sheet) (z : State) (room : ℕ) (k : RunToken) where
   pub refuses-over : (n : ℕ) → oneToken a z room k ≡ refuses n → 22 ≤ n
   refuses-over n e = by (stepToken a z k) refl e
     where
-      by-tests : (y : State) (c f : Bool) → limited y c f ≡ refuses n → 22 ≤ n
+      by-tests : (y : Configuration) (c f : Bool) → limited y c f ≡ refuses n → 22 ≤ n
       by-tests y false f e = let h : 30 ≡ n = cc in omega arith
       by-tests y true false e = absurd (let x : _≡_ {A = ℕ} 0 1 = cc in omega arith)
       by-tests y true true e = absurd (let x : _≡_ {A = ℕ} 0 1 = cc in omega arith)
@@ -85,44 +85,44 @@ module _ (a : Sheet) (z : State) (room : ℕ) (k : RunToken) where
       by (refused m) t e = let h : m ≡ n = cc in token-number a z k n (t ∙ ap refused h) .0
 
 -- a state with its output in front of none
-pub behind-silent : (o : List Piece) (y : State) → state-behind o y ≡ state-behind (o ++ outOf y) (silent y)
+pub behind-silent : (o : List Piece) (y : Configuration) → state-behind o y ≡ state-behind (o ++ outOf y) (silent y)
 behind-silent o y =
     ap (λ (l : List Piece). record { control = y .control; store = record { kept = y .store .kept; env = record { values = y .store .env .values; echo = y .store .env .echo; out = l; count = countOf y } } })
     (sym (append-nil (o ++ outOf y)))
 
 -- from z the tokens lead to z″, and p is printed
-abbrev pub Steps : Sheet → State → List RunToken → State → List Piece → Type 0
+abbrev pub Steps : Sheet → Configuration → List RunToken → Configuration → List Piece → Type 0
 Steps a z [] z″ p = (z ≡ z″) × (p ≡ [])
 Steps a z (k ∷ ks) z″ p =
-    (y : State) × (stepToken a z k ≡ took y) × (countOf y ≤ mostVisits) × (p′ : List Piece) × Steps a (silent y) ks z″ p′ × (p ≡ outOf y ++ p′)
+    (y : Configuration) × (stepToken a z k ≡ took y) × (countOf y ≤ mostVisits) × (p′ : List Piece) × Steps a (silent y) ks z″ p′ × (p ≡ outOf y ++ p′)
 
 module _ (a : Sheet) where
-  pub steps-silent : (z : State) (ks : List RunToken) (z″ : State) (p : List Piece) → outOf z ≡ [] → Steps a z ks z″ p → outOf z″ ≡ []
+  pub steps-silent : (z : Configuration) (ks : List RunToken) (z″ : Configuration) (p : List Piece) → outOf z ≡ [] → Steps a z ks z″ p → outOf z″ ≡ []
   steps-silent z [] z″ p h (e, q) = ap outOf (sym e) ∙ h
   steps-silent z (k ∷ ks) z″ p h (y, t, c, p′, st, q) = steps-silent (silent y) ks z″ p′ refl st
 
-  pub steps-count : (z : State) (ks : List RunToken) (z″ : State) (p : List Piece) → countOf z ≤ mostVisits → Steps a z ks z″ p → countOf z″ ≤ mostVisits
-  steps-count z [] z″ p h (e, q) = subst (λ (y : State). countOf y ≤ mostVisits) e h
+  pub steps-count : (z : Configuration) (ks : List RunToken) (z″ : Configuration) (p : List Piece) → countOf z ≤ mostVisits → Steps a z ks z″ p → countOf z″ ≤ mostVisits
+  steps-count z [] z″ p h (e, q) = subst (λ (y : Configuration). countOf y ≤ mostVisits) e h
   steps-count z (k ∷ ks) z″ p h (y, t, c, p′, st, q) = steps-count (silent y) ks z″ p′ c st
 
-  pub steps-run : (z : State) (ks : List RunToken) (z″ : State) (p o : List Piece) → Steps a z ks z″ p →
+  pub steps-run : (z : Configuration) (ks : List RunToken) (z″ : Configuration) (p o : List Piece) → Steps a z ks z″ p →
       runTokens a (state-behind o z) ks ≡ through (state-behind (o ++ p) z″)
   steps-run z [] z″ p o (e, q) =
-      ap (λ (y : State). through (state-behind o y)) e
+      ap (λ (y : Configuration). through (state-behind o y)) e
       ∙ ap (λ (l : List Piece). through (state-behind l z″)) (sym (append-nil o) ∙ ap (λ (l : List Piece). o ++ l) (sym q))
   steps-run z (k ∷ ks) z″ p o (y, t, c, p′, st, q) =
       ap (λ (x : RunAnswer). onward-token (state-behind o z) (k ∷ ks) x (λ y. runTokens a y ks)) (token-frame a o z k ∙ ap (answer-behind o) t)
-      ∙ ap (λ (x : State). runTokens a x ks) (behind-silent o y) ∙ steps-run (silent y) ks z″ p′ (o ++ outOf y) st
+      ∙ ap (λ (x : Configuration). runTokens a x ks) (behind-silent o y) ∙ steps-run (silent y) ks z″ p′ (o ++ outOf y) st
       ∙ ap (λ (l : List Piece). through (state-behind l z″)) (append-assoc o (outOf y) p′ ∙ ap (λ (l : List Piece). o ++ l) (sym q))
 
   -- and back
-  pub record Stepped (z : State) (ks : List RunToken) (o : List Piece) (x : State) : Type 0 where
-    pub last : State
+  pub record Stepped (z : Configuration) (ks : List RunToken) (o : List Piece) (x : Configuration) : Type 0 where
+    pub last : Configuration
     pub printed : List Piece
     pub steps : Steps a z ks last printed
     pub is : x ≡ state-behind (o ++ printed) last
 
-  pub run-steps : (z : State) (ks : List RunToken) (o : List Piece) (x : State) → runTokens a (state-behind o z) ks ≡ through x → countOf x ≤ mostVisits →
+  pub run-steps : (z : Configuration) (ks : List RunToken) (o : List Piece) (x : Configuration) → runTokens a (state-behind o z) ks ≡ through x → countOf x ≤ mostVisits →
       Stepped z ks o x
   run-steps z [] o x e c =
       let h : state-behind o z ≡ x = cc in
@@ -131,11 +131,11 @@ module _ (a : Sheet) where
       by (λ y r. run-steps (silent y) ks (o ++ outOf y) x r c) (stepToken a z k) refl
       (ap (λ (u : RunAnswer). onward-token (state-behind o z) (k ∷ ks) u (λ y. runTokens a y ks)) (sym (token-frame a o z k)) ∙ e)
     where
-      by : ((y : State) → runTokens a (state-behind (o ++ outOf y) (silent y)) ks ≡ through x → Stepped (silent y) ks (o ++ outOf y) x) →
+      by : ((y : Configuration) → runTokens a (state-behind (o ++ outOf y) (silent y)) ks ≡ through x → Stepped (silent y) ks (o ++ outOf y) x) →
           (u : RunAnswer) → stepToken a z k ≡ u →
           onward-token (state-behind o z) (k ∷ ks) (answer-behind o u) (λ y. runTokens a y ks) ≡ through x → Stepped z (k ∷ ks) o x
       by f (took y) t e =
-          let i = f y (ap (λ (v : State). runTokens a v ks) (sym (behind-silent o y)) ∙ e) in
+          let i = f y (ap (λ (v : Configuration). runTokens a v ks) (sym (behind-silent o y)) ∙ e) in
           let m = tokens-count a (state-behind o y) ks x e in
           record {
             last = i .last;
@@ -151,7 +151,7 @@ tokensOf a s [] = []
 tokensOf a s (e ∷ es) = tokenOf a s e ∷ tokensOf a s es
 
 -- whatever a call answers, it has read the tokens that it counts as taken, its state is what they come to, its output is theirs, and there it stops
-pub record Does (a : Sheet) (part : List ℕ) (more : Bool) (at room : ℕ) (z : State) (r : Result) : Type 0 where
+pub record Does (a : Sheet) (part : List ℕ) (more : Bool) (at room : ℕ) (z : Configuration) (r : Result) : Type 0 where
   pub events : List Event
   pub printed : List Piece
   pub reads : Reads more part at events (r .taken)
@@ -161,11 +161,11 @@ pub record Does (a : Sheet) (part : List ℕ) (more : Bool) (at room : ℕ) (z :
   pub stop : Stop a part more (r .taken) (room - length (r .output)) (r .held .run) (r .number)
 
 module _ (a : Sheet) (part : List ℕ) {more : Bool} where
-  pub run-does : {at room : ℕ} {z : State} {r : Result} → Runs a part more at room z r → Does a part more at room z r
+  pub run-does : {at room : ℕ} {z : Configuration} {r : Result} → Runs a part more at room z r → Does a part more at room z r
   run-does (takes {at} {room} {z} {r} e next z′ w m t d) =
       let i = run-does d in
       let o = takes-one a z room (tokenOf a part e) z′ w t in
-      let y : State = o .reached in
+      let y : Configuration = o .reached in
       record {
         events = e ∷ i .events;
         printed = outOf y ++ i .printed;
@@ -175,7 +175,7 @@ module _ (a : Sheet) (part : List ℕ) {more : Bool} where
           o .stepped,
           o .counts,
           i .printed,
-          subst (λ (x : State). Steps a x (tokensOf a part (i .events)) (r .held .run) (i .printed)) (o .silenced) (i .steps),
+          subst (λ (x : Configuration). Steps a x (tokensOf a part (i .events)) (r .held .run) (i .printed)) (o .silenced) (i .steps),
           refl,
         );
         writes = ap₂ (λ (l k : List ℕ). l ++ k) (o .writes) (i .writes) ∙ sym (render-append (outOf y) (i .printed));
@@ -197,11 +197,11 @@ module _ (a : Sheet) (part : List ℕ) {more : Bool} where
       }
 
 -- and such steps with such a stop are a call
-abbrev pub done-with : ℕ → ℕ → List Piece → State → Result
+abbrev pub done-with : ℕ → ℕ → List Piece → Configuration → Result
 done-with n to p z = record { number = n; taken = to; output = render p; held = handed n z }
 
 module _ (a : Sheet) (s : List ℕ) (more : Bool) where
-  pub steps-stop : (es : List Event) (at room : ℕ) (z : State) (to : ℕ) (last : State) (p : List Piece) (n : ℕ) → Reads more s at es to → Steps a z (tokensOf a s es) last p →
+  pub steps-stop : (es : List Event) (at room : ℕ) (z : Configuration) (to : ℕ) (last : Configuration) (p : List Piece) (n : ℕ) → Reads more s at es to → Steps a z (tokensOf a s es) last p →
       length (render p) ≤ room → Stop a s more to (room - length (render p)) last n → Runs a s more at room z (done-with n to p last)
   steps-stop [] at room z to last p n rd (e, q) f st =
       let none : room - length (render p) ≡ room = omega (arith, ap (λ (l : List Piece). length (render l)) q) in
@@ -209,7 +209,7 @@ module _ (a : Sheet) (s : List ℕ) (more : Bool) where
       let st′ : Stop a s more to room last n = subst (λ (m : ℕ). Stop a s more to m last n) none st in
       subst (Runs a s more at room z)
       ((λ i. record { number = n; taken = rd i; output = []; held = handed n (e i) }) ∙ ap (λ (o : List Piece). done-with n to o last) (sym q))
-      (halts (subst (λ (y : State). Stop a s more at room y n) (sym e) (subst (λ (i : ℕ). Stop a s more i room last n) back st′)))
+      (halts (subst (λ (y : Configuration). Stop a s more at room y n) (sym e) (subst (λ (i : ℕ). Stop a s more i room last n) back st′)))
   steps-stop (e ∷ es) at room z to last p n (next, m, rd) (y, t, k, p′, st, q) f h =
       let b : render p ≡ outputOf y ++ render p′ = ap render q ∙ render-append (outOf y) p′ in
       let l = length-append (outputOf y) (render p′) in
@@ -220,14 +220,14 @@ module _ (a : Sheet) (s : List ℕ) (more : Bool) where
       (steps-stop es next (room - length (outputOf y)) (silent y) to last p′ n rd st (omega (arith, both)) (subst (λ (i : ℕ). Stop a s more to i last n) left h)))
 
 -- a call that ends with 0
-abbrev pub ended : ℕ → List Piece → State → Result
+abbrev pub ended : ℕ → List Piece → Configuration → Result
 ended to p z = record { number = 0; taken = to; output = render p; held = record { run = z; closing = some 0 } }
 
 -- the steps of a call over the tokens that it reads, up to the end of the stream with the root closed
-pub record Ends (a : Sheet) (s : List ℕ) (at room : ℕ) (z : State) (r : Result) : Type 0 where
+pub record Ends (a : Sheet) (s : List ℕ) (at room : ℕ) (z : Configuration) (r : Result) : Type 0 where
   pub events : List Event
   pub to : ℕ
-  pub last : State
+  pub last : Configuration
   pub printed : List Piece
   pub reads : Reads false s at events to
   pub steps : Steps a z (tokensOf a s events) last printed
@@ -251,7 +251,7 @@ module _ (a : Sheet) (s : List ℕ) where
   all-taken left c Bad q = absurd (let y : _≡_ {A = ℕ} 20 0 = cc in omega arith)
   all-taken left c Long q = absurd (let y : _≡_ {A = ℕ} 21 0 = cc in omega arith)
 
-  at-the-end : {at room : ℕ} {z : State} {r : Result} → Runs a s false at room z r → r .number ≡ 0 →
+  at-the-end : {at room : ℕ} {z : Configuration} {r : Result} → Runs a s false at room z r → r .number ≡ 0 →
       (r .held .run .control ≡ after) × (length (drop (r .taken) s) ≡ 0) × (r .held .closing ≡ some 0)
   at-the-end (takes e next z′ w m t d) h = at-the-end d h
   at-the-end (halts {at} {room} {z} (stops e next n m t)) h = absurd (omega (arith, refuses-over a z room (tokenOf a s e) n t, h))
@@ -260,7 +260,7 @@ module _ (a : Sheet) (s : List ℕ) where
       let i = all-taken (length (drop at s)) (z .control) x (q ∙ ap some h) in
       (i .1, i .0, ap (λ (j : ℕ). handed j z .closing) h)
 
-  pub run-ends : {at room : ℕ} {z : State} {r : Result} → Runs a s false at room z r → r .number ≡ 0 → Ends a s at room z r
+  pub run-ends : {at room : ℕ} {z : Configuration} {r : Result} → Runs a s false at room z r → r .number ≡ 0 → Ends a s at room z r
   run-ends {r = r} d h =
       let i = run-does a s d in
       let e = at-the-end d h in
@@ -279,7 +279,7 @@ module _ (a : Sheet) (s : List ℕ) where
         is = λ k. record { number = h k; taken = r .taken; output = w k; held = record { run = r .held .run; closing = c k } };
       }
 
-  pub ends-run : (es : List Event) (at room : ℕ) (z : State) (to : ℕ) (last : State) (p : List Piece) → Reads false s at es to → Steps a z (tokensOf a s es) last p →
+  pub ends-run : (es : List Event) (at room : ℕ) (z : Configuration) (to : ℕ) (last : Configuration) (p : List Piece) → Reads false s at es to → Steps a z (tokensOf a s es) last p →
       last .control ≡ after → length (drop to s) ≡ 0 → length (render p) ≤ room → Runs a s false at room z (ended to p last)
   ends-run es at room z to last p rd st c l f =
       let m : ReadAs false s to Begun = none-read false s to l in

@@ -13,7 +13,7 @@ use Rattle.tokens.specs.Stream.{ReadAs}
 use Rattle.tokens.specs.Numbers.{numberOf}
 use Rattle.sheet.specs.Sheet.{Sheet}
 use Rattle.runs.specs.Options.{orElse}
-use Rattle.runs.specs.Machine.{Control, before, inside, after, State}
+use Rattle.runs.specs.Machine.{Control, before, inside, after, Configuration}
 use Rattle.calls.specs.Names.{tokenOf}
 use Rattle.calls.specs.Held.{Held, handed}
 use Rattle.calls.specs.Limits.{taken, refuses, no-room, oneToken}
@@ -25,7 +25,7 @@ pub record Result : Type 0 where
   pub held : Held
 
 -- the call stops at `at` with the number n: the bytes before it are taken, and no more is written
-abbrev pub stopped-at : ℕ → ℕ → State → Result
+abbrev pub stopped-at : ℕ → ℕ → Configuration → Result
 stopped-at n at z = record { number = n; taken = at; output = []; held = handed n z }
 
 -- the same after w was written
@@ -52,7 +52,7 @@ numberAt more left c Long = numberOf more left Long
 
 -- why a call stops at the place `at`, with so much room left, in the state z, and with which number: the token there is refused, or there is no room for its
 -- output, or no whole token comes next
-pub data Stop (a : Sheet) (part : List ℕ) (more : Bool) (at room : ℕ) (z : State) : ℕ → Type 0 where
+pub data Stop (a : Sheet) (part : List ℕ) (more : Bool) (at room : ℕ) (z : Configuration) : ℕ → Type 0 where
   stops : (e : Event) (next n : ℕ) →
       ReadAs more part at (Token e (record { at = next })) → oneToken a z room (tokenOf a part e) ≡ refuses n → Stop a part more at room z n
   full : (e : Event) (next : ℕ) →
@@ -62,18 +62,18 @@ pub data Stop (a : Sheet) (part : List ℕ) (more : Bool) (at room : ℕ) (z : S
 
 -- the call from there on: it takes token after token, and then stops. A token that is refused, or that there is no room for, leaves the state as it was
 -- before it, and nothing of its output
-pub data Runs (a : Sheet) (part : List ℕ) (more : Bool) : ℕ → ℕ → State → Result → Type 0 where
-  takes : {at room : ℕ} {z : State} {r : Result} (e : Event) (next : ℕ) (z′ : State) (w : List ℕ) →
+pub data Runs (a : Sheet) (part : List ℕ) (more : Bool) : ℕ → ℕ → Configuration → Result → Type 0 where
+  takes : {at room : ℕ} {z : Configuration} {r : Result} (e : Event) (next : ℕ) (z′ : Configuration) (w : List ℕ) →
       ReadAs more part at (Token e (record { at = next })) → oneToken a z room (tokenOf a part e) ≡ taken z′ w → Runs a part more next (roomLeft room w) z′ r →
       Runs a part more at room z (after-writing w r)
-  halts : {at room : ℕ} {z : State} {n : ℕ} → Stop a part more at room z n → Runs a part more at room z (stopped-at n at z)
+  halts : {at room : ℕ} {z : Configuration} {n : ℕ} → Stop a part more at room z n → Runs a part more at room z (stopped-at n at z)
 
 -- a closed state: 28 after 0, and any other number again; nothing is taken or written, and the state is handed back as given
 abbrev pub again : ℕ → ℕ
 again zero = 28
 again (suc n) = suc n
 
-abbrev pub CalledBy : Sheet → List ℕ → Bool → ℕ → State → Option ℕ → Result → Type 0
+abbrev pub CalledBy : Sheet → List ℕ → Bool → ℕ → Configuration → Option ℕ → Result → Type 0
 CalledBy a part more room z none r = Runs a part more 0 room z r
 CalledBy a part more room z (some n) r = r ≡ record { number = again n; taken = 0; output = []; held = record { run = z; closing = some n } }
 

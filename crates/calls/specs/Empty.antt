@@ -10,19 +10,19 @@ use Rattle.tokens.specs.Tokens.{start, end, empty, Tok, tag}
 use Rattle.tokens.specs.Stream.{flat, AllGood, AllShort, AllWhole}
 use Rattle.sheet.specs.Sheet.{Sheet}
 use Rattle.runs.specs.Visits.{Env}
-use Rattle.runs.specs.Machine.{State, Answer, took, refused}
+use Rattle.runs.specs.Machine.{Configuration, Answer, took, refused}
 use Rattle.runs.specs.Spells.{start-token, end-token, empty-token, stepToken}
 use Rattle.calls.specs.Accepted.{Accepted}
 
 -- one token after another
-abbrev pub then-token : Answer → (State → Answer) → Answer
+abbrev pub then-token : Answer → (Configuration → Answer) → Answer
 then-token (took z) f = f z
 then-token (refused n) f = refused n
 
 -- an empty tag is answered as its start tag and then its end tag are: with the state, output and visits that the two come to, or with the number
 -- of the first of them that is refused
 abbrev pub EmptyIsBoth : Sheet → Type 0
-EmptyIsBoth a = (z : State) (t : Option ℕ) → stepToken a z (empty-token t) ≡ then-token (stepToken a z (start-token t)) (λ y. stepToken a y (end-token t))
+EmptyIsBoth a = (z : Configuration) (t : Option ℕ) → stepToken a z (empty-token t) ≡ then-token (stepToken a z (start-token t)) (λ y. stepToken a y (end-token t))
 
 -- a row of tokens as a stream may have them: no CR alone before an LF
 abbrev pub Stream : List Tok → Type 0

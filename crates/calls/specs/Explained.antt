@@ -20,7 +20,7 @@ use Rattle.calls.specs.Held.{fresh-held}
 use Rattle.calls.specs.Call.{Result, Called}
 
 -- t is the next token of the bytes that are left, and `rest` comes after it
-pub record Next (more : Bool) (left : List ℕ) (t : Tok) (rest : List ℕ) : Type 0 where
+pub record NextToken (more : Bool) (left : List ℕ) (t : Tok) (rest : List ℕ) : Type 0 where
   pub good : Good t
   pub short : length (bytes t) ≤ 32
   pub whole : Followed more t rest
@@ -30,14 +30,14 @@ pub record Next (more : Bool) (left : List ℕ) (t : Tok) (rest : List ℕ) : Ty
 pub data Why (a : Sheet) (more : Bool) (room : ℕ) (ts : List Tok) (left : List ℕ) {m : Store} (so : SpelledSoFar a (tokensFor a ts) m) : ℕ → Type 0 where
   all-taken : more ≡ false → left ≡ [] → RootClosed a (eventsSoFar so) → Why a more room ts left so 0
   used-up : more ≡ true → ReadAs more left 0 Begun → Why a more room ts left so 16  -- nothing is left, or a begun token, or a CR that waits
-  no-space : (t : Tok) (rest : List ℕ) → Next more left t rest → (m′ : Store) → SpelledSoFar a (tokensFor a (ts ++ t ∷ [])) m′ → m′ .env .count ≤ mostVisits →
+  no-space : (t : Tok) (rest : List ℕ) → NextToken more left t rest → (m′ : Store) → SpelledSoFar a (tokensFor a (ts ++ t ∷ [])) m′ → m′ .env .count ≤ mostVisits →
       room < length (render (m′ .env .out)) → Why a more room ts left so 17
   begins-none : ReadAs more left 0 Bad → Why a more room ts left so 20
   too-long : ReadAs more left 0 Long → Why a more room ts left so 21
-  next-refused : (t : Tok) (rest : List ℕ) (n : ℕ) → Next more left t rest → TokenRefused so (tokenFor a t) n → Why a more room ts left so n  -- 22 to 26
+  next-refused : (t : Tok) (rest : List ℕ) (n : ℕ) → NextToken more left t rest → TokenRefused so (tokenFor a t) n → Why a more room ts left so n  -- 22 to 26
   cut-off : more ≡ false → (left ≡ [] → ⊥) → ReadAs more left 0 Begun → Why a more room ts left so 27
   not-closed : more ≡ false → left ≡ [] → (RootClosed a (eventsSoFar so) → ⊥) → Why a more room ts left so 27
-  too-many : (t : Tok) (rest : List ℕ) → Next more left t rest → (m′ : Store) → SpelledSoFar a (tokensFor a (ts ++ t ∷ [])) m′ → mostVisits < m′ .env .count →
+  too-many : (t : Tok) (rest : List ℕ) → NextToken more left t rest → (m′ : Store) → SpelledSoFar a (tokensFor a (ts ++ t ∷ [])) m′ → mostVisits < m′ .env .count →
       Why a more room ts left so 30
 
 -- the number, the bytes taken, the output and the visits of a call on the bytes s from a fresh state, with so much room

@@ -17,7 +17,7 @@ use Rattle.sheet.specs.Sheet.{Sheet}
 use Rattle.sheet.proofs.SheetLaws.{sheet-grammar}
 use Rattle.output.specs.Escape.{Piece}
 use Rattle.runs.specs.Visits.{grammar}
-use Rattle.runs.specs.Machine.{State, Answer, took, run, answered, onward, finished}
+use Rattle.runs.specs.Machine.{Configuration, Answer, took, run, answered, onward, finished}
 use Rattle.runs.specs.Taken.{Passed}
 use Rattle.runs.specs.Spells.{Token, start-token, end-token, empty-token, literal, reference, eventsOfToken, isBlank, passesAt, unless-blank}
 use Rattle.runs.proofs.Moves.{run-through}
@@ -62,7 +62,7 @@ module _ (a : Sheet) (ok : Passed a) (nodes : FewNodes (grammar a)) where
       by true e = let h : z ≡ z′ = cc in omega (arith, ap countIn h)
       by false e = run-visits a (ok .keeps-S) nodes z z′ (eventsOfToken k) (run-through (run a z (eventsOfToken k)) z′ e)
 
-  steps-visits : (z : State) (ks : List Token) (z′ : State) (p : List Piece) → Steps a z ks z′ p → countIn z′ ≤ countIn z + forToken * length ks
+  steps-visits : (z : Configuration) (ks : List Token) (z′ : Configuration) (p : List Piece) → Steps a z ks z′ p → countIn z′ ≤ countIn z + forToken * length ks
   steps-visits z [] z′ p (e, q) = omega (arith, ap countIn e)
   steps-visits z (k ∷ ks) z′ p (y, t, c, p′, st, q) = omega (arith, token-visits z y k t, token-most k, steps-visits (silent y) ks z′ p′ st)
 

@@ -15,7 +15,7 @@ use Rattle.runs.specs.Lookup.{find}
 use Rattle.runs.specs.Visits.{grammar}
 use Rattle.runs.specs.Events.{Event, starts, ends, letter}
 use Rattle.runs.specs.Acts.{Act, start-tag, end-tag, letter-read, bracket-act, bracket-acts, visitsIn}
-use Rattle.runs.specs.Machine.{Control, before, inside, after, go, root-by, most, State, run, finished}
+use Rattle.runs.specs.Machine.{Control, before, inside, after, go, root-by, most, Configuration, run, finished}
 use Rattle.runs.proofs.Counts.{visits-append, acts-count}
 use Rattle.runs.proofs.Moves.{Moves, stay, then, refuse-go, go-inj, moves-run}
 use Rattle.runs.proofs.Sound.{started, was-read, ended}
@@ -97,7 +97,7 @@ module _ (s : Sheet) (keeps : KeepsS (grammar s)) (nodes : FewNodes (grammar s))
   moves-visits stay = omega arith
   moves-visits (then {c = c} {c′ = c′} {cs = cs} x bs e m) = omega (arith, visits-append bs cs, event-visits c x bs c′ e .few, moves-visits m)
 
-  pub run-visits : (z z′ : State) (xs : List Event) → run s z xs ≡ finished z′ → countIn z′ ≤ countIn z + ceiling xs
+  pub run-visits : (z z′ : Configuration) (xs : List Event) → run s z xs ≡ finished z′ → countIn z′ ≤ countIn z + ceiling xs
   run-visits z z′ xs e =
       let t = moves-run s (z .control) (z .store) xs z′ e in
       omega (arith, acts-count s (t .row) (z .store) (z′ .store) (t .done), moves-visits (t .moved))

@@ -13,7 +13,7 @@ use Rattle.sheet.specs.Sheet.{Sheet, IsSheet}
 use Rattle.runs.specs.Visits.{grammar}
 use Rattle.runs.specs.Events.{Event, starts, ends, letter}
 use Rattle.runs.specs.Acts.{Act, visitsIn}
-use Rattle.runs.specs.Machine.{Control, go, move, most, State, took, step}
+use Rattle.runs.specs.Machine.{Control, go, move, most, Configuration, took, step}
 use Rattle.runs.specs.Taken.{Passed}
 use Rattle.runs.specs.Spells.{Token, eventsOfToken, isBlank, passesAt, stepToken}
 use Rattle.calls.specs.Held.{Held}
@@ -45,7 +45,7 @@ ceiling (x ∷ xs) = forNodes + forProduction x + ceiling xs
 abbrev pub forToken : ℕ
 forToken = 2 * (forNodes + 1)
 
-abbrev pub countIn : State → ℕ
+abbrev pub countIn : Configuration → ℕ
 countIn z = z .store .env .count
 
 -- the acts that an event asks for: none of them twice, and few visits among them
@@ -57,14 +57,14 @@ abbrev pub EventVisits : Sheet → Type 0
 EventVisits a = (c : Control) (x : Event) (bs : List Act) (c′ : Control) → move (grammar a) (a .start-nonterminal) most c x ≡ go bs c′ → FewActs x bs
 
 abbrev pub StepVisits : Sheet → Type 0
-StepVisits a = (z z′ : State) (x : Event) → step a z x ≡ took z′ → countIn z′ ≤ countIn z + (forNodes + forProduction x)
+StepVisits a = (z z′ : Configuration) (x : Event) → step a z x ≡ took z′ → countIn z′ ≤ countIn z + (forNodes + forProduction x)
 
 abbrev pub TokenVisits : Sheet → Type 0
-TokenVisits a = (z z′ : State) (k : Token) → stepToken a z k ≡ took z′ → countIn z′ ≤ countIn z + ceiling (eventsOfToken k)
+TokenVisits a = (z z′ : Configuration) (k : Token) → stepToken a z k ≡ took z′ → countIn z′ ≤ countIn z + ceiling (eventsOfToken k)
 
 -- white space that is no event leaves all as it was: it has no visit
 abbrev pub BlankVisits : Sheet → Type 0
-BlankVisits a = (z : State) (k : Token) → isBlank k && passesAt (grammar a) (z .control) ≡ true → stepToken a z k ≡ took z
+BlankVisits a = (z : Configuration) (k : Token) → isBlank k && passesAt (grammar a) (z .control) ≡ true → stepToken a z k ≡ took z
 
 -- es are the tokens that a call has taken
 abbrev pub CallVisits : Sheet → Type 0

@@ -24,7 +24,7 @@ use Rattle.tokens.specs.Tokens.{start, end, empty, front, Means}
 use Rattle.tokens.specs.Stream.{settled, ReadAs}
 use Rattle.sheet.specs.Sheet.{Sheet}
 use Rattle.runs.specs.Visits.{mostVisits}
-use Rattle.runs.specs.Machine.{Control, most, State as Standing, answered, run}
+use Rattle.runs.specs.Machine.{Control, most, Configuration as Standing, answered, run}
 use Rattle.runs.proofs.SheetFits.{sheet-fits}
 use Rattle.calls.specs.Names.{tokenOf}
 use Rattle.calls.specs.Limits.{Taking, taken, refuses, no-room, oneToken}

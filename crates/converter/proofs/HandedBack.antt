@@ -10,7 +10,7 @@ use native.Mathlib.Omega.{arith}
 use lib.ListN.{length}
 use Rattle.calls.proofs.Read.{read-moves}
 use Rattle.sheet.specs.Sheet.{Sheet}
-use Rattle.runs.specs.Machine.{State as Run}
+use Rattle.runs.specs.Machine.{Configuration as Run}
 use Rattle.calls.specs.Held.{leavesOpen, closingOf, handed}
 use Rattle.calls.specs.Call.{Result, Runs, takes, halts, CalledBy}
 use Rattle.state.specs.Changes.{notClosed, freshState, closedWith}

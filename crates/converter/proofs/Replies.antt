@@ -19,7 +19,7 @@ use Rattle.sheet.proofs.SheetLaws.{one-sheet}
 use Rattle.faults.specs.Verdict.{VerdictIs, of-sheet}
 use Rattle.faults.proofs.Theorems.{one-verdict, verdict-most}
 use Rattle.runs.specs.Taken.{Passed}
-use Rattle.runs.specs.Machine.{State as Run}
+use Rattle.runs.specs.Machine.{Configuration as Run}
 use Rattle.runs.specs.Closing.{Closing, closed-by-end, closed-by-refusal, closed-by-count}
 use Rattle.calls.specs.Held.{Held, leavesOpen, closingOf}
 use Rattle.calls.specs.Call.{Result, Runs, takes, halts, again, CalledBy, Called}

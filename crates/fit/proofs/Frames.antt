@@ -28,7 +28,7 @@ use Rattle.runs.specs.Lookup.{produces}
 use Rattle.runs.specs.Nodes.{openNodes, deepest}
 use Rattle.runs.proofs.Nodes.{open-few}
 use Rattle.state.specs.declared.Frame.{Frame}
-use Rattle.state.specs.Meaning.{All}
+use Rattle.state.specs.Meaning.{Every}
 use Rattle.fit.proofs.Lists.{drop-past, length-first}
 use Rattle.fit.specs.declared.Spot.{Spot}
 use Rattle.fit.specs.declared.Walked.{Walked}
@@ -156,11 +156,11 @@ module _ (s : List ℕ) (may : ℕ) (f : Frame) (r : Fitted) where
     pub other-sets : r .ok ≡ false → (f .«open» ≡ spot .«open» + 1 → ⊥) → FrameTold s may f r
     other-sets e n = no-frame e (λ g γ child z k. n (let o = spot-there (found .is g γ) (k .nodes) (k .place) .1 in omega (arith, o, k .sets)))
 
-    pub other-values : r .ok ≡ false → (All SetFits (take (f .«open») (f .saved)) → ⊥) → FrameTold s may f r
+    pub other-values : r .ok ≡ false → (Every SetFits (take (f .«open») (f .saved)) → ⊥) → FrameTold s may f r
     other-values e n = no-frame e (λ g γ child z k. n (k .values))
 
     pub frame-fits : r .ok ≡ true → r .child ≡ spot .child → f .production < productionCount s → (m : ℕ) → m ≡ nonterminalOf s (f .production) → m < 256 → m ≡ may →
-        spot .there ≡ true → f .«open» ≡ spot .«open» + 1 → All SetFits (take (f .«open») (f .saved)) → FrameTold s may f r
+        spot .there ≡ true → f .«open» ≡ spot .«open» + 1 → Every SetFits (take (f .«open») (f .saved)) → FrameTold s may f r
     frame-fits e c b m a low same t o v =
         record {
           tells = λ g γ child z. subst (Tells (FrameFits g child f)) (sym e) (holds (fits g γ child z));

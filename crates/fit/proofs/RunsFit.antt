@@ -18,8 +18,8 @@ use Rattle.runs.specs.Visits.{grammar, mostVisits}
 use Rattle.runs.specs.Events.{Event}
 use Rattle.runs.specs.Nodes.{KeptOf, KeptOfAll, KeptAt}
 use Rattle.runs.specs.Fits.{SheetFits, EventsFit, AllValues, ValuesFit, KeptFit, AllKeptFit}
-use Rattle.runs.specs.Machine.{Open, Control, inside, State as Run, finished, run, fresh-state}
-use Rattle.state.specs.Meaning.{keptOf, setsOf, openOf, elements, standing, meaningOf, All, none, more, Fits, Shaped}
+use Rattle.runs.specs.Machine.{Open, Control, inside, Configuration as Run, finished, run, fresh-configuration}
+use Rattle.state.specs.Meaning.{keptOf, setsOf, openOf, elements, standing, meaningOf, Every, none, more, Fits, Shaped}
 use Rattle.state.specs.Bytes.{SizedSet, SizedFrame, Sized}
 use Rattle.state.specs.declared.Saved.{Saved}
 use Rattle.state.specs.declared.Frame.{Frame}
@@ -33,25 +33,25 @@ use Rattle.fit.proofs.Lists.{length-first, all-take}
 use Rattle.fit.proofs.Theorems.{fit-shaped}
 use Rattle.fit.proofs.Steps.{fresh-run-fits, events-fit}
 
-all-turned : {X : Type 0} {P : X → Type 0} (l : List X) → All P l → All P (reverse l)
+all-turned : {X : Type 0} {P : X → Type 0} (l : List X) → Every P l → Every P (reverse l)
 all-turned [] a = none
-all-turned {P = P} (x ∷ l) (more p a) = subst (All P) (sym (reverse-cons x l)) (all-snoc (all-turned l a) p)
+all-turned {P = P} (x ∷ l) (more p a) = subst (Every P) (sym (reverse-cons x l)) (all-snoc (all-turned l a) p)
 
 -- values and sets
-all-values : (vs : List ℕ) → AllValues vs → All Value vs
+all-values : (vs : List ℕ) → AllValues vs → Every Value vs
 all-values [] h = none
 all-values (v ∷ vs) h = more (h .0) (all-values vs (h .1))
 
-sets-fit : (l : List Saved) → KeptFit (map keptOf l) → All SetFits l
+sets-fit : (l : List Saved) → KeptFit (map keptOf l) → Every SetFits l
 sets-fit [] h = none
 sets-fit (k ∷ l) h = more (all-values (k .values) (h .0 .1)) (sets-fit l (h .1))
 
 -- and back, where each set is whole
-values-all : (vs : List ℕ) → All Value vs → AllValues vs
+values-all : (vs : List ℕ) → Every Value vs → AllValues vs
 values-all [] a = tt
 values-all (v ∷ vs) (more h a) = (h, values-all vs a)
 
-fit-sets : (l : List Saved) → All SetFits l → All SizedSet l → KeptFit (map keptOf l)
+fit-sets : (l : List Saved) → Every SetFits l → Every SizedSet l → KeptFit (map keptOf l)
 fit-sets [] a b = tt
 fit-sets (k ∷ l) (more h a) (more w b) = ((w .values, values-all (k .values) h), fit-sets l a b)
 
@@ -72,7 +72,7 @@ module _ (g : List Production) where
         nodes = k .0;
         place = k .1;
         sets = sym (sets-length f r) ∙ k .2;
-        values = subst (All SetFits) (reverse-reverse used) (all-turned (reverse used) (sets-fit (reverse used) v));
+        values = subst (Every SetFits) (reverse-reverse used) (all-turned (reverse used) (sets-fit (reverse used) v));
       }
 
   -- what the last of some frames lets be inside it
@@ -90,7 +90,7 @@ module _ (g : List Production) where
 
   module _ (n : ℕ) where
     turned : (f : Frame) (fs : List Frame) → Chain g n (openOf f) (map openOf fs) → KeptOfAll g (openOf f ∷ map openOf fs) (map setsOf (f ∷ fs)) → AllKeptFit (map setsOf (f ∷ fs)) →
-        All Fits (f ∷ fs) → FramesFit g (some n) (reverse (f ∷ fs))
+        Every Fits (f ∷ fs) → FramesFit g (some n) (reverse (f ∷ fs))
     turned f [] c k v (more r a) = (frame-of (some n) n f refl c (k .0) (v .0) r, tt)
     turned f (p ∷ ps) c k v (more r a) =
         let e : inmost (some n) (reverse (p ∷ ps)) ≡ some (c .0) =
@@ -98,7 +98,7 @@ module _ (g : List Production) where
         subst (FramesFit g (some n)) (sym (reverse-cons f (p ∷ ps)))
         (one-more (some n) (reverse (p ∷ ps)) f (turned p ps (c .3) (k .1) (v .1) a) (frame-of (inmost (some n) (reverse (p ∷ ps))) (c .0) f e (c .2) (k .0) (v .0) r))
 
-    stack-fits : (rooted : Bool) (fs : List Frame) → ChainAt g n (standing rooted fs) → KeptAt g (standing rooted fs) (map setsOf fs) → AllKeptFit (map setsOf fs) → All Fits fs →
+    stack-fits : (rooted : Bool) (fs : List Frame) → ChainAt g n (standing rooted fs) → KeptAt g (standing rooted fs) (map setsOf fs) → AllKeptFit (map setsOf fs) → Every Fits fs →
         FramesFit g (some n) (reverse fs)
     stack-fits true [] c k v a = tt
     stack-fits false [] c k v a = tt
@@ -113,7 +113,7 @@ module _ (g : List Production) where
     Stack [] = Unit {0}
     Stack (f ∷ fs) = (m : ℕ) × (around fs ≡ some m) × T (produces g m (f .production)) × KeptOf g (openOf f) (setsOf f) × KeptFit (setsOf f) × Stack fs
 
-    stacked : (outer fs : List Frame) → Stack outer → FramesFit g (around outer) fs → All Fits fs → All SizedFrame fs → Stack (reverse fs ++ outer)
+    stacked : (outer fs : List Frame) → Stack outer → FramesFit g (around outer) fs → Every Fits fs → Every SizedFrame fs → Stack (reverse fs ++ outer)
     stacked outer [] h k a b = h
     stacked outer (f ∷ fs) h k (more r a) (more w b) =
         let used : List Saved = take (f .«open») (f .saved) in
@@ -177,12 +177,12 @@ top-kept z h o os e =
     ∙ sets-length (topOf z) (fits-top z h p)
 
 -- a state that stands for one that a run came to fits, if its count and its closing number do
-pub reached-fit : (a : Sheet) → SheetFits a → (xs : List Event) → EventsFit xs → (m : Run) → run a fresh-state xs ≡ finished m → (z : State) → Shaped z → meaningOf z .control ≡ m .control →
+pub reached-fit : (a : Sheet) → SheetFits a → (xs : List Event) → EventsFit xs → (m : Run) → run a fresh-configuration xs ≡ finished m → (z : State) → Shaped z → meaningOf z .control ≡ m .control →
     meaningOf z .store .kept ≡ m .store .kept → z .values ≡ m .store .env .values → z .count ≤ mostVisits → ClosingFits (z .closed) → Fit (grammar a) (a .start-nonterminal) z
 unfolding meaningOf
 reached-fit a ok xs h m e z r s k w n c =
     let g = grammar a in
-    let f = events-fit a ok fresh-state xs m h (fresh-run-fits a) e in
+    let f = events-fit a ok fresh-configuration xs m h (fresh-run-fits a) e in
     run-fit a z r
     (record {
       chain = subst (ChainAt g (a .start-nonterminal)) (sym s) (f .chain);

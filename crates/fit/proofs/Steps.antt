@@ -7,7 +7,7 @@ use Rattle.sheet.specs.Sheet.{Sheet}
 use Rattle.runs.specs.Visits.{grammar}
 use Rattle.runs.specs.Events.{Event}
 use Rattle.runs.specs.Fits.{SheetFits, EventsFit}
-use Rattle.runs.specs.Machine.{most, State, Answer, took, step, finished, onward, run, fresh-state}
+use Rattle.runs.specs.Machine.{most, Configuration, Answer, took, step, finished, onward, run, fresh-configuration}
 use Rattle.runs.proofs.Moves.{moves-run}
 use Rattle.runs.proofs.Kept.{kept-moves}
 use Rattle.runs.proofs.Fits.{acts-fit, fresh-fits, moves-letters}
@@ -15,11 +15,11 @@ use Rattle.fit.specs.RunFits.{RunFits}
 use Rattle.fit.proofs.Reached.{chain-moves}
 
 -- the run that has read nothing fits every sheet
-pub fresh-run-fits : (a : Sheet) → RunFits a fresh-state
+pub fresh-run-fits : (a : Sheet) → RunFits a fresh-configuration
 fresh-run-fits a = record { chain = tt; kept = refl; store = fresh-fits }
 
 module _ (a : Sheet) (ok : SheetFits a) where
-  pub events-fit : (m : State) (xs : List Event) (m′ : State) → EventsFit xs → RunFits a m → run a m xs ≡ finished m′ → RunFits a m′
+  pub events-fit : (m : Configuration) (xs : List Event) (m′ : Configuration) → EventsFit xs → RunFits a m → run a m xs ≡ finished m′ → RunFits a m′
   events-fit m xs m′ h f e =
       let t = moves-run a (m .control) (m .store) xs m′ e in
       record {
@@ -28,11 +28,11 @@ module _ (a : Sheet) (ok : SheetFits a) where
         store = acts-fit a ok (t .row) (moves-letters (grammar a) (a .start-nonterminal) most (t .moved) h) (m .store) (m′ .store) (f .store) (t .done);
       }
 
-  pub step-fits : (m : State) (x : Event) (m′ : State) → EventsFit (x ∷ []) → RunFits a m → step a m x ≡ took m′ → RunFits a m′
+  pub step-fits : (m : Configuration) (x : Event) (m′ : Configuration) → EventsFit (x ∷ []) → RunFits a m → step a m x ≡ took m′ → RunFits a m′
   step-fits m x m′ h f e = events-fit m (x ∷ []) m′ h f (ap (λ (y : Answer). onward m (x ∷ []) y (λ z. finished z)) e)
 
 -- what it has written does not matter
-pub silent-fits : (a : Sheet) (m : State) → RunFits a m →
+pub silent-fits : (a : Sheet) (m : Configuration) → RunFits a m →
     RunFits a
     (record {
       control = m .control;

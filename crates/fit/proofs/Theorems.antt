@@ -24,7 +24,7 @@ use Rattle.runs.proofs.Nodes.{open-few}
 use Rattle.runs.specs.Machine.{most}
 use Rattle.state.specs.Bounds.{mostSets, frameWidth, headWidth}
 use Rattle.state.specs.Changes.{freshState}
-use Rattle.state.specs.Meaning.{All, none, more, Fits, Shaped}
+use Rattle.state.specs.Meaning.{Every, none, more, Fits, Shaped}
 use Rattle.state.specs.Bytes.{frameAt, stateFrom, SizedFrame, Sized}
 use Rattle.state.proofs.Gathered.{length-gathered}
 use Rattle.state.proofs.Widths.{all-read, frame-read}
@@ -51,12 +51,12 @@ module _ (s : List ℕ) (g : List Production) (γ : GrammarIs s g) where
       let i = produces-inv s g γ (f .production) (k .nonterm) (k .production) in
       omega (arith, k .sets, open-few (contentOf g (f .production)) (f .place) (k .nodes) (k .place), deep s (f .production) (contentOf g (f .production)) (content-at s g γ (f .production) (i .0)))
 
-  frames-room : (may : Option ℕ) (fs : List Frame) → FramesFit g may fs → All SizedFrame fs → All Fits fs
+  frames-room : (may : Option ℕ) (fs : List Frame) → FramesFit g may fs → Every SizedFrame fs → Every Fits fs
   frames-room may [] k a = none
   frames-room may (f ∷ fs) k (more z a) =
       more (record { room = frame-room may f (k .0); sets = z .saved }) (frames-room (childAt (contentOf g (f .production)) (f .place)) fs (k .1) a)
 
-  shaped-by : (n : ℕ) (z : State) → length (z .frames) ≡ most → All SizedFrame (z .frames) → Fit g n z → Shaped z
+  shaped-by : (n : ℕ) (z : State) → length (z .frames) ≡ most → Every SizedFrame (z .frames) → Fit g n z → Shaped z
   shaped-by n z l a k = record { deep = k .few; frames = l; fits = frames-room (some n) (take (z .depth) (z .frames)) (k .frames) (all-take (z .depth) (z .frames) a) }
 
   pub fit-shaped : (n : ℕ) (z : State) → Sized z → Fit g n z → Shaped z
@@ -89,7 +89,7 @@ module _ (g : List Production) where
         nodes = k .nodes;
         place = ap (λ (q : ℕ). openNodes (contentOf g q) (h .place)) (sym (e .production)) ∙ ap (openNodes (contentOf g (f .production))) (sym (e .place)) ∙ k .place;
         sets = sym (e .count) ∙ k .sets;
-        values = subst (All SetFits) (e .sets) (k .values);
+        values = subst (Every SetFits) (e .sets) (k .values);
       }
 
   same-frames : (may : Option ℕ) (fs hs : List Frame) → FramesInUse fs hs → FramesFit g may fs → FramesFit g may hs

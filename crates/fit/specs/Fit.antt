@@ -18,7 +18,7 @@ use Rattle.runs.specs.Lookup.{produces}
 use Rattle.runs.specs.Nodes.{openNodes}
 use Rattle.runs.specs.Machine.{most}
 use Rattle.state.specs.Changes.{notClosed}
-use Rattle.state.specs.Meaning.{All}
+use Rattle.state.specs.Meaning.{Every}
 use Rattle.state.specs.declared.Saved.{Saved}
 use Rattle.state.specs.declared.Frame.{Frame}
 use Rattle.state.specs.declared.State.{State}
@@ -48,7 +48,7 @@ childAt e p = childOf (atomAt e p)
 
 -- no value of a set is over the highest
 abbrev pub SetFits : Saved → Type 0
-SetFits k = All Value (k .values)
+SetFits k = Every Value (k .values)
 
 -- an open element: its production is one of the nonterminal that it may be of, its place one of that production's; of each node open at that
 -- place, and of the production, a set is in use, and no more
@@ -59,7 +59,7 @@ pub record FrameFits (g : List Production) (may : Option ℕ) (f : Frame) : Type
   pub nodes : List ℕ
   pub place : openNodes (contentOf g (f .production)) (f .place) ≡ some nodes
   pub sets : f .«open» ≡ suc (length nodes)
-  pub values : All SetFits (take (f .«open») (f .saved))
+  pub values : Every SetFits (take (f .«open») (f .saved))
 
 -- open elements, the outermost first, each as the place of the one around it can have it
 abbrev pub FramesFit : List Production → Option ℕ → List Frame → Type 0
@@ -75,5 +75,5 @@ pub record Fit (g : List Production) (n : ℕ) (z : State) : Type 0 where
   pub few : z .depth ≤ most
   pub closing : ClosingFits (z .closed)
   pub count : z .count ≤ mostVisits
-  pub values : All Value (z .values)
+  pub values : Every Value (z .values)
   pub frames : FramesFit g (some n) (take (z .depth) (z .frames))

@@ -11,7 +11,7 @@ use Rattle.runs.specs.Lookup.{produces}
 use Rattle.runs.specs.Visits.{grammar}
 use Rattle.runs.specs.Nodes.{KeptAt}
 use Rattle.runs.specs.Fits.{StoreFits}
-use Rattle.runs.specs.Machine.{Open, Control, before, inside, after, State}
+use Rattle.runs.specs.Machine.{Open, Control, before, inside, after, Configuration}
 use Rattle.fit.specs.Fit.{childAt}
 
 -- an open element and those around it, innermost first: each is of the nonterminal that the place of the one around it has, the root of the start
@@ -25,7 +25,7 @@ ChainAt g n (inside o os) = Chain g n o os
 ChainAt g n after = Unit {0}
 
 -- its open elements are as their places say, as much is kept of each, and the values are within their limits
-pub record RunFits (a : Sheet) (m : State) : Type 0 where
+pub record RunFits (a : Sheet) (m : Configuration) : Type 0 where
   pub chain : ChainAt (grammar a) (a .start-nonterminal) (m .control)
   pub kept : KeptAt (grammar a) (m .control) (m .store .kept)
   pub store : StoreFits (m .store)

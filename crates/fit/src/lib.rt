@@ -13,7 +13,7 @@ ghost use Rattle.sheet.specs.Defect.{WellFormed};
 ghost use Rattle.runs.specs.Machine.{most};
 ghost use Rattle.state.specs.Bounds.{mostSets};
 ghost use Rattle.state.specs.Bytes.{Sized};
-ghost use Rattle.state.specs.Meaning.{All};
+ghost use Rattle.state.specs.Meaning.{Every};
 ghost use Rattle.fit.specs.Fit.{SetFits, ClosingFits};
 ghost use Rattle.fit.specs.Tests.{LeafOf, AroundOf, WalkedAs, SpotIs, FrameTold, FramesTold, FitTold};
 use layout::Layout;
@@ -144,7 +144,7 @@ fn spot_of(s: &[u8], l: Layout, q: usize, p: usize) -> Spot
 
 // Whether no value is over the highest.
 fn values_fit(values: [u8; State::ATTRIBUTES]) -> bool
-    ensures { λ r. ⌜ Tells (All Value values) r ⌝ }
+    ensures { λ r. ⌜ Tells (Every Value values) r ⌝ }
 {
     let mut i = 0;
     while i < State::ATTRIBUTES {
@@ -159,7 +159,7 @@ fn values_fit(values: [u8; State::ATTRIBUTES]) -> bool
 // Whether the values of the first n sets fit.
 fn sets_fit(sets: [Saved; Frame::SETS], n: usize) -> bool
     requires { ⌜ n ≤ mostSets ⌝ }
-    ensures { λ r. ⌜ Tells (All SetFits (take n sets)) r ⌝ }
+    ensures { λ r. ⌜ Tells (Every SetFits (take n sets)) r ⌝ }
 {
     let mut i = 0;
     while i < n {

@@ -11,7 +11,7 @@ use Rattle.tokens.proofs.Streams.{flat-one}
 use Rattle.sheet.specs.Sheet.{Sheet}
 use Rattle.runs.specs.Visits.{grammar, Env, fresh}
 use Rattle.runs.specs.Parse.{Element, yield, size, depth}
-use Rattle.runs.specs.Machine.{State, most}
+use Rattle.runs.specs.Machine.{Configuration, most}
 use Rattle.runs.specs.Taken.{Passed, closed-with}
 use Rattle.runs.specs.Spells.{Token, start-token, end-token, empty-token, marks, Spelled, through}
 use Rattle.runs.proofs.Rules.{no-T, no-S}
@@ -92,7 +92,7 @@ accepted-count-stays a a′ ok r s v v′ x x′ =
     let q : through (closed-with (l .comes-to)) ≡ through (closed-with (l′ .comes-to)) =
     sym (spelled-iff (stripped a′) ok₀ ts (l .comes-to) .1 (l .spelled)) ∙ spelled-iff (stripped a′) ok₀ ts (l′ .comes-to) .1 (l′ .spelled) in
     let z : closed-with (l .comes-to) ≡ closed-with (l′ .comes-to) = cc in
-    let n : 2 * size (y .root) ≡ 2 * size (x′ .spells .root) = sym (l .counted) ∙ ap (λ (z : State). z .store .env .count) z ∙ l′ .counted in
+    let n : 2 * size (y .root) ≡ 2 * size (x′ .spells .root) = sym (l .counted) ∙ ap (λ (z : Configuration). z .store .env .count) z ∙ l′ .counted in
     tree-count a ts v y ∙ n ∙ sym (accepted-count a′ s v′ x′)
   where
     tree-count : (a : Sheet) (ts : List Token) (v : Env) (y : Spelled a ts v) → v .count ≡ 2 * size (y .root)

@@ -7,7 +7,7 @@ use Rattle.layout.specs.Layout.{tagOffset, tagCount, productionOffset, p
 use Rattle.layout.specs.declared.Layout.{Layout}
 
 -- what was read is the number n, which is below a bound
-pub record Reads (bound n r : ℕ) : Type 0 where
+pub record NumberRead (bound n r : ℕ) : Type 0 where
   pub is : r ≡ n
   pub below : r < bound
 
@@ -19,18 +19,18 @@ pub record Follows (at end count least most : ℕ) : Type 0 where
 
 -- each field is the trailer's number
 pub record LayoutIs (s : List ℕ) (l : Layout) : Type 0 where
-  pub tags-at-is : Reads 65536 (tagOffset s) (l .«tags_at»)
-  pub tags-is : Reads 65536 (tagCount s) (l .tags)
-  pub productions-at-is : Reads 65536 (productionOffset s) (l .«productions_at»)
-  pub productions-is : Reads 65536 (productionCount s) (l .productions)
-  pub nodes-at-is : Reads 65536 (nodeOffset s) (l .«nodes_at»)
-  pub nodes-is : Reads 65536 (nodeCount s) (l .nodes)
-  pub programs-at-is : Reads 65536 (programOffset s) (l .«programs_at»)
-  pub programs-is : Reads 65536 (programLength s) (l .programs)
-  pub strings-at-is : Reads 65536 (stringOffset s) (l .«strings_at»)
-  pub strings-is : Reads 65536 (stringLength s) (l .strings)
-  pub start-is : Reads 65536 (start s) (l .start)
-  pub mark-is : Reads 65536 (mark s) (l .mark)
+  pub tags-at-is : NumberRead 65536 (tagOffset s) (l .«tags_at»)
+  pub tags-is : NumberRead 65536 (tagCount s) (l .tags)
+  pub productions-at-is : NumberRead 65536 (productionOffset s) (l .«productions_at»)
+  pub productions-is : NumberRead 65536 (productionCount s) (l .productions)
+  pub nodes-at-is : NumberRead 65536 (nodeOffset s) (l .«nodes_at»)
+  pub nodes-is : NumberRead 65536 (nodeCount s) (l .nodes)
+  pub programs-at-is : NumberRead 65536 (programOffset s) (l .«programs_at»)
+  pub programs-is : NumberRead 65536 (programLength s) (l .programs)
+  pub strings-at-is : NumberRead 65536 (stringOffset s) (l .«strings_at»)
+  pub strings-is : NumberRead 65536 (stringLength s) (l .strings)
+  pub start-is : NumberRead 65536 (start s) (l .start)
+  pub mark-is : NumberRead 65536 (mark s) (l .mark)
 
 -- it is the layout of a sheet that keeps numbers 1 and 2; the order facts follow from that, and bound every index
 pub record LaidOut (s : List ℕ) (l : Layout) : Type 0 where

@@ -4,7 +4,7 @@ ghost use lib.ListN.{length};
 ghost use Rattle.tells.specs.Tells.{Tells};
 ghost use Rattle.layout.specs.Layout.{byteAt, wordAt, trailerWord, Sections};
 ghost use Rattle.layout.specs.Records.{productionAt, nonterminalOf, tagNumberOf, firstNodeOf, nodeCountOf, firstProgramOf, secondProgramOf, nodeAt, kindOf, argumentOf, firstProgramOfNode, secondProgramOfNode};
-ghost use Rattle.layout.specs.LaidOut.{Reads, Follows, LayoutIs, LaidOut};
+ghost use Rattle.layout.specs.LaidOut.{NumberRead, Follows, LayoutIs, LaidOut};
 
 // The trailer's twelve numbers.
 pub struct Layout {
@@ -23,7 +23,7 @@ pub struct Layout {
 }
 
 fn wide(x: u8) -> usize
-    ensures { λ r. ⌜ Reads 256 x r ⌝ }
+    ensures { λ r. ⌜ NumberRead 256 x r ⌝ }
 {
     x as usize
 }
@@ -31,7 +31,7 @@ fn wide(x: u8) -> usize
 // The byte at i, as a number that indices can be reckoned with.
 pub fn byte_at(s: &[u8], i: usize) -> usize
     requires { ⌜ i < length (now s) ⌝ }
-    ensures { λ r. ⌜ Reads 256 (byteAt (now (s .entry)) i) r ⌝ }
+    ensures { λ r. ⌜ NumberRead 256 (byteAt (now (s .entry)) i) r ⌝ }
 {
     wide(s[i])
 }
@@ -39,7 +39,7 @@ pub fn byte_at(s: &[u8], i: usize) -> usize
 // The number of two bytes, little-endian, at i.
 pub fn word_at(s: &[u8], i: usize) -> usize
     requires { ⌜ i + 1 < length (now s) ⌝ }
-    ensures { λ r. ⌜ Reads 65536 (wordAt (now (s .entry)) i) r ⌝ }
+    ensures { λ r. ⌜ NumberRead 65536 (wordAt (now (s .entry)) i) r ⌝ }
 {
     let low = byte_at(s, i);
     let high = byte_at(s, i + 1);
@@ -50,7 +50,7 @@ pub fn word_at(s: &[u8], i: usize) -> usize
 fn trailer_word(s: &[u8], k: usize) -> usize
     requires { ⌜ 24 ≤ length (now s) ⌝ }
     requires { ⌜ k < 12 ⌝ }
-    ensures { λ r. ⌜ Reads 65536 (trailerWord (now (s .entry)) k) r ⌝ }
+    ensures { λ r. ⌜ NumberRead 65536 (trailerWord (now (s .entry)) k) r ⌝ }
 {
     word_at(s, s.len() - 24 + 2 * k)
 }
@@ -121,7 +121,7 @@ pub fn production_byte(s: &[u8], l: Layout, q: usize, k: usize) -> usize
     requires { ⌜ LaidOut (now s) l ⌝ }
     requires { ⌜ q < l .productions ⌝ }
     requires { ⌜ k < 12 ⌝ }
-    ensures { λ r. ⌜ Reads 256 (byteAt (now (s .entry)) (productionAt (now (s .entry)) q + k)) r ⌝ }
+    ensures { λ r. ⌜ NumberRead 256 (byteAt (now (s .entry)) (productionAt (now (s .entry)) q + k)) r ⌝ }
 {
     byte_at(s, l.productions_at + 12 * q + k)
 }
@@ -130,7 +130,7 @@ fn production_word(s: &[u8], l: Layout, q: usize, k: usize) -> usize
     requires { ⌜ LaidOut (now s) l ⌝ }
     requires { ⌜ q < l .productions ⌝ }
     requires { ⌜ k < 11 ⌝ }
-    ensures { λ r. ⌜ Reads 65536 (wordAt (now (s .entry)) (productionAt (now (s .entry)) q + k)) r ⌝ }
+    ensures { λ r. ⌜ NumberRead 65536 (wordAt (now (s .entry)) (productionAt (now (s .entry)) q + k)) r ⌝ }
 {
     word_at(s, l.productions_at + 12 * q + k)
 }
@@ -139,7 +139,7 @@ fn node_byte(s: &[u8], l: Layout, i: usize, k: usize) -> usize
     requires { ⌜ LaidOut (now s) l ⌝ }
     requires { ⌜ i < l .nodes ⌝ }
     requires { ⌜ k < 6 ⌝ }
-    ensures { λ r. ⌜ Reads 256 (byteAt (now (s .entry)) (nodeAt (now (s .entry)) i + k)) r ⌝ }
+    ensures { λ r. ⌜ NumberRead 256 (byteAt (now (s .entry)) (nodeAt (now (s .entry)) i + k)) r ⌝ }
 {
     byte_at(s, l.nodes_at + 6 * i + k)
 }
@@ -148,7 +148,7 @@ fn node_word(s: &[u8], l: Layout, i: usize, k: usize) -> usize
     requires { ⌜ LaidOut (now s) l ⌝ }
     requires { ⌜ i < l .nodes ⌝ }
     requires { ⌜ k < 5 ⌝ }
-    ensures { λ r. ⌜ Reads 65536 (wordAt (now (s .entry)) (nodeAt (now (s .entry)) i + k)) r ⌝ }
+    ensures { λ r. ⌜ NumberRead 65536 (wordAt (now (s .entry)) (nodeAt (now (s .entry)) i + k)) r ⌝ }
 {
     word_at(s, l.nodes_at + 6 * i + k)
 }
@@ -157,7 +157,7 @@ fn node_word(s: &[u8], l: Layout, i: usize, k: usize) -> usize
 pub fn nonterminal_of(s: &[u8], l: Layout, q: usize) -> usize
     requires { ⌜ LaidOut (now s) l ⌝ }
     requires { ⌜ q < l .productions ⌝ }
-    ensures { λ r. ⌜ Reads 256 (nonterminalOf (now (s .entry)) q) r ⌝ }
+    ensures { λ r. ⌜ NumberRead 256 (nonterminalOf (now (s .entry)) q) r ⌝ }
 {
     production_byte(s, l, q, 0)
 }
@@ -165,7 +165,7 @@ pub fn nonterminal_of(s: &[u8], l: Layout, q: usize) -> usize
 pub fn tag_number_of(s: &[u8], l: Layout, q: usize) -> usize
     requires { ⌜ LaidOut (now s) l ⌝ }
     requires { ⌜ q < l .productions ⌝ }
-    ensures { λ r. ⌜ Reads 256 (tagNumberOf (now (s .entry)) q) r ⌝ }
+    ensures { λ r. ⌜ NumberRead 256 (tagNumberOf (now (s .entry)) q) r ⌝ }
 {
     production_byte(s, l, q, 1)
 }
@@ -173,7 +173,7 @@ pub fn tag_number_of(s: &[u8], l: Layout, q: usize) -> usize
 pub fn first_node_of(s: &[u8], l: Layout, q: usize) -> usize
     requires { ⌜ LaidOut (now s) l ⌝ }
     requires { ⌜ q < l .productions ⌝ }
-    ensures { λ r. ⌜ Reads 65536 (firstNodeOf (now (s .entry)) q) r ⌝ }
+    ensures { λ r. ⌜ NumberRead 65536 (firstNodeOf (now (s .entry)) q) r ⌝ }
 {
     production_word(s, l, q, 2)
 }
@@ -181,7 +181,7 @@ pub fn first_node_of(s: &[u8], l: Layout, q: usize) -> usize
 pub fn node_count_of(s: &[u8], l: Layout, q: usize) -> usize
     requires { ⌜ LaidOut (now s) l ⌝ }
     requires { ⌜ q < l .productions ⌝ }
-    ensures { λ r. ⌜ Reads 256 (nodeCountOf (now (s .entry)) q) r ⌝ }
+    ensures { λ r. ⌜ NumberRead 256 (nodeCountOf (now (s .entry)) q) r ⌝ }
 {
     production_byte(s, l, q, 4)
 }
@@ -189,7 +189,7 @@ pub fn node_count_of(s: &[u8], l: Layout, q: usize) -> usize
 pub fn first_program_of(s: &[u8], l: Layout, q: usize) -> usize
     requires { ⌜ LaidOut (now s) l ⌝ }
     requires { ⌜ q < l .productions ⌝ }
-    ensures { λ r. ⌜ Reads 65536 (firstProgramOf (now (s .entry)) q) r ⌝ }
+    ensures { λ r. ⌜ NumberRead 65536 (firstProgramOf (now (s .entry)) q) r ⌝ }
 {
     production_word(s, l, q, 6)
 }
@@ -197,7 +197,7 @@ pub fn first_program_of(s: &[u8], l: Layout, q: usize) -> usize
 pub fn second_program_of(s: &[u8], l: Layout, q: usize) -> usize
     requires { ⌜ LaidOut (now s) l ⌝ }
     requires { ⌜ q < l .productions ⌝ }
-    ensures { λ r. ⌜ Reads 65536 (secondProgramOf (now (s .entry)) q) r ⌝ }
+    ensures { λ r. ⌜ NumberRead 65536 (secondProgramOf (now (s .entry)) q) r ⌝ }
 {
     production_word(s, l, q, 8)
 }
@@ -206,7 +206,7 @@ pub fn second_program_of(s: &[u8], l: Layout, q: usize) -> usize
 pub fn kind_of(s: &[u8], l: Layout, i: usize) -> usize
     requires { ⌜ LaidOut (now s) l ⌝ }
     requires { ⌜ i < l .nodes ⌝ }
-    ensures { λ r. ⌜ Reads 256 (kindOf (now (s .entry)) i) r ⌝ }
+    ensures { λ r. ⌜ NumberRead 256 (kindOf (now (s .entry)) i) r ⌝ }
 {
     node_byte(s, l, i, 0)
 }
@@ -214,7 +214,7 @@ pub fn kind_of(s: &[u8], l: Layout, i: usize) -> usize
 pub fn argument_of(s: &[u8], l: Layout, i: usize) -> usize
     requires { ⌜ LaidOut (now s) l ⌝ }
     requires { ⌜ i < l .nodes ⌝ }
-    ensures { λ r. ⌜ Reads 256 (argumentOf (now (s .entry)) i) r ⌝ }
+    ensures { λ r. ⌜ NumberRead 256 (argumentOf (now (s .entry)) i) r ⌝ }
 {
     node_byte(s, l, i, 1)
 }
@@ -222,7 +222,7 @@ pub fn argument_of(s: &[u8], l: Layout, i: usize) -> usize
 pub fn first_program_of_node(s: &[u8], l: Layout, i: usize) -> usize
     requires { ⌜ LaidOut (now s) l ⌝ }
     requires { ⌜ i < l .nodes ⌝ }
-    ensures { λ r. ⌜ Reads 65536 (firstProgramOfNode (now (s .entry)) i) r ⌝ }
+    ensures { λ r. ⌜ NumberRead 65536 (firstProgramOfNode (now (s .entry)) i) r ⌝ }
 {
     node_word(s, l, i, 2)
 }
@@ -230,7 +230,7 @@ pub fn first_program_of_node(s: &[u8], l: Layout, i: usize) -> usize
 pub fn second_program_of_node(s: &[u8], l: Layout, i: usize) -> usize
     requires { ⌜ LaidOut (now s) l ⌝ }
     requires { ⌜ i < l .nodes ⌝ }
-    ensures { λ r. ⌜ Reads 65536 (secondProgramOfNode (now (s .entry)) i) r ⌝ }
+    ensures { λ r. ⌜ NumberRead 65536 (secondProgramOfNode (now (s .entry)) i) r ⌝ }
 {
     node_word(s, l, i, 4)
 }

@@ -15,7 +15,7 @@ use Rattle.lexing.specs.declared.Tried.{Tried}
 use Rattle.lexemes.specs.declared.Lexeme.{Lexeme}
 use Rattle.lexing.specs.Front.{Whole, Begins, Stuck}
 use Rattle.lexing.specs.Reads.{Stops, stopsAt, nothing, Spelt, Starts, Halts, ReadIs, whole, halts, OneSpelling, Numbered, NameSpelling, TagSpelling, StringSpelling}
-use Rattle.lexemes.specs.Kinds.{kinds, markNumber, wordNumber, signNumber, kindOf, numberOf, Fit, OfKind, Only, Allowed, TriedIs, a-token, no-token, Lexed}
+use Rattle.lexemes.specs.Kinds.{kinds, markNumber, wordNumber, signNumber, kindOf, numberOf, TokenFits, OfKind, Only, Allowed, TriedIs, a-token, no-token, Lexed}
 
 -- a sort of spellings is that of some tokens
 record SortOf (May : Token → Type 0) (L : List ℕ → ℕ → Type 0) (j : ℕ → Bool) : Type 0 where
@@ -209,7 +209,7 @@ abbrev As : (ℕ → Token) → (ℕ → Type 0) → Token → Type 0
 As make Good t = (n : ℕ) × Good n × (t ≡ make n)
 
 abbrev Named : (List ℕ → Token) → Token → Type 0
-Named make t = (n : List ℕ) × Fit (make n) × (t ≡ make n)
+Named make t = (n : List ℕ) × TokenFits (make n) × (t ≡ make n)
 
 nonterminal-only : (t : Token) → OfKind 0 t → As nonterminal (λ n. n < 64) t
 nonterminal-only (nonterminal n) h = (n, h .fit, refl)
@@ -336,7 +336,7 @@ name-read k x r e h = subst (λ z. TriedIs (OfKind z) x r) (sym e) (read-token (
 }) x r h)
 
 -- tags: a name between two rows of bytes
-tag-sort : (k : ℕ) (a b : List ℕ) (make : List ℕ → Token) → ((t : Token) → OfKind k t → Named make t) → ((n : List ℕ) → TagName n → OfKind k (make n)) → ((n : List ℕ) → Fit (make n) → TagName n) → ((n : List ℕ) → bytesOf (make n) ≡ a ++ (n ++ b))
+tag-sort : (k : ℕ) (a b : List ℕ) (make : List ℕ → Token) → ((t : Token) → OfKind k t → Named make t) → ((n : List ℕ) → TagName n → OfKind k (make n)) → ((n : List ℕ) → TokenFits (make n) → TagName n) → ((n : List ℕ) → bytesOf (make n) ≡ a ++ (n ++ b))
     → ((n : List ℕ) → numberOf (make n) ≡ length n) → ((n : List ℕ) (c : ℕ) → joins (make n) c ≡ false) → SortOf (OfKind k) (TagSpelling a b) nothing
 tag-sort k a b make only made fits bytes number join = record {
   spelled = λ t m. let o = only t m in record { name = o .0; named = fits (o .0) (o .1); long = ap numberOf (o .2) ∙ number (o .0); spelled = ap bytesOf (o .2) ∙ bytes (o .0) };

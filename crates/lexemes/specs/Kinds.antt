@@ -72,21 +72,21 @@ numberOf (word w) = 0
 numberOf (sign s) = 0
 
 -- numbers, names and strings that a text may have
-abbrev pub Fit : Token → Type 0
-Fit (nonterminal n) = n < 64
-Fit (value v) = v < 16
-Fit (attribute m a) = a < 4
-Fit (name n) = TagName n
-Fit (start-tag n) = TagName n
-Fit (end-tag n) = TagName n
-Fit (empty-tag n) = TagName n
-Fit (string cs) = StringOf cs
-Fit (word w) = Unit {0}
-Fit (sign s) = Unit {0}
+abbrev pub TokenFits : Token → Type 0
+TokenFits (nonterminal n) = n < 64
+TokenFits (value v) = v < 16
+TokenFits (attribute m a) = a < 4
+TokenFits (name n) = TagName n
+TokenFits (start-tag n) = TagName n
+TokenFits (end-tag n) = TagName n
+TokenFits (empty-tag n) = TagName n
+TokenFits (string cs) = StringOf cs
+TokenFits (word w) = Unit {0}
+TokenFits (sign s) = Unit {0}
 
 pub record OfKind (k : ℕ) (t : Token) : Type 0 where
   pub kind : kindOf t ≡ k
-  pub fit : Fit t
+  pub fit : TokenFits t
 
 abbrev pub Only : Bool → (Token → Type 0) → Token → Type 0
 Only true May t = May t
@@ -95,7 +95,7 @@ Only false May t = ⊥
 -- the kinds that are marked
 pub record Allowed (may : List Bool) (t : Token) : Type 0 where
   pub marked : getD may (kindOf t) false ≡ true
-  pub fit : Fit t
+  pub fit : TokenFits t
 
 pub data TriedIs (May : Token → Type 0) (x : List ℕ) : Tried → Type 0 where
   a-token : {n k : ℕ} (t : Token) → Whole May x t → n ≡ numberOf t → k ≡ length (bytesOf t) → TriedIs May x (Tried.Whole n k)

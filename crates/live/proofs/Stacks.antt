@@ -17,12 +17,12 @@ use Rattle.state.specs.declared.Saved.{Saved}
 use Rattle.state.specs.declared.Frame.{Frame}
 use Rattle.state.specs.declared.State.{State}
 use Rattle.runs.specs.Visits.{attributes}
-use Rattle.runs.specs.Machine.{inside, most, State as Run}
+use Rattle.runs.specs.Machine.{inside, most, Configuration as Run}
 use Rattle.state.specs.Bounds.{mostSets, setWidth, frameWidth, stackWidth}
 use Rattle.layout.specs.Layout.{byteAt}
 use Rattle.state.specs.Bytes.{bytesAt, gathered, savedAt, frameAt, usedAt, usedBytes, SizedFrame}
 use Rattle.state.specs.Changes.{bareSaved, bareFrame, lastOf, putLast, keeping, lastSet, withoutLast, atPlace, pushed, popped, topOf, saving, restored, placed, tidyFrame}
-use Rattle.state.specs.Meaning.{setsOf, openOf, opensOf, All, Fits, meaningOf, Shaped}
+use Rattle.state.specs.Meaning.{setsOf, openOf, opensOf, Every, Fits, meaningOf, Shaped}
 use Rattle.state.proofs.Gathered.{length-gathered}
 use Rattle.state.proofs.Back.{used-back, used-wide}
 use Rattle.state.proofs.Laws.{take-last, all-front}
@@ -247,12 +247,12 @@ module _ (base : ℕ) where
   pop-shaped : (h : Live) (b : List ℕ) → 0 < h .depth → Shaped (fullAt base h b) → Shaped (fullAt base (poppedIn base h b) b)
   pop-shaped h b p s =
       let l : List Frame = stackAt base (h .depth) (h .top) b in
-      let fits : All Fits (take (h .depth - 1) l) =
-      all-front (take (h .depth - 1) l) (lastOf bareFrame l (h .depth)) (subst (All Fits) (take-last bareFrame l (h .depth) p (omega (arith, s .deep, s .frames))) (s .fits)) in
+      let fits : Every Fits (take (h .depth - 1) l) =
+      all-front (take (h .depth - 1) l) (lastOf bareFrame l (h .depth)) (subst (Every Fits) (take-last bareFrame l (h .depth) p (omega (arith, s .deep, s .frames))) (s .fits)) in
       record {
         deep = omega (arith, s .deep);
         frames = stack-long (h .depth - 1) (poppedIn base h b .top) b (omega (arith, s .deep));
-        fits = subst (All Fits) (sym (left-same h b p)) fits;
+        fits = subst (Every Fits) (sym (left-same h b p)) fits;
       }
 
   pop-is : (h : Live) (b : List ℕ) (r : Live) → r ≡ poppedIn base h b → PoppedAs base h b r

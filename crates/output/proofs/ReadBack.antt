@@ -25,7 +25,7 @@ use Rattle.tokens.proofs.Runs.{all-append}
 use Rattle.tokens.proofs.Reading.{utf8-most}
 use Rattle.tokens.proofs.Streams.{reads-flat}
 use Rattle.tokens.proofs.LineEnds.{no-cr-in, utf8-no-cr}
-use Rattle.output.specs.Escape.{crByNumber, escaped, asItself, Piece, start, end, character, written, render, characters, text, Fit, AllFit, eventAt, events, pieces, allPieces, NeverCR}
+use Rattle.output.specs.Escape.{crByNumber, escaped, asItself, Piece, start, end, character, written, render, characters, text, PieceFits, AllFit, eventAt, events, pieces, allPieces, NeverCR}
 use Rattle.output.proofs.Writing.{escaped-amp, escaped-lt, escaped-gt, escaped-cr, escaped-other}
 
 -- the token that a piece is written as
@@ -56,7 +56,7 @@ char-as c ok = go (ℕ-discrete c 38) (ℕ-discrete c 60) (ℕ-discrete c 62) (�
     go (no h) (no j) (no k) (no l) =
         record { tok = char c; good = (ok, j, h, k, l); same = escaped-other c h j k l; short = omega (arith, utf8-most c); event = λ at. ap (Character c) (itself c h j k l); stands-whole = λ r. tt }
 
-pub written-as : (p : Piece) → Fit p → WrittenAs p
+pub written-as : (p : Piece) → PieceFits p → WrittenAs p
 written-as (start n) ok = record { tok = tag Kind.start n []; good = (ok .0, tt); same = refl; short = omega (arith, length-append n (62 ∷ []), ok .1); event = λ at. refl; stands-whole = λ r. tt }
 written-as (end n) ok = record { tok = tag Kind.end n []; good = (ok .0, tt); same = refl; short = omega (arith, length-append n (62 ∷ []), ok .1); event = λ at. refl; stands-whole = λ r. tt }
 written-as (character c) ok = char-as c ok
@@ -142,7 +142,7 @@ text-back cs p r ok =
 name-no-cr : (n : List ℕ) → Name n → NoCR (n ++ (62 ∷ []))
 name-no-cr n ok = all-append (λ b. not (eqb b 13)) n (62 ∷ []) (no-cr-in nameByte refl n (name-all n ok)) (refl, tt)
 
-piece-no-cr : (p : Piece) → Fit p → NoCR (written p)
+piece-no-cr : (p : Piece) → PieceFits p → NoCR (written p)
 piece-no-cr (start n) ok = (refl, name-no-cr n (ok .0))
 piece-no-cr (end n) ok = (refl, (refl, name-no-cr n (ok .0)))
 piece-no-cr (character c) ok = go (ℕ-discrete c 38) (ℕ-discrete c 60) (ℕ-discrete c 62) (ℕ-discrete c 13)

@@ -58,14 +58,14 @@ abbrev pub text : List ℕ → List ℕ
 text cs = render (characters cs)
 
 -- what we may write: characters of the Char set, and names whose tags have at most 32 bytes (a sheet's have 15 bytes at most)
-abbrev pub Fit : Piece → Type 0
-Fit (start n) = Name n × (length n ≤ 30)
-Fit (end n) = Name n × (length n ≤ 29)
-Fit (character c) = Char c
+abbrev pub PieceFits : Piece → Type 0
+PieceFits (start n) = Name n × (length n ≤ 30)
+PieceFits (end n) = Name n × (length n ≤ 29)
+PieceFits (character c) = Char c
 
 abbrev pub AllFit : List Piece → Type 0
 AllFit [] = Unit {0}
-AllFit (p ∷ ps) = Fit p × AllFit ps
+AllFit (p ∷ ps) = PieceFits p × AllFit ps
 
 -- the event of a piece that is written at `at`, and those of pieces one after the other from there
 abbrev pub eventAt : ℕ → Piece → Event

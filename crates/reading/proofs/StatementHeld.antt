@@ -15,7 +15,7 @@ use Rattle.notation.specs.Statements.{parentheses, only, assigned, ItemIs, a-st
 use Rattle.reading.specs.Machine.{andThen, walk}
 use Rattle.reading.specs.Tests.{tagName?, string?}
 use Rattle.reading.specs.Conditions.{Part, operand, a-not, an-and, an-or, an-open, a-close, an-equals, other, Reading, fresh, stepCondition, valueOf, finishedOf, attribute?, partOf}
-use Rattle.reading.specs.Statements.{Start, simply, a-target, a-print, an-if, a-begin, no-start, startIf, startWord, current?, targetIf, startOf, Next, an-item, a-semicolon, an-else, a-then, an-assign, nothing, itemIf, nextWord, nextSign, nextOf, Pending, in-then, in-else, ended, endedAll, otherwise, Level, level, listed, around, Place, opening, separated, branching, Listing, wants, target, assigning, printing, testing, after, unblocked, blocked, emptied, started, elsed, one-more, followed, printed, targeted, assignedBy, thenned, tested, stepStatements, emptyValue, wholeValue, valueOfList, shortestAt, finishedList}
+use Rattle.reading.specs.Statements.{Start, simply, a-target, a-print, an-if, a-begin, no-start, startIf, startWord, current?, targetIf, startOf, Behind, an-item, a-semicolon, an-else, a-then, an-assign, nothing, itemIf, nextWord, nextSign, nextOf, Pending, in-then, in-else, ended, endedAll, otherwise, Level, level, listed, around, Place, opening, separated, branching, Listing, wants, target, assigning, printing, testing, after, unblocked, blocked, emptied, started, elsed, one-more, followed, printed, targeted, assignedBy, thenned, tested, stepStatements, emptyValue, wholeValue, valueOfList, shortestAt, finishedList}
 use Rattle.reading.proofs.Telling.{none≢some, IfSome}
 use Rattle.reading.proofs.Programs.{then-assoc}
 use Rattle.reading.proofs.ConditionHeld.{PartIs, part-is, Held as ConditionHeld, HeldIf as ConditionHeldIf, held-step as condition-held-step, held-start as condition-held-start, held-value as condition-held-value, held-shortest as condition-held-shortest, zero-is}
@@ -78,11 +78,11 @@ start-is v (word w) = word-start v w
 start-is v (sign s) = tt
 
 -- what a token is behind a statement
-abbrev pub NextIs : Token → Next → Type 0
+abbrev pub NextIs : Token → Behind → Type 0
 NextIs t (an-item p) = ItemIs t p
 NextIs t a-semicolon = t ≡ sign SEMICOLON
 NextIs t an-else = t ≡ word ELSE
-NextIs t Next.an-end = t ≡ word END
+NextIs t Behind.an-end = t ≡ word END
 NextIs t a-then = t ≡ word THEN
 NextIs t an-assign = t ≡ sign ASSIGNED
 NextIs t nothing = Unit {0}
@@ -343,31 +343,31 @@ module _ (v : Visit) where
         n,
       )
 
-  follow-held : (b : Bool) (p : Program) (l : Level) (ls : List Level) (k : Next) (t : Token) (us ts : List Token) → NextIs t k → BehindIs b (l .ifs) us p → Slot l ls ts us → HeldIf (followed b p l ls k) (ts ++ t ∷ [])
+  follow-held : (b : Bool) (p : Program) (l : Level) (ls : List Level) (k : Behind) (t : Token) (us ts : List Token) → NextIs t k → BehindIs b (l .ifs) us p → Slot l ls ts us → HeldIf (followed b p l ls k) (ts ++ t ∷ [])
   follow-held b p l ls (an-item q) t us ts i s h = item-held b p q l ls t us ts i s h
   follow-held b p l ls a-semicolon t us ts i s h = rw i (semicolon-held p l ls us ts (behind-slot b (l .ifs) us p s) h, tt)
   follow-held b p l ls an-else t us ts i s h =
       rw i (else-on l ls us ts (otherwise (l .ifs) p) h (else-held (l .ifs) (h .inner-held .ifs-at) us p (h .inner-held .ifs-held) (behind-slot b (l .ifs) us p s)))
-  follow-held b p l ls Next.an-end t us ts i s h =
+  follow-held b p l ls Behind.an-end t us ts i s h =
       rw i (unblock-held ls (h .outer) ts (h .inner ++ us) (listed l p) (h .outer-held) (ListIs.some (level-listed l false (h .inner) us p (h .inner-held) (behind-slot b (l .ifs) us p s))) (h .are))
   follow-held b p l ls a-then t us ts i s h = tt
   follow-held b p l ls an-assign t us ts i s h = tt
   follow-held b p l ls nothing t us ts i s h = tt
 
-  print-held : (l : Level) (ls : List Level) (k : Next) (t : Token) (ts : List Token) → NextIs t k → Slot l ls ts (word PRINT ∷ []) → HeldIf (printed l ls k) (ts ++ t ∷ [])
+  print-held : (l : Level) (ls : List Level) (k : Behind) (t : Token) (ts : List Token) → NextIs t k → Slot l ls ts (word PRINT ∷ []) → HeldIf (printed l ls k) (ts ++ t ∷ [])
   print-held l ls (an-item q) t ts i h = (word PRINT ∷ t ∷ [], (t ∷ [], ItemsAre.one i, refl), longer h (t ∷ []))
   print-held l ls a-semicolon t ts i h = tt
   print-held l ls an-else t ts i h = tt
-  print-held l ls Next.an-end t ts i h = tt
+  print-held l ls Behind.an-end t ts i h = tt
   print-held l ls a-then t ts i h = tt
   print-held l ls an-assign t ts i h = tt
   print-held l ls nothing t ts i h = tt
 
-  target-held : (a : ℕ) (l : Level) (ls : List Level) (k : Next) (s t : Token) (ts : List Token) → NextIs t k → CurrentIs a v s → Slot l ls ts (s ∷ []) → HeldIf (targeted a l ls k) (ts ++ t ∷ [])
+  target-held : (a : ℕ) (l : Level) (ls : List Level) (k : Behind) (s t : Token) (ts : List Token) → NextIs t k → CurrentIs a v s → Slot l ls ts (s ∷ []) → HeldIf (targeted a l ls k) (ts ++ t ∷ [])
   target-held a l ls (an-item q) s t ts i c h = tt
   target-held a l ls a-semicolon s t ts i c h = tt
   target-held a l ls an-else s t ts i c h = tt
-  target-held a l ls Next.an-end s t ts i c h = tt
+  target-held a l ls Behind.an-end s t ts i c h = tt
   target-held a l ls a-then s t ts i c h = tt
   target-held a l ls an-assign s t ts i c h = rw i (s, c, longer h (sign ASSIGNED ∷ []))
   target-held a l ls nothing s t ts i c h = tt
@@ -394,18 +394,18 @@ module _ (v : Visit) where
         are = ap (λ x. x ++ word THEN ∷ []) (h .are ∙ ap (λ x. h .outer ++ (x ++ word IF ∷ us)) (i .are)) ∙ simp (append-assoc, append-nil);
       }
 
-  thenned-held : (o : Option Condition) (l : Level) (ls : List Level) (k : Next) (t : Token) (us ts : List Token) → NextIs t k → ((c : Condition) → o ≡ some c → ConditionIs v parentheses us c) → Slot l ls ts (word IF ∷ us)
+  thenned-held : (o : Option Condition) (l : Level) (ls : List Level) (k : Behind) (t : Token) (us ts : List Token) → NextIs t k → ((c : Condition) → o ≡ some c → ConditionIs v parentheses us c) → Slot l ls ts (word IF ∷ us)
       → HeldIf (thenned o l ls k) (ts ++ t ∷ [])
   thenned-held none l ls k t us ts i d h = tt
   thenned-held (some c) l ls (an-item q) t us ts i d h = tt
   thenned-held (some c) l ls a-semicolon t us ts i d h = tt
   thenned-held (some c) l ls an-else t us ts i d h = tt
-  thenned-held (some c) l ls Next.an-end t us ts i d h = tt
+  thenned-held (some c) l ls Behind.an-end t us ts i d h = tt
   thenned-held (some c) l ls a-then t us ts i d h = rw i (then-held c l ls us ts (d c refl) h, tt)
   thenned-held (some c) l ls an-assign t us ts i d h = tt
   thenned-held (some c) l ls nothing t us ts i d h = tt
 
-  test-held : (q : Option Reading) (o : Option Condition) (l : Level) (ls : List Level) (k : Next) (t : Token) (us ts : List Token) → ConditionHeldIf v parentheses q (us ++ t ∷ []) → NextIs t k
+  test-held : (q : Option Reading) (o : Option Condition) (l : Level) (ls : List Level) (k : Behind) (t : Token) (us ts : List Token) → ConditionHeldIf v parentheses q (us ++ t ∷ []) → NextIs t k
       → ((c : Condition) → o ≡ some c → ConditionIs v parentheses us c) → Slot l ls ts (word IF ∷ us) → HeldIf (tested q o l ls k) (ts ++ t ∷ [])
   test-held none o l ls k t us ts x i d h = thenned-held o l ls k t us ts i d h
   test-held (some r) o l ls k t us ts x i d h = (us ++ t ∷ [], x, longer h (t ∷ []))

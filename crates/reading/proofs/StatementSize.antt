@@ -13,7 +13,7 @@ use Rattle.notation.specs.Limits.{sizeOf, nestingOf}
 use Rattle.notation.specs.Statements.{parentheses, only, assigned, ItemIs, a-start, both-tags, a-text}
 use Rattle.notation.specs.Tokens.{Token}
 use Rattle.reading.specs.Conditions.{Part, operand, a-not, an-and, an-or, an-open, a-close, an-equals, other, Reading, partOf, stepCondition, valueOf, finishedOf}
-use Rattle.reading.specs.Statements.{Start, simply, a-target, a-print, an-if, a-begin, no-start, startOf, Next, an-item, a-semicolon, an-else, a-then, an-assign, nothing, nextOf, Pending, in-then, in-else, ended, endedAll, otherwise, Level, level, listed, around, Place, opening, separated, branching, Listing, wants, target, assigning, printing, testing, after, unblocked, blocked, emptied, started, elsed, one-more, followed, printed, targeted, assignedBy, thenned, tested, stepStatements, shortestAt, finishedList}
+use Rattle.reading.specs.Statements.{Start, simply, a-target, a-print, an-if, a-begin, no-start, startOf, Behind, an-item, a-semicolon, an-else, a-then, an-assign, nothing, nextOf, Pending, in-then, in-else, ended, endedAll, otherwise, Level, level, listed, around, Place, opening, separated, branching, Listing, wants, target, assigning, printing, testing, after, unblocked, blocked, emptied, started, elsed, one-more, followed, printed, targeted, assignedBy, thenned, tested, stepStatements, shortestAt, finishedList}
 use Rattle.reading.proofs.ConditionSize.{Under as ConditionUnder, Grown as ConditionGrown, part-grows as condition-part-grows}
 use Rattle.reading.proofs.Conditions.{finished-value}
 use Rattle.reading.proofs.StatementHeld.{NextIs, next-is}
@@ -135,29 +135,29 @@ item-grows : (b : Bool) (p q : Program) (l : Level) (ls : List Level) → Grown 
 item-grows true p q l ls = around-under (l ∷ ls) (left-of-then p q)
 item-grows false p q l ls = tt
 
-follow-grows : (b : Bool) (p : Program) (l : Level) (ls : List Level) (k : Next) → Grown (after b p l ls) (followed b p l ls k)
+follow-grows : (b : Bool) (p : Program) (l : Level) (ls : List Level) (k : Behind) → Grown (after b p l ls) (followed b p l ls k)
 follow-grows b p l ls (an-item q) = item-grows b p q l ls
 follow-grows b p l ls a-semicolon = around-under ls (left-of-then (listed l p) (only reject))
 follow-grows b p l ls an-else = else-grows b p l ls (otherwise (l .ifs) p) refl
-follow-grows b p l ls Next.an-end = unblock-grows (after b p l ls) ls (listed l p) refl
+follow-grows b p l ls Behind.an-end = unblock-grows (after b p l ls) ls (listed l p) refl
 follow-grows b p l ls a-then = tt
 follow-grows b p l ls an-assign = tt
 follow-grows b p l ls nothing = tt
 
-print-grows : (l : Level) (ls : List Level) (k : Next) (t : Token) → NextIs t k → Grown (printing l ls) (printed l ls k)
+print-grows : (l : Level) (ls : List Level) (k : Behind) (t : Token) → NextIs t k → Grown (printing l ls) (printed l ls k)
 print-grows l ls (an-item q) t i = around-under (l ∷ ls) (item-under i)
 print-grows l ls a-semicolon t i = tt
 print-grows l ls an-else t i = tt
-print-grows l ls Next.an-end t i = tt
+print-grows l ls Behind.an-end t i = tt
 print-grows l ls a-then t i = tt
 print-grows l ls an-assign t i = tt
 print-grows l ls nothing t i = tt
 
-target-grows : (a : ℕ) (l : Level) (ls : List Level) (k : Next) → Grown (target a l ls) (targeted a l ls k)
+target-grows : (a : ℕ) (l : Level) (ls : List Level) (k : Behind) → Grown (target a l ls) (targeted a l ls k)
 target-grows a l ls (an-item q) = tt
 target-grows a l ls a-semicolon = tt
 target-grows a l ls an-else = tt
-target-grows a l ls Next.an-end = tt
+target-grows a l ls Behind.an-end = tt
 target-grows a l ls a-then = tt
 target-grows a l ls an-assign = under-refl (around (l ∷ ls) (only (become a 0)))
 target-grows a l ls nothing = tt
@@ -172,17 +172,17 @@ assign-grows a l ls a-close = tt
 assign-grows a l ls an-equals = tt
 assign-grows a l ls other = tt
 
-then-grows : (r : Reading) (o : Option Condition) (l : Level) (ls : List Level) (k : Next) → ((c : Condition) → o ≡ some c → finishedOf r ≡ c) → Grown (testing r l ls) (thenned o l ls k)
+then-grows : (r : Reading) (o : Option Condition) (l : Level) (ls : List Level) (k : Behind) → ((c : Condition) → o ≡ some c → finishedOf r ≡ c) → Grown (testing r l ls) (thenned o l ls k)
 then-grows r none l ls k h = tt
 then-grows r (some c) l ls (an-item q) h = tt
 then-grows r (some c) l ls a-semicolon h = tt
 then-grows r (some c) l ls an-else h = tt
-then-grows r (some c) l ls Next.an-end h = tt
+then-grows r (some c) l ls Behind.an-end h = tt
 then-grows r (some c) l ls a-then h = under-same (ap (λ x. around (l ∷ ls) (only (branch x done done))) (h c refl))
 then-grows r (some c) l ls an-assign h = tt
 then-grows r (some c) l ls nothing h = tt
 
-test-grows : (r : Reading) (q : Option Reading) (o : Option Condition) (l : Level) (ls : List Level) (k : Next) → ConditionGrown r q → ((c : Condition) → o ≡ some c → finishedOf r ≡ c)
+test-grows : (r : Reading) (q : Option Reading) (o : Option Condition) (l : Level) (ls : List Level) (k : Behind) → ConditionGrown r q → ((c : Condition) → o ≡ some c → finishedOf r ≡ c)
     → Grown (testing r l ls) (tested q o l ls k)
 test-grows r none o l ls k g h = then-grows r o l ls k h
 test-grows r (some s) o l ls k g h = around-under (l ∷ ls) (test-under g)

@@ -15,7 +15,7 @@ use Rattle.notation.specs.Statements.{parentheses, only, assigned, ItemIs, a-st
 use Rattle.reading.specs.Machine.{andThen, walk}
 use Rattle.reading.specs.Tests.{tagName?, string?}
 use Rattle.reading.specs.Conditions.{Reading, fresh, disjoined, stepCondition, valueOf, attribute?, partOf}
-use Rattle.reading.specs.Statements.{Start, simply, a-target, startIf, targetIf, startOf, Next, an-item, itemIf, nextOf, Pending, in-then, in-else, ended, endedAll, otherwise, Level, level, listed, around, Place, opening, separated, branching, Listing, wants, target, assigning, printing, testing, after, unblocked, blocked, started, elsed, followed, printed, targeted, assignedBy, thenned, tested, stepStatements, emptyValue, wholeValue, valueOfList}
+use Rattle.reading.specs.Statements.{Start, simply, a-target, startIf, targetIf, startOf, Behind, an-item, itemIf, nextOf, Pending, in-then, in-else, ended, endedAll, otherwise, Level, level, listed, around, Place, opening, separated, branching, Listing, wants, target, assigning, printing, testing, after, unblocked, blocked, started, elsed, followed, printed, targeted, assignedBy, thenned, tested, stepStatements, emptyValue, wholeValue, valueOfList}
 use Rattle.reading.proofs.Telling.{none≢some}
 use Rattle.reading.proofs.Programs.{then-assoc}
 use Rattle.reading.proofs.ConditionWalk.{operand-part, condition-walk}
@@ -82,7 +82,7 @@ module _ (v : Visit) where
       condition-lift (Reading.wants fresh []) (Reading.after (w .0) (w .1) []) l ls ts (word THEN ∷ rest) (rw append-nil at (w .3))
       ∙ ap (λ c. go (wants branching (level (l .before) (in-then c ∷ l .ifs)) ls) rest) (w .2)
 
-  by-next : (b : Bool) (p : Program) (l : Level) (ls : List Level) (t : Token) (rest : List Token) {k : Next} → nextOf t ≡ k
+  by-next : (b : Bool) (p : Program) (l : Level) (ls : List Level) (t : Token) (rest : List Token) {k : Behind} → nextOf t ≡ k
       → go (after b p l ls) (t ∷ rest) ≡ andThen (followed b p l ls k) (λ s. go s rest)
   by-next b p l ls t rest e = ap (λ k. andThen (followed b p l ls k) (λ s. go s rest)) e
 

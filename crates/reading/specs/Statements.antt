@@ -63,15 +63,15 @@ startOf v (word w) = startWord v w
 startOf v (sign s) = no-start
 
 -- what a token is behind a statement
-pub data Next : Type 0 where
-  an-item : Program → Next
-  a-semicolon an-else an-end a-then an-assign nothing : Next
+pub data Behind : Type 0 where
+  an-item : Program → Behind
+  a-semicolon an-else an-end a-then an-assign nothing : Behind
 
-abbrev pub itemIf : {P : Type 0} → Dec P → Program → Next
+abbrev pub itemIf : {P : Type 0} → Dec P → Program → Behind
 itemIf (yes h) p = an-item p
 itemIf (no h) p = nothing
 
-abbrev pub nextWord : Word → Next
+abbrev pub nextWord : Word → Behind
 nextWord CHAR = nothing
 nextWord ECHO = nothing
 nextWord ECHO-OFF = nothing
@@ -86,7 +86,7 @@ nextWord AND = nothing
 nextWord OR = nothing
 nextWord NOT = nothing
 
-abbrev pub nextSign : Sign → Next
+abbrev pub nextSign : Sign → Behind
 nextSign DEFINED = nothing
 nextSign ASSIGNED = an-assign
 nextSign OPEN = nothing
@@ -99,7 +99,7 @@ nextSign STAR = nothing
 nextSign SEMICOLON = a-semicolon
 nextSign EQUALS = nothing
 
-abbrev pub nextOf : Token → Next
+abbrev pub nextOf : Token → Behind
 nextOf (nonterminal n) = nothing
 nextOf (value n) = nothing
 nextOf (attribute m a) = nothing
@@ -191,7 +191,7 @@ abbrev pub one-more : Bool → Program → Program → Level → List Level → 
 one-more true p q l ls = some (after true (p then q) l ls)
 one-more false p q l ls = none
 
-abbrev pub followed : Bool → Program → Level → List Level → Next → Option Listing
+abbrev pub followed : Bool → Program → Level → List Level → Behind → Option Listing
 followed b p l ls (an-item q) = one-more b p q l ls
 followed b p l ls a-semicolon = some (wants separated (level (listed l p) []) ls)
 followed b p l ls an-else = elsed l ls (otherwise (l .ifs) p)
@@ -200,7 +200,7 @@ followed b p l ls a-then = none
 followed b p l ls an-assign = none
 followed b p l ls nothing = none
 
-abbrev pub printed : Level → List Level → Next → Option Listing
+abbrev pub printed : Level → List Level → Behind → Option Listing
 printed l ls (an-item q) = some (after true q l ls)
 printed l ls a-semicolon = none
 printed l ls an-else = none
@@ -209,7 +209,7 @@ printed l ls a-then = none
 printed l ls an-assign = none
 printed l ls nothing = none
 
-abbrev pub targeted : ℕ → Level → List Level → Next → Option Listing
+abbrev pub targeted : ℕ → Level → List Level → Behind → Option Listing
 targeted a l ls (an-item q) = none
 targeted a l ls a-semicolon = none
 targeted a l ls an-else = none
@@ -229,7 +229,7 @@ assignedBy a l ls an-equals = none
 assignedBy a l ls other = none
 
 -- a condition goes on, or ends with then
-abbrev pub thenned : Option Condition → Level → List Level → Next → Option Listing
+abbrev pub thenned : Option Condition → Level → List Level → Behind → Option Listing
 thenned none l ls k = none
 thenned (some c) l ls (an-item q) = none
 thenned (some c) l ls a-semicolon = none
@@ -239,7 +239,7 @@ thenned (some c) l ls a-then = some (wants branching (level (l .before) (in-then
 thenned (some c) l ls an-assign = none
 thenned (some c) l ls nothing = none
 
-abbrev pub tested : Option Reading → Option Condition → Level → List Level → Next → Option Listing
+abbrev pub tested : Option Reading → Option Condition → Level → List Level → Behind → Option Listing
 tested (some r) o l ls k = some (testing r l ls)
 tested none o l ls k = thenned o l ls k
 

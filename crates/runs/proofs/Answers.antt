@@ -22,7 +22,7 @@ use Rattle.runs.specs.Events.{Event, starts, ends, letter, openTags}
 use Rattle.runs.specs.Parse.{yield, depth}
 use Rattle.runs.specs.Way.{Way, endWay, atomWay}
 use Rattle.runs.specs.Acts.{Act, start-tag, bracket-acts, Store, fresh-store, acts}
-use Rattle.runs.specs.Machine.{Open, at-place, at-start, Control, before, inside, after, Turn, refuse, go, outer, opening-up, start-at, start-by, root-by, productionFor, end-by, same-tag, own-tag, char-by, move, most, State, fresh-state, Answer, took, refused, acted, turned, step, finished, stopped, onward, answered, run}
+use Rattle.runs.specs.Machine.{Open, at-place, at-start, Control, before, inside, after, Turn, refuse, go, outer, opening-up, start-at, start-by, root-by, productionFor, end-by, same-tag, own-tag, char-by, move, most, Configuration, fresh-configuration, Answer, took, refused, acted, turned, step, finished, stopped, onward, answered, run}
 use Rattle.runs.specs.Line.{line}
 use Rattle.runs.specs.Taken.{Passed, Allowed, no-event, whole, begun, Reached, RootClosed, Innermost, WrongEnd, AllowedIn, AllowedWithin, Refused, after-root, wrong-end, not-allowed, rejecting, Stopped}
 use Rattle.runs.proofs.Rules.{NoTFault, NoSFault, no-T, no-S}
@@ -213,17 +213,17 @@ module _ (g : List Production) (n : ℕ) where
       by-way (some w) e = goes _ _ (ap (char-by o os y) e) (letter-no-end y (inside o os))
   does lim after x = root-closed refl refl
 
-pub run-append : (s : Sheet) (z z′ : State) (xs ys : List Event) → run s z xs ≡ finished z′ → run s z (xs ++ ys) ≡ run s z′ ys
-run-append s z z′ [] ys e = let h : z ≡ z′ = cc in ap (λ (y : State). run s y ys) h
+pub run-append : (s : Sheet) (z z′ : Configuration) (xs ys : List Event) → run s z xs ≡ finished z′ → run s z (xs ++ ys) ≡ run s z′ ys
+run-append s z z′ [] ys e = let h : z ≡ z′ = cc in ap (λ (y : Configuration). run s y ys) h
 run-append s z z′ (x ∷ xs) ys e = by (λ y h. run-append s y z′ xs ys h) (step s z x) e
   where
-    by : ((y : State) → run s y xs ≡ finished z′ → run s y (xs ++ ys) ≡ run s z′ ys) → (a : Answer) → onward z (x ∷ xs) a (λ y. run s y xs) ≡ finished z′ →
+    by : ((y : Configuration) → run s y xs ≡ finished z′ → run s y (xs ++ ys) ≡ run s z′ ys) → (a : Answer) → onward z (x ∷ xs) a (λ y. run s y xs) ≡ finished z′ →
         onward z (x ∷ (xs ++ ys)) a (λ y. run s y (xs ++ ys)) ≡ run s z′ ys
     by f (took y) e = f y e
     by f (refused k) e = absurd (let y : _≡_ {A = ℕ} 0 1 = cc in omega arith)
 
 -- after events that are taken, the next is refused with a number exactly when `Refused` gives it that number
-module _ (s : Sheet) (ok : Passed s) (xs : List Event) (z : State) (ran : run s fresh-state xs ≡ finished z) (x : Event) where
+module _ (s : Sheet) (ok : Passed s) (xs : List Event) (z : Configuration) (ran : run s fresh-configuration xs ≡ finished z) (x : Event) where
   abbrev g : List Production
   g = grammar s
 
@@ -254,8 +254,8 @@ module _ (s : Sheet) (ok : Passed s) (xs : List Event) (z : State) (ran : run s 
       clash : (bs : List Act) (c : Control) → go bs c ≡ refuse k → ⊥
       clash bs c e = let z : _≡_ {A = ℕ} 0 1 = cc in omega arith
 
-  run-on : answered (run s fresh-state (xs ++ x ∷ [])) ≡ step s z x
-  run-on = ap answered (run-append s fresh-state z xs (x ∷ []) ran) ∙ last (step s z x)
+  run-on : answered (run s fresh-configuration (xs ++ x ∷ [])) ≡ step s z x
+  run-on = ap answered (run-append s fresh-configuration z xs (x ∷ []) ran) ∙ last (step s z x)
     where
       last : (a : Answer) → answered (onward z (x ∷ []) a (λ y. finished y)) ≡ a
       last (took y) = refl
@@ -349,22 +349,22 @@ module _ (s : Sheet) (ok : Passed s) (xs : List Event) (z : State) (ran : run s 
 
 -- events are taken exactly when the grammar allows them within the limit and none of the acts that they ask for rejects
 module _ (s : Sheet) (ok : Passed s) (xs : List Event) (m : Store) where
-  pub reached-iff : ((c : Control) × (run s fresh-state xs ≡ finished (record { control = c; store = m }))) ↔ Reached s xs m
+  pub reached-iff : ((c : Control) × (run s fresh-configuration xs ≡ finished (record { control = c; store = m }))) ↔ Reached s xs m
   reached-iff = (to, from)
     where
-      to : (c : Control) × (run s fresh-state xs ≡ finished (record { control = c; store = m })) → Reached s xs m
+      to : (c : Control) × (run s fresh-configuration xs ≡ finished (record { control = c; store = m })) → Reached s xs m
       to p =
           let t = moves-run s before fresh-store xs (record { control = p .0; store = m }) (p .1) in
           let a = moves-allowed (grammar s) (s .start-nonterminal) most (omega arith) xs (t .row) (p .0) (t .moved) in
           record { row = t .row; deep = a .0; allowed = a .1; fits = a .2; value = t .done }
 
-      from : Reached s xs m → (c : Control) × (run s fresh-state xs ≡ finished (record { control = c; store = m }))
+      from : Reached s xs m → (c : Control) × (run s fresh-configuration xs ≡ finished (record { control = c; store = m }))
       from r =
           let a = allowed-moves (grammar s) (s .start-nonterminal) most (no-T (grammar s) (ok .keeps-T)) (no-S (grammar s) (ok .keeps-S)) (r .allowed) (r .fits) in
-          (a .0, run-through (run s fresh-state xs) (record { control = a .0; store = m }) (run-moves s (a .1) fresh-store ∙ ap (acted (a .0)) (r .value)))
+          (a .0, run-through (run s fresh-configuration xs) (record { control = a .0; store = m }) (run-moves s (a .1) fresh-store ∙ ap (acted (a .0)) (r .value)))
 
 -- a run that stops does so at the first event that is refused
-record StopsAt (s : Sheet) (z : State) (xs : List Event) (k : ℕ) (z′ : State) (left : List Event) : Type 0 where
+record StopsAt (s : Sheet) (z : Configuration) (xs : List Event) (k : ℕ) (z′ : Configuration) (left : List Event) : Type 0 where
   pub before-it : List Event
   pub event : Event
   pub after-it : List Event
@@ -373,11 +373,11 @@ record StopsAt (s : Sheet) (z : State) (xs : List Event) (k : ℕ) (z′ : State
   pub ran : run s z before-it ≡ finished z′
   pub number : step s z′ event ≡ refused k
 
-stops-at : (s : Sheet) (z : State) (xs : List Event) (k : ℕ) (z′ : State) (left : List Event) → run s z xs ≡ stopped k z′ left → StopsAt s z xs k z′ left
+stops-at : (s : Sheet) (z : Configuration) (xs : List Event) (k : ℕ) (z′ : Configuration) (left : List Event) → run s z xs ≡ stopped k z′ left → StopsAt s z xs k z′ left
 stops-at s z [] k z′ left e = absurd (let y : _≡_ {A = ℕ} 0 1 = cc in omega arith)
 stops-at s z (x ∷ xs) k z′ left e = by (λ y h. stops-at s y xs k z′ left h) (step s z x) refl e
   where
-    by : ((y : State) → run s y xs ≡ stopped k z′ left → StopsAt s y xs k z′ left) → (a : Answer) → step s z x ≡ a → onward z (x ∷ xs) a (λ y. run s y xs) ≡ stopped k z′ left →
+    by : ((y : Configuration) → run s y xs ≡ stopped k z′ left → StopsAt s y xs k z′ left) → (a : Answer) → step s z x ≡ a → onward z (x ∷ xs) a (λ y. run s y xs) ≡ stopped k z′ left →
         StopsAt s z (x ∷ xs) k z′ left
     by f (took y) i e =
         let t = f y e in
@@ -401,22 +401,22 @@ stops-at s z (x ∷ xs) k z′ left e = by (λ y h. stops-at s y xs k z′ left 
           are-events = refl;
           are-left = sym hl;
           ran = ap finished hz;
-          number = ap (λ (y : State). step s y x) (sym hz) ∙ i ∙ ap refused hk;
+          number = ap (λ (y : Configuration). step s y x) (sym hz) ∙ i ∙ ap refused hk;
         }
 
-stops-there : (s : Sheet) (z : State) (xs : List Event) (k : ℕ) (z′ : State) (left : List Event) → StopsAt s z xs k z′ left → run s z xs ≡ stopped k z′ left
+stops-there : (s : Sheet) (z : Configuration) (xs : List Event) (k : ℕ) (z′ : Configuration) (left : List Event) → StopsAt s z xs k z′ left → run s z xs ≡ stopped k z′ left
 stops-there s z xs k z′ left t =
     ap (run s z) (t .are-events) ∙ run-append s z z′ (t .before-it) (t .event ∷ t .after-it) (t .ran)
     ∙ ap (λ (a : Answer). onward z′ (t .event ∷ t .after-it) a (λ y. run s y (t .after-it))) (t .number) ∙ ap (stopped k z′) (sym (t .are-left))
 
 module _ (s : Sheet) (ok : Passed s) (xs : List Event) (k : ℕ) (m : Store) (left : List Event) where
-  pub stopped-iff : ((c : Control) × (run s fresh-state xs ≡ stopped k (record { control = c; store = m }) left)) ↔ Stopped s xs k m left
+  pub stopped-iff : ((c : Control) × (run s fresh-configuration xs ≡ stopped k (record { control = c; store = m }) left)) ↔ Stopped s xs k m left
   stopped-iff = (to, from)
     where
-      to : (c : Control) × (run s fresh-state xs ≡ stopped k (record { control = c; store = m }) left) → Stopped s xs k m left
+      to : (c : Control) × (run s fresh-configuration xs ≡ stopped k (record { control = c; store = m }) left) → Stopped s xs k m left
       to p =
-          let z : State = record { control = p .0; store = m } in
-          let t = stops-at s fresh-state xs k z left (p .1) in
+          let z : Configuration = record { control = p .0; store = m } in
+          let t = stops-at s fresh-configuration xs k z left (p .1) in
           record {
             before-it = t .before-it;
             event = t .event;
@@ -427,12 +427,12 @@ module _ (s : Sheet) (ok : Passed s) (xs : List Event) (k : ℕ) (m : Store) (le
             is-refused = refused-iff s ok (t .before-it) z (t .ran) (t .event) k .0 (t .number);
           }
 
-      from : Stopped s xs k m left → (c : Control) × (run s fresh-state xs ≡ stopped k (record { control = c; store = m }) left)
+      from : Stopped s xs k m left → (c : Control) × (run s fresh-configuration xs ≡ stopped k (record { control = c; store = m }) left)
       from t =
           let r = reached-iff s ok (t .before-it) m .1 (t .reached) in
-          let z : State = record { control = r .0; store = m } in (
+          let z : Configuration = record { control = r .0; store = m } in (
             r .0,
-            stops-there s fresh-state xs k z left (record {
+            stops-there s fresh-configuration xs k z left (record {
               before-it = t .before-it;
               event = t .event;
               after-it = t .after-it;

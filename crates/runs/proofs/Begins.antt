@@ -18,7 +18,7 @@ use Rattle.runs.specs.Events.{Event, starts, ends, letter}
 use Rattle.runs.specs.Parse.{Element, yield, depth}
 use Rattle.runs.specs.Way.{Way}
 use Rattle.runs.specs.Acts.{Act, Store, fresh-store, acts}
-use Rattle.runs.specs.Machine.{Open, Control, before, inside, after, Turn, refuse, go, outer, root-by, move, most, State, fresh-state, refused, acted, turned, finished, run}
+use Rattle.runs.specs.Machine.{Open, Control, before, inside, after, Turn, refuse, go, outer, root-by, move, most, Configuration, fresh-configuration, refused, acted, turned, finished, run}
 use Rattle.runs.specs.Line.{Part, mark, filled, lettered, skeleton, depths}
 use Rattle.expressions.proofs.Rule.{Rest}
 use Rattle.runs.proofs.Rules.{NoTFault, NoSFault, no-T, no-S}
@@ -154,7 +154,7 @@ module _ (g : List Production) (keeps-T : NoTFault g) (keeps-S : NoSFault g) (tr
   taken-begins lim one xs bs after m d = let s = sound g n lim one xs bs m in (s .root, [], s .are-events ∙ sym (append-nil xs))
 
 -- the same of the machine
-module _ (s : Sheet) (ok : Passed s) (xs : List Event) (z : State) (ran : run s fresh-state xs ≡ finished z) where
+module _ (s : Sheet) (ok : Passed s) (xs : List Event) (z : Configuration) (ran : run s fresh-configuration xs ≡ finished z) where
   pub tree-not-refused : (x : Event) → Refused s xs x 23 → (t : Element (grammar s) (s .start-nonterminal)) (ys : List Event) → yield t ≡ xs ++ x ∷ ys → ⊥
   tree-not-refused x r t ys e =
       let m = moves-run s before fresh-store xs z ran in

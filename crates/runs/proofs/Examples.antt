@@ -15,7 +15,7 @@ use Rattle.output.specs.Escape.{Piece}
 use Rattle.runs.specs.Visits.{grammar, Env, Saved}
 use Rattle.runs.specs.Events.{Event}
 use Rattle.runs.specs.Acts.{Store}
-use Rattle.runs.specs.Machine.{Control, before, inside, after, State, fresh-state, Outcome, finished, stopped, run}
+use Rattle.runs.specs.Machine.{Control, before, inside, after, Configuration, fresh-configuration, Outcome, finished, stopped, run}
 use Rattle.runs.specs.Taken.{Passed, closed-with, Stopped}
 use Rattle.runs.specs.Spells.{Token, TokenOutcome, through, stops, runTokens}
 use Rattle.runs.specs.Examples.{Run, accepts, halts, refuses, RunHolds, Each, examples}
@@ -57,7 +57,7 @@ of-events (finished z) = none
 of-events (stopped k z left) = some (record { number = k; out = z .store .env .out; left = left })
 
 module _ (s : Sheet) (ok : Passed s) (xs : List Event) (k : ℕ) (o : List Piece) (left : List Event) where
-  stop-is : (u : Outcome) → run s fresh-state xs ≡ u → of-events u ≡ some (record { number = k; out = o; left = left }) →
+  stop-is : (u : Outcome) → run s fresh-configuration xs ≡ u → of-events u ≡ some (record { number = k; out = o; left = left }) →
       (m : Store) × Stopped s xs k m left × (m .env .out ≡ o)
   stop-is (finished z) r e = absurd (let y : _≡_ {A = ℕ} 0 1 = cc in omega arith)
   stop-is (stopped j z l) r e =
@@ -77,7 +77,7 @@ of-halt (through z) = none
 of-halt (stops k z left) = some (record { number = k; out = z .store .env .out; left = left })
 
 halt-is : (u : TokenOutcome) (k : ℕ) (o : List Piece) (left : List Token) → of-halt u ≡ some (record { number = k; out = o; left = left }) →
-    (z : State) × (u ≡ stops k z left) × (z .store .env .out ≡ o)
+    (z : Configuration) × (u ≡ stops k z left) × (z .store .env .out ≡ o)
 halt-is (through z) k o left e = absurd (let y : _≡_ {A = ℕ} 0 1 = cc in omega arith)
 halt-is (stops j z l) k o left e =
     let h : _≡_ {A = Halt} (record { number = j; out = z .store .env .out; left = l }) (record { number = k; out = o; left = left }) = cc in
@@ -100,9 +100,9 @@ abbrev pub the-faults : Sheet → List (List ℕ)
 the-faults s = faultList (length (s .names)) (grammar s)
 
 abbrev pub computed : Run → Summary
-computed (accepts s ts v) = record { faults = the-faults s; ended-with = of-tokens (runTokens s fresh-state ts); halted-with = none; stopped-with = none }
-computed (halts s ts k o left) = record { faults = the-faults s; ended-with = none; halted-with = of-halt (runTokens s fresh-state ts); stopped-with = none }
-computed (refuses s xs k o left) = record { faults = the-faults s; ended-with = none; halted-with = none; stopped-with = of-events (run s fresh-state xs) }
+computed (accepts s ts v) = record { faults = the-faults s; ended-with = of-tokens (runTokens s fresh-configuration ts); halted-with = none; stopped-with = none }
+computed (halts s ts k o left) = record { faults = the-faults s; ended-with = none; halted-with = of-halt (runTokens s fresh-configuration ts); stopped-with = none }
+computed (refuses s xs k o left) = record { faults = the-faults s; ended-with = none; halted-with = none; stopped-with = of-events (run s fresh-configuration xs) }
 
 abbrev pub given : Run → Summary
 given (accepts s ts v) = record { faults = []; ended-with = some v; halted-with = none; stopped-with = none }
@@ -126,12 +126,12 @@ passes s f e =
 pub run-holds : (r : Run) → Fits r → computed r ≡ given r → RunHolds r
 run-holds (accepts s ts v) f e =
     let ok = passes s f (ap (λ (c : Summary). c .faults) e) in
-    (ok, spelled-iff s ok ts v .0 (tokens-are (runTokens s fresh-state ts) v (ap (λ (c : Summary). c .ended-with) e)))
+    (ok, spelled-iff s ok ts v .0 (tokens-are (runTokens s fresh-configuration ts) v (ap (λ (c : Summary). c .ended-with) e)))
 run-holds (halts s ts k o left) f e =
-    (passes s f (ap (λ (c : Summary). c .faults) e), halt-is (runTokens s fresh-state ts) k o left (ap (λ (c : Summary). c .halted-with) e))
+    (passes s f (ap (λ (c : Summary). c .faults) e), halt-is (runTokens s fresh-configuration ts) k o left (ap (λ (c : Summary). c .halted-with) e))
 run-holds (refuses s xs k o left) f e =
     let ok = passes s f (ap (λ (c : Summary). c .faults) e) in
-    (ok, stop-is s ok xs k o left (run s fresh-state xs) refl (ap (λ (c : Summary). c .stopped-with) e))
+    (ok, stop-is s ok xs k o left (run s fresh-configuration xs) refl (ap (λ (c : Summary). c .stopped-with) e))
 
 -- a list of examples holds where each fits and their summaries are one list
 abbrev pub all : {A : Type 0} → (A → Summary) → List A → List Summary

@@ -13,7 +13,7 @@ use Rattle.expressions.specs.Words.{Bracket, opening, closing}
 use Rattle.expressions.specs.Grammar.{Production}
 use Rattle.programs.specs.Program.{Program}
 use Rattle.programs.specs.Limits.{Attribute, Visit, first, second}
-use Rattle.output.specs.Escape.{Piece, start, end, character, Fit, AllFit}
+use Rattle.output.specs.Escape.{Piece, start, end, character, PieceFits, AllFit}
 use Rattle.sheet.specs.Sheet.{Sheet}
 use Rattle.runs.specs.Options.{bind}
 use Rattle.runs.specs.Execute.{Effect}
@@ -21,7 +21,7 @@ use Rattle.runs.specs.Lookup.{tagOf, find}
 use Rattle.runs.specs.Visits.{grammar, programsOf, tagName, Env, attributes, Saved, saved, performed, visited, visit, whileOn, echoed, returned, opens, revisits, closes, enters, leaves, reads}
 use Rattle.runs.specs.Acts.{Act, node-first, node-second, start-tag, end-tag, letter-read, bracket-acts, Store, fresh-store, pushed, innermost, without-node, without-element, act, acts}
 use Rattle.runs.specs.Events.{Event, starts, ends, letter}
-use Rattle.runs.specs.Machine.{at-start, Control, before, inside, after, go, root-by, move, most, State, finished, run}
+use Rattle.runs.specs.Machine.{at-start, Control, before, inside, after, go, root-by, move, most, Configuration, finished, run}
 use Rattle.runs.specs.Fits.{EventsFit, ProgramFits, SheetFits, AllValues, ValuesFit, AllKeptFit, StoreFits, LettersFit}
 use Rattle.runs.proofs.Moves.{Moves, stay, then, refuse-go, go-inj, moves-run}
 use Rattle.runs.proofs.Sound.{started, was-read, ended}
@@ -42,7 +42,7 @@ then-ok : (f : Env → Env) → ((v : Env) → EnvFits v → EnvFits (f v)) → 
 then-ok f F none h = tt
 then-ok f F (some v) h = F v h
 
-echo-fits : (p : Piece) → Fit p → (v : Env) → EnvFits v → EnvFits (echoed p v)
+echo-fits : (p : Piece) → PieceFits p → (v : Env) → EnvFits v → EnvFits (echoed p v)
 echo-fits p f v h = (h .0, fit-append (v .out) (whileOn (v .echo) p) (h .1) (on (v .echo)))
   where
     on : (b : Bool) → AllFit (whileOn b p)
@@ -196,7 +196,7 @@ module _ (g : List Production) (n lim : ℕ) where
       letters-append bs cs (move-letters c x bs c′ e (i .0)) (moves-letters r (i .1))
 
 -- under a sheet that fits every state that a run comes to from one that fits keeps and has written only what fits
-pub run-fits : (s : Sheet) → SheetFits s → (z : State) → StoreFits (z .store) → (xs : List Event) → EventsFit xs → (z′ : State) → run s z xs ≡ finished z′ → StoreFits (z′ .store)
+pub run-fits : (s : Sheet) → SheetFits s → (z : Configuration) → StoreFits (z .store) → (xs : List Event) → EventsFit xs → (z′ : Configuration) → run s z xs ≡ finished z′ → StoreFits (z′ .store)
 run-fits s ok z f xs h z′ e =
     let t = moves-run s (z .control) (z .store) xs z′ e in
     acts-fit s ok (t .row) (moves-letters (grammar s) (s .start-nonterminal) most (t .moved) h) (z .store) (z′ .store) f (t .done)

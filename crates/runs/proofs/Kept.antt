@@ -22,7 +22,7 @@ use Rattle.runs.specs.Events.{Event, starts, ends, letter}
 use Rattle.runs.specs.Way.{Way}
 use Rattle.runs.specs.Nodes.{deepest, only-if, through-nodes, KeptOfAll, KeptAt}
 use Rattle.runs.specs.Acts.{Act, start-tag, end-tag, letter-read, bracket-acts, Store, fresh-store, innermost, without-element, keeping, act, acts}
-use Rattle.runs.specs.Machine.{Open, at-place, at-start, Control, before, inside, after, go, outer, root-by, move, State, finished, run, fresh-state}
+use Rattle.runs.specs.Machine.{Open, at-place, at-start, Control, before, inside, after, go, outer, root-by, move, Configuration, finished, run, fresh-configuration}
 use Rattle.expressions.proofs.Rule.{Rest}
 use Rattle.runs.proofs.Line.{acts-append}
 use Rattle.runs.proofs.Ways.{GoesTo, found-end, found-atom}
@@ -173,5 +173,5 @@ module _ (s : Sheet) where
       by f (some y) q e = f y q e
 
 -- in every state that a run comes to, as much is kept as the places say
-pub kept-as-open : (s : Sheet) (xs : List Event) (z : State) → run s fresh-state xs ≡ finished z → KeptAt (grammar s) (z .control) (z .store .kept)
+pub kept-as-open : (s : Sheet) (xs : List Event) (z : Configuration) → run s fresh-configuration xs ≡ finished z → KeptAt (grammar s) (z .control) (z .store .kept)
 kept-as-open s xs z e = let t = moves-run s before fresh-store xs z e in kept-moves s (t .moved) fresh-store (z .store) refl (t .done)

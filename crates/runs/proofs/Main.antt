@@ -14,7 +14,7 @@ use Rattle.runs.specs.Visits.{grammar, Env, fresh}
 use Rattle.runs.specs.Events.{Event}
 use Rattle.runs.specs.Parse.{Element, yield, size, depth, eval}
 use Rattle.runs.specs.Acts.{Act, visitsIn, Store, fresh-store, acts}
-use Rattle.runs.specs.Machine.{Control, before, after, State, acted, fresh-state, finished, stopped, answered, run, most}
+use Rattle.runs.specs.Machine.{Control, before, after, Configuration, acted, fresh-configuration, finished, stopped, answered, run, most}
 use Rattle.runs.specs.Line.{line}
 use Rattle.runs.specs.Taken.{Passed, ParsedTo, closed-with, Reached}
 use Rattle.runs.proofs.Rules.{no-T, no-S}
@@ -30,20 +30,20 @@ kept-nothing o = bind o (λ v. some (record { kept = []; env = v }))
 
 -- the machine on the events of a tree: it rejects where the tree's evaluation does, and otherwise comes to the same
 run-tree : (s : Sheet) → Passed s → (t : Element (grammar s) (s .start-nonterminal)) → depth t ≤ most →
-    answered (run s fresh-state (yield t)) ≡ acted after (kept-nothing (eval t s fresh))
+    answered (run s fresh-configuration (yield t)) ≡ acted after (kept-nothing (eval t s fresh))
 run-tree s ok t d =
     run-moves s (complete (grammar s) (s .start-nonterminal) most (no-T (grammar s) (ok .keeps-T)) (no-S (grammar s) (ok .keeps-S)) t d) fresh-store
     ∙ ap (acted after) (line-eval t s [] fresh)
 
 -- on the events of a tree whose evaluation rejects the machine stops with 25
 pub rejected : (s : Sheet) → Passed s → (t : Element (grammar s) (s .start-nonterminal)) → depth t ≤ most → eval t s fresh ≡ none →
-    (z : State) × (left : List Event) × (run s fresh-state (yield t) ≡ stopped 25 z left)
-rejected s ok t d e = run-stops (run s fresh-state (yield t)) 25 (run-tree s ok t d ∙ ap (λ (o : Option Env). acted after (kept-nothing o)) e)
+    (z : Configuration) × (left : List Event) × (run s fresh-configuration (yield t) ≡ stopped 25 z left)
+rejected s ok t d e = run-stops (run s fresh-configuration (yield t)) 25 (run-tree s ok t d ∙ ap (λ (o : Option Env). acted after (kept-nothing o)) e)
 
-from-tree : (s : Sheet) → Passed s → (xs : List Event) (v : Env) → ParsedTo s xs v → run s fresh-state xs ≡ finished (closed-with v)
+from-tree : (s : Sheet) → Passed s → (xs : List Event) (v : Env) → ParsedTo s xs v → run s fresh-configuration xs ≡ finished (closed-with v)
 from-tree s ok xs v p =
-    run-through (run s fresh-state xs) (closed-with v)
-    (ap (λ (ys : List Event). answered (run s fresh-state ys)) (sym (p .are-events)) ∙ run-tree s ok (p .root) (p .fits)
+    run-through (run s fresh-configuration xs) (closed-with v)
+    (ap (λ (ys : List Event). answered (run s fresh-configuration ys)) (sym (p .are-events)) ∙ run-tree s ok (p .root) (p .fits)
     ∙ ap (λ (o : Option Env). acted after (kept-nothing o)) (p .value))
 
 kept-inv : (o : Option Env) (m : Store) → kept-nothing o ≡ some m → (v : Env) × (o ≡ some v) × (m ≡ record { kept = []; env = v })
@@ -51,7 +51,7 @@ kept-inv none m e = absurd (let z : _≡_ {A = ℕ} 0 1 = cc in omega arith)
 kept-inv (some v) m e = (v, refl, (cc))
 
 -- a run that ends with the root closed has a tree. This needs neither rule
-pub to-tree : (s : Sheet) (xs : List Event) (z : State) → run s fresh-state xs ≡ finished z → z .control ≡ after →
+pub to-tree : (s : Sheet) (xs : List Event) (z : Configuration) → run s fresh-configuration xs ≡ finished z → z .control ≡ after →
     (v : Env) × ParsedTo s xs v × (z ≡ closed-with v)
 to-tree s xs z e c =
     let t = moves-run s before fresh-store xs z e in
@@ -64,10 +64,10 @@ to-tree s xs z e c =
     (k .0, record { root = o .root; are-events = o .are-events; fits = o .fits; value = k .1 }, λ i. record { control = c i; store = kc i })
 
 env-of : (v v′ : Env) → closed-with v ≡ closed-with v′ → v ≡ v′
-env-of v v′ e = ap (λ (z : State). z .store .env) e
+env-of v v′ e = ap (λ (z : Configuration). z .store .env) e
 
 -- demand 2
-pub taken-iff : (s : Sheet) → Passed s → (xs : List Event) (v : Env) → (run s fresh-state xs ≡ finished (closed-with v)) ↔ ParsedTo s xs v
+pub taken-iff : (s : Sheet) → Passed s → (xs : List Event) (v : Env) → (run s fresh-configuration xs ≡ finished (closed-with v)) ↔ ParsedTo s xs v
 taken-iff s ok xs v =
     ((λ e. let t = to-tree s xs (closed-with v) e refl in subst (ParsedTo s xs) (sym (env-of v (t .0) (t .2))) (t .1)), from-tree s ok xs v)
 

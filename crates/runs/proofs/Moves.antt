@@ -11,7 +11,7 @@ use Rattle.sheet.specs.Sheet.{Sheet}
 use Rattle.runs.specs.Options.{bind}
 use Rattle.runs.specs.Events.{Event}
 use Rattle.runs.specs.Acts.{Act, Store, acts}
-use Rattle.runs.specs.Machine.{Control, Turn, refuse, go, move, most, State, took, refused, acted, turned, Outcome, finished, stopped, onward, answered, run}
+use Rattle.runs.specs.Machine.{Control, Turn, refuse, go, move, most, Configuration, took, refused, acted, turned, Outcome, finished, stopped, onward, answered, run}
 use Rattle.runs.specs.Visits.{grammar}
 use Rattle.runs.proofs.Line.{acts-append}
 
@@ -60,24 +60,24 @@ run-moves s {c} {c′} (then {c′ = d} {xs = xs} {cs = cs} x bs e r) m =
     here f none = refl
     here f (some m′) = f m′
 
-pub run-through : (o : Outcome) (z : State) → answered o ≡ took z → o ≡ finished z
+pub run-through : (o : Outcome) (z : Configuration) → answered o ≡ took z → o ≡ finished z
 run-through (finished z′) z e = let h : z′ ≡ z = cc in ap finished h
 run-through (stopped k z′ xs) z e = absurd (let y : _≡_ {A = ℕ} 0 1 = cc in omega arith)
 
-pub run-stops : (o : Outcome) (k : ℕ) → answered o ≡ refused k → (z : State) × (xs : List Event) × (o ≡ stopped k z xs)
+pub run-stops : (o : Outcome) (k : ℕ) → answered o ≡ refused k → (z : Configuration) × (xs : List Event) × (o ≡ stopped k z xs)
 run-stops (finished z′) k e = absurd (let y : _≡_ {A = ℕ} 0 1 = cc in omega arith)
 run-stops (stopped k′ z xs) k e = let h : k′ ≡ k = cc in (z, xs, ap (λ (j : ℕ). stopped j z xs) h)
 
 -- a run that takes all its events is a run of the control
-pub record Taken (s : Sheet) (c : Control) (m : Store) (xs : List Event) (z : State) : Type 0 where
+pub record Taken (s : Sheet) (c : Control) (m : Store) (xs : List Event) (z : Configuration) : Type 0 where
   pub row : List Act
   pub moved : Moves (grammar s) (s .start-nonterminal) most c xs row (z .control)
   pub done : acts s row m ≡ some (z .store)
 
-pub moves-run : (s : Sheet) (c : Control) (m : Store) (xs : List Event) (z : State) → run s (record { control = c; store = m }) xs ≡ finished z → Taken s c m xs z
+pub moves-run : (s : Sheet) (c : Control) (m : Store) (xs : List Event) (z : Configuration) → run s (record { control = c; store = m }) xs ≡ finished z → Taken s c m xs z
 moves-run s c m [] z e =
     let h : record { control = c; store = m } ≡ z = cc in
-    subst (λ (y : State). Taken s c m [] y) h (record { row = []; moved = stay; done = refl })
+    subst (λ (y : Configuration). Taken s c m [] y) h (record { row = []; moved = stay; done = refl })
 moves-run s c m (x ∷ xs) z e = by-turn (λ c′ m′ e′. moves-run s c′ m′ xs z e′) (move (grammar s) (s .start-nonterminal) most c x) refl e
   where
     by-store : ((c′ : Control) (m′ : Store) → run s (record { control = c′; store = m′ }) xs ≡ finished z → Taken s c′ m′ xs z) →

@@ -6,18 +6,18 @@ use mathlib.Core.Option.{Option, none, some}
 use Prim.Native.Nat.{ℕ}
 use Rattle.expressions.specs.Grammar.{Production}
 use Rattle.runs.specs.Lookup.{tagOf, find}
-use Rattle.runs.specs.Events.{Event, starts, ends, letter, Tags, openAfter}
+use Rattle.runs.specs.Events.{Event, starts, ends, letter, OpenTags, openAfter}
 use Rattle.runs.specs.Acts.{Act}
 use Rattle.runs.specs.Machine.{Open, Control, before, inside, after, go, outer, root-by, move}
 use Rattle.runs.proofs.Find.{find-sound}
 use Rattle.runs.proofs.Moves.{Moves, stay, then, refuse-go, go-inj}
 use Rattle.runs.proofs.Sound.{started, was-read, ended}
 
-abbrev tags-of : List Production → List Open → Tags
+abbrev tags-of : List Production → List Open → OpenTags
 tags-of g [] = []
 tags-of g (o ∷ os) = some (tagOf g (o .production)) ∷ tags-of g os
 
-abbrev pub tags-at : List Production → Control → Tags
+abbrev pub tags-at : List Production → Control → OpenTags
 tags-at g before = []
 tags-at g (inside o os) = tags-of g (o ∷ os)
 tags-at g after = []
@@ -44,7 +44,7 @@ module _ (g : List Production) (n lim : ℕ) where
   move-tags (inside o os) (letter x) bs c′ e = let d = was-read g lim o os n x bs c′ e in ap (tags-at g) (sym (d .is-control))
   move-tags after x bs c′ e = refuse-go bs c′ e
 
-  one-on : (ts : Tags) (x : Event) (xs : List Event) → openAfter ts (x ∷ xs) ≡ openAfter (openAfter ts (x ∷ [])) xs
+  one-on : (ts : OpenTags) (x : Event) (xs : List Event) → openAfter ts (x ∷ xs) ≡ openAfter (openAfter ts (x ∷ [])) xs
   one-on ts (starts t) xs = refl
   one-on ts (ends t) xs = refl
   one-on ts (letter c) xs = refl
@@ -52,4 +52,4 @@ module _ (g : List Production) (n lim : ℕ) where
   pub moves-tags : {c c′ : Control} {xs : List Event} {bs : List Act} → Moves g n lim c xs bs c′ → openAfter (tags-at g c) xs ≡ tags-at g c′
   moves-tags stay = refl
   moves-tags {c} (then {c′ = c′} {xs = xs} x bs e r) =
-      one-on (tags-at g c) x xs ∙ ap (λ (ts : Tags). openAfter ts xs) (move-tags c x bs c′ e) ∙ moves-tags r
+      one-on (tags-at g c) x xs ∙ ap (λ (ts : OpenTags). openAfter ts xs) (move-tags c x bs c′ e) ∙ moves-tags r

@@ -18,7 +18,7 @@ use Rattle.runs.specs.Visits.{grammar, Env}
 use Rattle.runs.specs.Events.{Event, starts, ends, letter}
 use Rattle.runs.specs.Parse.{Element, element, Children, childless, children, Parse, child, one-char, pair, first-of, second-of, repeat, void, Parses, done, next, yield}
 use Rattle.runs.specs.Acts.{Act, node-first, node-second, start-tag, end-tag, letter-read, bracket-acts, Store, fresh-store, acts}
-use Rattle.runs.specs.Machine.{Open, Control, before, inside, after, Turn, refuse, go, outer, root-by, move, most, State, fresh-state, Answer, took, refused, acted, turned, step, Outcome, finished, stopped, onward, answered, run}
+use Rattle.runs.specs.Machine.{Open, Control, before, inside, after, Turn, refuse, go, outer, root-by, move, most, Configuration, fresh-configuration, Answer, took, refused, acted, turned, step, Outcome, finished, stopped, onward, answered, run}
 use Rattle.runs.specs.Line.{line, lineC, lineP, linePs}
 use Rattle.runs.specs.Taken.{Passed, ParsedTo, closed-with, Allowed}
 use Rattle.runs.specs.Spells.{Token, start-token, end-token, empty-token, literal, reference, eventsOfToken, isBlank, blanksPass, Mark, mark, eventsOfMarks, marks, marksC, marksP, marksPs, Spells, all-read, blank-after, blank-between, one-event, empty-tag, Spelled, passesAt, unless-blank, stepToken, through, onward-token, runTokens}
@@ -174,41 +174,41 @@ module _ (g : List Production) (n lim : ℕ) where
   move-flags after x bs c′ e rest = refuse-go bs c′ e
 
 -- a run over events with its marks
-data Walks (s : Sheet) : State → List Mark → State → Type 0 where
-  stays : {z : State} → Walks s z [] z
-  steps : {z z′ z″ : State} {ms : List Mark} (x : Event) → step s z x ≡ took z′ → Walks s z′ ms z″ → Walks s z (mark (passesAt (grammar s) (z .control)) x ∷ ms) z″
+data Walks (s : Sheet) : Configuration → List Mark → Configuration → Type 0 where
+  stays : {z : Configuration} → Walks s z [] z
+  steps : {z z′ z″ : Configuration} {ms : List Mark} (x : Event) → step s z x ≡ took z′ → Walks s z′ ms z″ → Walks s z (mark (passesAt (grammar s) (z .control)) x ∷ ms) z″
 
-walks-run : (s : Sheet) {z z′ : State} {ms : List Mark} → Walks s z ms z′ → run s z (eventsOfMarks ms) ≡ finished z′
+walks-run : (s : Sheet) {z z′ : Configuration} {ms : List Mark} → Walks s z ms z′ → run s z (eventsOfMarks ms) ≡ finished z′
 walks-run s stays = refl
 walks-run s {z} (steps {ms = ms} x e w) = ap (λ (a : Answer). onward z (x ∷ eventsOfMarks ms) a (λ y. run s y (eventsOfMarks ms))) e ∙ walks-run s w
 
-walks-append : (s : Sheet) {z z′ z″ : State} {ms ns : List Mark} → Walks s z ms z′ → Walks s z′ ns z″ → Walks s z (ms ++ ns) z″
+walks-append : (s : Sheet) {z z′ z″ : Configuration} {ms ns : List Mark} → Walks s z ms z′ → Walks s z′ ns z″ → Walks s z (ms ++ ns) z″
 walks-append s stays w = w
 walks-append s (steps x e v) w = steps x e (walks-append s v w)
 
-run-walks : (s : Sheet) (z : State) (xs : List Event) (z′ : State) → run s z xs ≡ finished z′ → (ms : List Mark) × Walks s z ms z′ × (eventsOfMarks ms ≡ xs)
+run-walks : (s : Sheet) (z : Configuration) (xs : List Event) (z′ : Configuration) → run s z xs ≡ finished z′ → (ms : List Mark) × Walks s z ms z′ × (eventsOfMarks ms ≡ xs)
 run-walks s z [] z′ e = let h : z ≡ z′ = cc in ([], subst (Walks s z []) h stays, refl)
 run-walks s z (x ∷ xs) z′ e = by (λ y h. run-walks s y xs z′ h) (step s z x) refl e
   where
-    by : ((y : State) → run s y xs ≡ finished z′ → (ms : List Mark) × Walks s y ms z′ × (eventsOfMarks ms ≡ xs)) → (a : Answer) → step s z x ≡ a →
+    by : ((y : Configuration) → run s y xs ≡ finished z′ → (ms : List Mark) × Walks s y ms z′ × (eventsOfMarks ms ≡ xs)) → (a : Answer) → step s z x ≡ a →
         onward z (x ∷ xs) a (λ y. run s y xs) ≡ finished z′ → (ms : List Mark) × Walks s z ms z′ × (eventsOfMarks ms ≡ x ∷ xs)
     by f (took y) i e = let t = f y e in (mark (passesAt (grammar s) (z .control)) x ∷ t .0, steps x i (t .1), ap (λ (l : List Event). x ∷ l) (t .2))
     by f (refused k) i e = absurd (let y : _≡_ {A = ℕ} 0 1 = cc in omega arith)
 
 -- one step is a move
-step-move : (s : Sheet) (z z′ : State) (x : Event) → step s z x ≡ took z′ → (bs : List Act) × (move (grammar s) (s .start-nonterminal) most (z .control) x ≡ go bs (z′ .control))
+step-move : (s : Sheet) (z z′ : Configuration) (x : Event) → step s z x ≡ took z′ → (bs : List Act) × (move (grammar s) (s .start-nonterminal) most (z .control) x ≡ go bs (z′ .control))
 step-move s z z′ x e = by-turn (move (grammar s) (s .start-nonterminal) most (z .control) x) refl e
   where
     by-store : (bs : List Act) (c : Control) (o : Option Store) → acted c o ≡ took z′ → c ≡ z′ .control
     by-store bs c none e = absurd (let y : _≡_ {A = ℕ} 0 1 = cc in omega arith)
-    by-store bs c (some m) e = let h : record { control = c; store = m } ≡ z′ = cc in ap (λ (y : State). y .control) h
+    by-store bs c (some m) e = let h : record { control = c; store = m } ≡ z′ = cc in ap (λ (y : Configuration). y .control) h
 
     by-turn : (u : Turn) → move (grammar s) (s .start-nonterminal) most (z .control) x ≡ u → turned s (z .store) u ≡ took z′ →
         (bs : List Act) × (move (grammar s) (s .start-nonterminal) most (z .control) x ≡ go bs (z′ .control))
     by-turn (refuse k) i e = absurd (let y : _≡_ {A = ℕ} 0 1 = cc in omega arith)
     by-turn (go bs c) i e = (bs, i ∙ ap (go bs) (by-store bs c (acts s bs (z .store)) e))
 
-walks-flags : (s : Sheet) {z z′ : State} {ms : List Mark} → Walks s z ms z′ →
+walks-flags : (s : Sheet) {z z′ : Configuration} {ms : List Mark} → Walks s z ms z′ →
     (bs : List Act) × Moves (grammar s) (s .start-nonterminal) most (z .control) (eventsOfMarks ms) bs (z′ .control) × (rowMarks (grammar s) (stack-at (grammar s) (z .control)) bs ≡ ms)
 walks-flags s stays = ([], stay, refl)
 walks-flags s {z} (steps {z′ = y} x e w) =
@@ -221,11 +221,11 @@ walks-flags s {z} (steps {z′ = y} x e w) =
     )
 
 -- tokens that a run takes spell the run's marks
-end-walk : (s : Sheet) {z z′ : State} {ms : List Mark} → Walks s z ms z′ → ms ≡ [] → z ≡ z′
+end-walk : (s : Sheet) {z z′ : Configuration} {ms : List Mark} → Walks s z ms z′ → ms ≡ [] → z ≡ z′
 end-walk s stays e = refl
 end-walk s (steps x e w) i = absurd (let y : _≡_ {A = ℕ} 0 1 = cc in omega arith)
 
-blank-first : (s : Sheet) {z z′ : State} {ms : List Mark} {ts : List Token} (k : Token) → isBlank k ≡ true → passesAt (grammar s) (z .control) ≡ true → Walks s z ms z′ →
+blank-first : (s : Sheet) {z z′ : Configuration} {ms : List Mark} {ts : List Token} (k : Token) → isBlank k ≡ true → passesAt (grammar s) (z .control) ≡ true → Walks s z ms z′ →
     Spells (passesAt (grammar s) (z′ .control)) ms ts → Spells (passesAt (grammar s) (z′ .control)) ms (k ∷ ts)
 blank-first s k b p stays h = blank-after k b p h
 blank-first s {z} {z′} {ms} {ts} k b p (steps {ms = ns} x e w) h =
@@ -233,16 +233,16 @@ blank-first s {z} {z′} {ms} {ts} k b p (steps {ms = ns} x e w) h =
     subst (λ (c : Bool). Spells l (mark c x ∷ ns) (k ∷ ts)) (sym p) (blank-between k x b (subst (λ (c : Bool). Spells l (mark c x ∷ ns) ts) p h))
 
 module _ (s : Sheet) where
-  abbrev Spelt : State → List Token → State → Type 0
+  abbrev Spelt : Configuration → List Token → Configuration → Type 0
   Spelt z ts z′ = (ms : List Mark) × Walks s z ms z′ × Spells (passesAt (grammar s) (z′ .control)) ms ts
 
   -- one token that is not passed over: its events, each a step
-  one-walk : {z z′ : State} {ms : List Mark} (x : Event) → Walks s z ms z′ → eventsOfMarks ms ≡ x ∷ [] → ms ≡ mark (passesAt (grammar s) (z .control)) x ∷ []
+  one-walk : {z z′ : Configuration} {ms : List Mark} (x : Event) → Walks s z ms z′ → eventsOfMarks ms ≡ x ∷ [] → ms ≡ mark (passesAt (grammar s) (z .control)) x ∷ []
   one-walk x stays e = absurd (let y : _≡_ {A = ℕ} 0 1 = cc in omega arith)
   one-walk {z} x (steps y e stays) i = let h : y ≡ x = cc in ap (λ (a : Event). mark (passesAt (grammar s) (z .control)) a ∷ []) h
   one-walk x (steps y e (steps y′ e′ w)) i = absurd (let y : _≡_ {A = ℕ} 0 1 = cc in omega arith)
 
-  single : (z z₁ z′ : State) (k : Token) (x : Event) (ts : List Token) → isBlank k && passesAt (grammar s) (z .control) ≡ false → eventsOfToken k ≡ x ∷ [] →
+  single : (z z₁ z′ : Configuration) (k : Token) (x : Event) (ts : List Token) → isBlank k && passesAt (grammar s) (z .control) ≡ false → eventsOfToken k ≡ x ∷ [] →
       run s z (x ∷ []) ≡ finished z₁ → Spelt z₁ ts z′ → Spelt z (k ∷ ts) z′
   single z z₁ z′ k x ts b i r t =
       let w = run-walks s z (x ∷ []) z₁ r in
@@ -252,7 +252,7 @@ module _ (s : Sheet) where
         subst (λ (l : List Mark). Spells (passesAt (grammar s) (z′ .control)) (l ++ t .0) (k ∷ ts)) (sym m) (one-event k (passesAt (grammar s) (z .control)) x b i (t .2)),
       )
 
-  two-walk : {z z′ : State} {ms : List Mark} (x y : Event) → Walks s z ms z′ → eventsOfMarks ms ≡ x ∷ y ∷ [] → (b b′ : Bool) × (ms ≡ mark b x ∷ mark b′ y ∷ [])
+  two-walk : {z z′ : Configuration} {ms : List Mark} (x y : Event) → Walks s z ms z′ → eventsOfMarks ms ≡ x ∷ y ∷ [] → (b b′ : Bool) × (ms ≡ mark b x ∷ mark b′ y ∷ [])
   two-walk x y stays e = absurd (let y : _≡_ {A = ℕ} 0 1 = cc in omega arith)
   two-walk {z} x y (steps {z′ = z₁} {ms = ms} x′ e w) i =
       let h : x′ ≡ x = cc in
@@ -260,7 +260,7 @@ module _ (s : Sheet) where
       let m : ms ≡ mark (passesAt (grammar s) (z₁ .control)) y ∷ [] = one-walk y w j in
       (passesAt (grammar s) (z .control), passesAt (grammar s) (z₁ .control), (λ k. mark (passesAt (grammar s) (z .control)) (h k) ∷ m k))
 
-  double : (z z₁ z′ : State) (t : Option ℕ) (ts : List Token) → run s z (starts t ∷ ends t ∷ []) ≡ finished z₁ → Spelt z₁ ts z′ → Spelt z (empty-token t ∷ ts) z′
+  double : (z z₁ z′ : Configuration) (t : Option ℕ) (ts : List Token) → run s z (starts t ∷ ends t ∷ []) ≡ finished z₁ → Spelt z₁ ts z′ → Spelt z (empty-token t ∷ ts) z′
   double z z₁ z′ t ts r p =
       let w = run-walks s z (starts t ∷ ends t ∷ []) z₁ r in
       let m = two-walk (starts t) (ends t) (w .1) (w .2) in (
@@ -269,7 +269,7 @@ module _ (s : Sheet) where
         subst (λ (l : List Mark). Spells (passesAt (grammar s) (z′ .control)) (l ++ p .0) (empty-token t ∷ ts)) (sym (m .2)) (empty-tag t (m .0) (m .1) (p .2)),
       )
 
-  by-token : (z z₁ z′ : State) (k : Token) (ts : List Token) → isBlank k && passesAt (grammar s) (z .control) ≡ false → run s z (eventsOfToken k) ≡ finished z₁ → Spelt z₁ ts z′ →
+  by-token : (z z₁ z′ : Configuration) (k : Token) (ts : List Token) → isBlank k && passesAt (grammar s) (z .control) ≡ false → run s z (eventsOfToken k) ≡ finished z₁ → Spelt z₁ ts z′ →
       Spelt z (k ∷ ts) z′
   by-token z z₁ z′ (start-token t) ts b r p = single z z₁ z′ (start-token t) (starts t) ts b refl r p
   by-token z z₁ z′ (end-token t) ts b r p = single z z₁ z′ (end-token t) (ends t) ts b refl r p
@@ -277,16 +277,16 @@ module _ (s : Sheet) where
   by-token z z₁ z′ (literal c) ts b r p = single z z₁ z′ (literal c) (letter c) ts b refl r p
   by-token z z₁ z′ (reference c) ts b r p = single z z₁ z′ (reference c) (letter c) ts b refl r p
 
-  tokens-spell : (z : State) (ts : List Token) (z′ : State) → runTokens s z ts ≡ through z′ → Spelt z ts z′
+  tokens-spell : (z : Configuration) (ts : List Token) (z′ : Configuration) → runTokens s z ts ≡ through z′ → Spelt z ts z′
   tokens-spell z [] z′ e = let h : z ≡ z′ = cc in ([], subst (Walks s z []) h stays, all-read)
   tokens-spell z (k ∷ ts) z′ e = by (λ y h. tokens-spell y ts z′ h) (isBlank k && passesAt (grammar s) (z .control)) refl e
     where
-      by-answer : ((y : State) → runTokens s y ts ≡ through z′ → Spelt y ts z′) → isBlank k && passesAt (grammar s) (z .control) ≡ false →
+      by-answer : ((y : Configuration) → runTokens s y ts ≡ through z′ → Spelt y ts z′) → isBlank k && passesAt (grammar s) (z .control) ≡ false →
           (a : Answer) → answered (run s z (eventsOfToken k)) ≡ a → onward-token z (k ∷ ts) a (λ y. runTokens s y ts) ≡ through z′ → Spelt z (k ∷ ts) z′
       by-answer f b (took y) i e = by-token z y z′ k ts b (run-through (run s z (eventsOfToken k)) y i) (f y e)
       by-answer f b (refused j) i e = absurd (let y : _≡_ {A = ℕ} 0 1 = cc in omega arith)
 
-      by : ((y : State) → runTokens s y ts ≡ through z′ → Spelt y ts z′) → (b : Bool) → isBlank k && passesAt (grammar s) (z .control) ≡ b →
+      by : ((y : Configuration) → runTokens s y ts ≡ through z′ → Spelt y ts z′) → (b : Bool) → isBlank k && passesAt (grammar s) (z .control) ≡ b →
           onward-token z (k ∷ ts) (unless-blank b z (answered (run s z (eventsOfToken k)))) (λ y. runTokens s y ts) ≡ through z′ → Spelt z (k ∷ ts) z′
       by f true i e =
           let t = f z e in
@@ -295,24 +295,24 @@ module _ (s : Sheet) where
       by f false i e = by-answer f i (answered (run s z (eventsOfToken k))) refl e
 
   -- and tokens that spell a run's marks are taken
-  skip : (z z′ : State) (k : Token) (ts : List Token) → isBlank k ≡ true → passesAt (grammar s) (z .control) ≡ true → runTokens s z ts ≡ through z′ → runTokens s z (k ∷ ts) ≡ through z′
+  skip : (z z′ : Configuration) (k : Token) (ts : List Token) → isBlank k ≡ true → passesAt (grammar s) (z .control) ≡ true → runTokens s z ts ≡ through z′ → runTokens s z (k ∷ ts) ≡ through z′
   skip z z′ k ts b p r =
       ap (λ (c : Bool). onward-token z (k ∷ ts) (unless-blank (c && passesAt (grammar s) (z .control)) z (answered (run s z (eventsOfToken k)))) (λ y. runTokens s y ts)) b
       ∙ ap (λ (c : Bool). onward-token z (k ∷ ts) (unless-blank c z (answered (run s z (eventsOfToken k)))) (λ y. runTokens s y ts)) p ∙ r
 
-  read : (z z₁ z′ : State) (k : Token) (ts : List Token) → isBlank k && passesAt (grammar s) (z .control) ≡ false → run s z (eventsOfToken k) ≡ finished z₁ →
+  read : (z z₁ z′ : Configuration) (k : Token) (ts : List Token) → isBlank k && passesAt (grammar s) (z .control) ≡ false → run s z (eventsOfToken k) ≡ finished z₁ →
       runTokens s z₁ ts ≡ through z′ → runTokens s z (k ∷ ts) ≡ through z′
   read z z₁ z′ k ts b r t =
       ap (λ (c : Bool). onward-token z (k ∷ ts) (unless-blank c z (answered (run s z (eventsOfToken k)))) (λ y. runTokens s y ts)) b
       ∙ ap (λ (o : Outcome). onward-token z (k ∷ ts) (answered o) (λ y. runTokens s y ts)) r ∙ t
 
-  record First (z : State) (b : Bool) (x : Event) (ms : List Mark) (z′ : State) : Type 0 where
-    pub next-state : State
+  record First (z : Configuration) (b : Bool) (x : Event) (ms : List Mark) (z′ : Configuration) : Type 0 where
+    pub next-state : Configuration
     pub flag : b ≡ passesAt (grammar s) (z .control)
     pub stepped : step s z x ≡ took next-state
     pub later : Walks s next-state ms z′
 
-  first-step : {z z′ : State} {ns : List Mark} → Walks s z ns z′ → (b : Bool) (x : Event) (ms : List Mark) → ns ≡ mark b x ∷ ms → First z b x ms z′
+  first-step : {z z′ : Configuration} {ns : List Mark} → Walks s z ns z′ → (b : Bool) (x : Event) (ms : List Mark) → ns ≡ mark b x ∷ ms → First z b x ms z′
   first-step stays b x ms i = absurd (let y : _≡_ {A = ℕ} 0 1 = cc in omega arith)
   first-step {z} {z′} (steps {z′ = y} {ms = ns} x′ e w) b x ms i =
       let hb : passesAt (grammar s) (z .control) ≡ b = ap (λ (l : List Mark). top-flag l) i in
@@ -332,14 +332,14 @@ module _ (s : Sheet) where
       rest-of-marks [] = []
       rest-of-marks (m ∷ l) = l
 
-  one-run : (z z₁ : State) (x : Event) → step s z x ≡ took z₁ → run s z (x ∷ []) ≡ finished z₁
+  one-run : (z z₁ : Configuration) (x : Event) → step s z x ≡ took z₁ → run s z (x ∷ []) ≡ finished z₁
   one-run z z₁ x e = ap (λ (a : Answer). onward z (x ∷ []) a (λ y. finished y)) e
 
-  spell-tokens : {last : Bool} {ms : List Mark} {ts : List Token} → Spells last ms ts → (z z′ : State) → Walks s z ms z′ → passesAt (grammar s) (z′ .control) ≡ last →
+  spell-tokens : {last : Bool} {ms : List Mark} {ts : List Token} → Spells last ms ts → (z z′ : Configuration) → Walks s z ms z′ → passesAt (grammar s) (z′ .control) ≡ last →
       runTokens s z ts ≡ through z′
   spell-tokens all-read z z′ w p = ap through (end-walk s w refl)
   spell-tokens (blank-after {ts = ts} k b l h) z z′ w p =
-      skip z z′ k ts b (ap (λ (y : State). passesAt (grammar s) (y .control)) (end-walk s w refl) ∙ p ∙ l) (spell-tokens h z z′ w p)
+      skip z z′ k ts b (ap (λ (y : Configuration). passesAt (grammar s) (y .control)) (end-walk s w refl) ∙ p ∙ l) (spell-tokens h z z′ w p)
   spell-tokens (blank-between {ms = ms} {ts = ts} k x b h) z z′ w p =
       let f = first-step w true x ms refl in
       skip z z′ k ts b (sym (f .flag)) (spell-tokens h z z′ w p)
@@ -355,7 +355,7 @@ module _ (s : Sheet) where
       (spell-tokens h (f′ .next-state) z′ (f′ .later) p)
 
 -- the marks of a run over a tree's events are the tree's
-walks-marks : (s : Sheet) → Passed s → (v : Env) (ms : List Mark) → Walks s fresh-state ms (closed-with v) → (p : ParsedTo s (eventsOfMarks ms) v) → ms ≡ marks (p .root) true
+walks-marks : (s : Sheet) → Passed s → (v : Env) (ms : List Mark) → Walks s fresh-configuration ms (closed-with v) → (p : ParsedTo s (eventsOfMarks ms) v) → ms ≡ marks (p .root) true
 walks-marks s ok v ms w p =
     let t = walks-flags s w in
     let g : List Production = grammar s in
@@ -364,12 +364,12 @@ walks-marks s ok v ms w p =
     let b : t .0 ≡ line (p .root) = moves-one (t .1) (subst (λ (xs : List Event). Moves g n most before xs (line (p .root)) after) (p .are-events) m) .0 in
     sym (t .2) ∙ ap (rowMarks g []) (b ∙ sym (append-nil (line (p .root)))) ∙ flags-tree (p .root) [] [] ∙ append-nil (marks (p .root) true)
 
-pub spelled-iff : (s : Sheet) → Passed s → (ts : List Token) (v : Env) → (runTokens s fresh-state ts ≡ through (closed-with v)) ↔ Spelled s ts v
+pub spelled-iff : (s : Sheet) → Passed s → (ts : List Token) (v : Env) → (runTokens s fresh-configuration ts ≡ through (closed-with v)) ↔ Spelled s ts v
 spelled-iff s ok ts v = (to, from)
   where
-    to : runTokens s fresh-state ts ≡ through (closed-with v) → Spelled s ts v
+    to : runTokens s fresh-configuration ts ≡ through (closed-with v) → Spelled s ts v
     to r =
-        let t = tokens-spell s fresh-state ts (closed-with v) r in
+        let t = tokens-spell s fresh-configuration ts (closed-with v) r in
         let p = taken-iff s ok (eventsOfMarks (t .0)) v .0 (walks-run s (t .1)) in
         record {
           root = p .root;
@@ -378,25 +378,25 @@ spelled-iff s ok ts v = (to, from)
           value = p .value;
         }
 
-    from : Spelled s ts v → runTokens s fresh-state ts ≡ through (closed-with v)
+    from : Spelled s ts v → runTokens s fresh-configuration ts ≡ through (closed-with v)
     from d =
         let p : ParsedTo s (yield (d .root)) v = record { root = d .root; are-events = refl; fits = d .fits; value = d .value } in
-        let w = run-walks s fresh-state (yield (d .root)) (closed-with v) (taken-iff s ok (yield (d .root)) v .1 p) in
+        let w = run-walks s fresh-configuration (yield (d .root)) (closed-with v) (taken-iff s ok (yield (d .root)) v .1 p) in
         let q : ParsedTo s (eventsOfMarks (w .0)) v = record { root = d .root; are-events = sym (w .2); fits = d .fits; value = d .value } in
-        spell-tokens s (subst (λ (ms : List Mark). Spells true ms ts) (sym (walks-marks s ok v (w .0) (w .1) q)) (d .spells)) fresh-state (closed-with v) (w .1) refl
+        spell-tokens s (subst (λ (ms : List Mark). Spells true ms ts) (sym (walks-marks s ok v (w .0) (w .1) q)) (d .spells)) fresh-configuration (closed-with v) (w .1) refl
 
 -- tokens that are taken spell events that are taken, whether or not the root is closed
-pub through-spells : (s : Sheet) (ts : List Token) (z : State) → runTokens s fresh-state ts ≡ through z →
-    (ms : List Mark) × (run s fresh-state (eventsOfMarks ms) ≡ finished z) × Spells (passesAt (grammar s) (z .control)) ms ts
-through-spells s ts z r = let t = tokens-spell s fresh-state ts z r in (t .0, walks-run s (t .1), t .2)
+pub through-spells : (s : Sheet) (ts : List Token) (z : Configuration) → runTokens s fresh-configuration ts ≡ through z →
+    (ms : List Mark) × (run s fresh-configuration (eventsOfMarks ms) ≡ finished z) × Spells (passesAt (grammar s) (z .control)) ms ts
+through-spells s ts z r = let t = tokens-spell s fresh-configuration ts z r in (t .0, walks-run s (t .1), t .2)
 
 -- a token that is refused is no white space that passes, and the number is that of the first of its events that is refused
-pub token-refused : (s : Sheet) (z : State) (k : Token) (j : ℕ) → stepToken s z k ≡ refused j →
-    (isBlank k && passesAt (grammar s) (z .control) ≡ false) × ((z′ : State) × (left : List Event) × (run s z (eventsOfToken k) ≡ stopped j z′ left))
+pub token-refused : (s : Sheet) (z : Configuration) (k : Token) (j : ℕ) → stepToken s z k ≡ refused j →
+    (isBlank k && passesAt (grammar s) (z .control) ≡ false) × ((z′ : Configuration) × (left : List Event) × (run s z (eventsOfToken k) ≡ stopped j z′ left))
 token-refused s z k j e = by (isBlank k && passesAt (grammar s) (z .control)) refl e
   where
     by : (b : Bool) → isBlank k && passesAt (grammar s) (z .control) ≡ b → unless-blank b z (answered (run s z (eventsOfToken k))) ≡ refused j →
-        (isBlank k && passesAt (grammar s) (z .control) ≡ false) × ((z′ : State) × (left : List Event) × (run s z (eventsOfToken k) ≡ stopped j z′ left))
+        (isBlank k && passesAt (grammar s) (z .control) ≡ false) × ((z′ : Configuration) × (left : List Event) × (run s z (eventsOfToken k) ≡ stopped j z′ left))
     by true i e = absurd (let y : _≡_ {A = ℕ} 0 1 = cc in omega arith)
     by false i e = (i, run-stops (run s z (eventsOfToken k)) j e)
 
@@ -413,10 +413,10 @@ module _ (s : Sheet) (ok : Passed s) (ts : List Token) (m : Store) where
   abbrev n : ℕ
   n = s .start-nonterminal
 
-  to-so-far : (c : Control) → runTokens s fresh-state ts ≡ through (record { control = c; store = m }) → SpelledSoFar s ts m
+  to-so-far : (c : Control) → runTokens s fresh-configuration ts ≡ through (record { control = c; store = m }) → SpelledSoFar s ts m
   to-so-far c r =
-      let z : State = record { control = c; store = m } in
-      let t = tokens-spell s fresh-state ts z r in
+      let z : Configuration = record { control = c; store = m } in
+      let t = tokens-spell s fresh-configuration ts z r in
       let w = walks-flags s (t .1) in
       let bs : List Act = w .0 in
       let a = moves-allowed g n most (omega arith) (eventsOfMarks (t .0)) bs c (w .1) in
@@ -435,8 +435,8 @@ module _ (s : Sheet) (ok : Passed s) (ts : List Token) (m : Store) where
   -- the run of such tokens: over events, over tokens, and whether white space passes then
   pub record RunSoFar (h : SpelledSoFar s ts m) : Type 0 where
     pub control : Control
-    pub events-run : run s fresh-state (eventsSoFar h) ≡ finished (record { control = control; store = m })
-    pub tokens-run : runTokens s fresh-state ts ≡ through (record { control = control; store = m })
+    pub events-run : run s fresh-configuration (eventsSoFar h) ≡ finished (record { control = control; store = m })
+    pub tokens-run : runTokens s fresh-configuration ts ≡ through (record { control = control; store = m })
     pub passes : passesAt g control ≡ passing (rowPasses g [] (h .row))
 
   pub so-far-run : (h : SpelledSoFar s ts m) → RunSoFar h
@@ -444,9 +444,9 @@ module _ (s : Sheet) (ok : Passed s) (ts : List Token) (m : Store) where
       let xs : List Event = eventsOfMarks (rowMarks g [] (h .row)) in
       let a = allowed-moves g n most (no-T g (ok .keeps-T)) (no-S g (ok .keeps-S)) (h .allowed) (h .fits) in
       let c : Control = a .0 in
-      let z : State = record { control = c; store = m } in
-      let r : run s fresh-state xs ≡ finished z = run-through (run s fresh-state xs) z (run-moves s (a .1) fresh-store ∙ ap (acted c) (h .value)) in
-      let w = run-walks s fresh-state xs z r in
+      let z : Configuration = record { control = c; store = m } in
+      let r : run s fresh-configuration xs ≡ finished z = run-through (run s fresh-configuration xs) z (run-moves s (a .1) fresh-store ∙ ap (acted c) (h .value)) in
+      let w = run-walks s fresh-configuration xs z r in
       let f = walks-flags s (w .1) in
       let same : f .0 ≡ h .row = moves-one (f .1) (subst (λ (ys : List Event). Moves g n most before ys (h .row) c) (sym (w .2)) (a .1)) .0 in
       let ms : rowMarks g [] (h .row) ≡ w .0 = ap (rowMarks g []) (sym same) ∙ f .2 in
@@ -454,17 +454,17 @@ module _ (s : Sheet) (ok : Passed s) (ts : List Token) (m : Store) where
       record {
         control = c;
         events-run = r;
-        tokens-run = spell-tokens s (subst (λ (l : List Mark). Spells (passing (rowPasses g [] (h .row))) l ts) ms (h .spells)) fresh-state z (w .1) p;
+        tokens-run = spell-tokens s (subst (λ (l : List Mark). Spells (passing (rowPasses g [] (h .row))) l ts) ms (h .spells)) fresh-configuration z (w .1) p;
         passes = p;
       }
 
   -- tokens are taken exactly when they spell the events of a tree, whole or open, within the limit and without a reject
-  pub so-far-iff : ((c : Control) × (runTokens s fresh-state ts ≡ through (record { control = c; store = m }))) ↔ SpelledSoFar s ts m
+  pub so-far-iff : ((c : Control) × (runTokens s fresh-configuration ts ≡ through (record { control = c; store = m }))) ↔ SpelledSoFar s ts m
   so-far-iff = ((λ p. to-so-far (p .0) (p .1)), (λ h. let r = so-far-run h in (r .control, r .tokens-run)))
 
   -- and the next is refused exactly when `TokenRefused` gives it that number
   module _ (h : SpelledSoFar s ts m) (r : RunSoFar h) (k : Token) (j : ℕ) where
-    abbrev now : State
+    abbrev now : Configuration
     now = record { control = r .control; store = m }
 
     pub token-refused-iff : (stepToken s now k ≡ refused j) ↔ TokenRefused h k j
@@ -473,19 +473,19 @@ module _ (s : Sheet) (ok : Passed s) (ts : List Token) (m : Store) where
         to : stepToken s now k ≡ refused j → TokenRefused h k j
         to e =
             let t = token-refused s now k j e in
-            let z′ : State = t .1 .0 in
+            let z′ : Configuration = t .1 .0 in
             record {
               counts = ap (λ (b : Bool). isBlank k && b) (sym (r .passes)) ∙ t .0;
               reached = z′ .store;
               left = t .1 .1;
-              stopped =
+              stops =
                   stopped-iff s ok (eventsSoFar h ++ eventsOfToken k) j (z′ .store) (t .1 .1) .0
-                  (z′ .control, run-append s fresh-state now (eventsSoFar h) (eventsOfToken k) (r .events-run) ∙ t .1 .2);
+                  (z′ .control, run-append s fresh-configuration now (eventsSoFar h) (eventsOfToken k) (r .events-run) ∙ t .1 .2);
             }
 
         from : TokenRefused h k j → stepToken s now k ≡ refused j
         from d =
-            let t = stopped-iff s ok (eventsSoFar h ++ eventsOfToken k) j (d .reached) (d .left) .1 (d .stopped) in
+            let t = stopped-iff s ok (eventsSoFar h ++ eventsOfToken k) j (d .reached) (d .left) .1 (d .stops) in
             let e : run s now (eventsOfToken k) ≡ stopped j (record { control = t .0; store = d .reached }) (d .left) =
-            sym (run-append s fresh-state now (eventsSoFar h) (eventsOfToken k) (r .events-run)) ∙ t .1 in
+            sym (run-append s fresh-configuration now (eventsSoFar h) (eventsOfToken k) (r .events-run)) ∙ t .1 in
             ap (λ (b : Bool). unless-blank b now (answered (run s now (eventsOfToken k)))) (ap (λ (b : Bool). isBlank k && b) (r .passes) ∙ d .counts) ∙ ap answered e

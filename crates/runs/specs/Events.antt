@@ -10,19 +10,19 @@ pub data Event : Type 0 where
   ends : Option ℕ → Event  -- an end tag
   letter : ℕ → Event  -- a character
 
-abbrev pub Tags : Type 0
-Tags = List (Option ℕ)
+abbrev pub OpenTags : Type 0
+OpenTags = List (Option ℕ)
 
-abbrev pub without-first : Tags → Tags
+abbrev pub without-first : OpenTags → OpenTags
 without-first [] = []
 without-first (t ∷ ts) = ts
 
 -- the tags of the open elements, innermost first, after the events from when ts were open
-abbrev pub openAfter : Tags → List Event → Tags
+abbrev pub openAfter : OpenTags → List Event → OpenTags
 openAfter ts [] = ts
 openAfter ts (starts t ∷ xs) = openAfter (t ∷ ts) xs
 openAfter ts (ends t ∷ xs) = openAfter (without-first ts) xs
 openAfter ts (letter c ∷ xs) = openAfter ts xs
 
-abbrev pub openTags : List Event → Tags
+abbrev pub openTags : List Event → OpenTags
 openTags xs = openAfter [] xs

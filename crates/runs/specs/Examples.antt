@@ -14,7 +14,7 @@ use Rattle.output.specs.Escape.{Piece, start, end, character}
 use Rattle.runs.specs.Visits.{Env, no-programs}
 use Rattle.runs.specs.Events.{Event, starts, ends, letter}
 use Rattle.runs.specs.Acts.{Store}
-use Rattle.runs.specs.Machine.{State, fresh-state}
+use Rattle.runs.specs.Machine.{Configuration, fresh-configuration}
 use Rattle.runs.specs.Taken.{Passed, Stopped}
 use Rattle.runs.specs.Spells.{Token, start-token, end-token, empty-token, literal, Spelled, stops, runTokens}
 
@@ -27,7 +27,7 @@ pub data Run : Type 0 where
 
 abbrev pub RunHolds : Run → Type 0
 RunHolds (accepts s ts v) = Passed s × Spelled s ts v
-RunHolds (halts s ts k o left) = Passed s × ((z : State) × (runTokens s fresh-state ts ≡ stops k z left) × (z .store .env .out ≡ o))
+RunHolds (halts s ts k o left) = Passed s × ((z : Configuration) × (runTokens s fresh-configuration ts ≡ stops k z left) × (z .store .env .out ≡ o))
 RunHolds (refuses s xs k o left) = Passed s × ((m : Store) × Stopped s xs k m left × (m .env .out ≡ o))
 
 abbrev pub Each : {A : Type 0} → (A → Type 0) → List A → Type 0

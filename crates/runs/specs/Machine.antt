@@ -100,16 +100,16 @@ move g n lim (inside o os) (ends t) =
 move g n lim (inside o os) (letter c) = char-by o os c (atomWay (tagsOf g) (contentOf g (o .production)) (o .place) character)
 move g n lim after x = refuse 26
 
-pub record State : Type 0 where
+pub record Configuration : Type 0 where
   pub control : Control
   pub store : Store
 
-abbrev pub fresh-state : State
-fresh-state = record { control = before; store = fresh-store }
+abbrev pub fresh-configuration : Configuration
+fresh-configuration = record { control = before; store = fresh-store }
 
 -- what one event comes to: the state after it, or a number
 pub data Answer : Type 0 where
-  took : State → Answer
+  took : Configuration → Answer
   refused : ℕ → Answer
 
 abbrev pub acted : Control → Option Store → Answer
@@ -120,19 +120,19 @@ abbrev pub turned : Sheet → Store → Turn → Answer
 turned s m (refuse n) = refused n
 turned s m (go bs c) = acted c (acts s bs m)
 
-abbrev pub step : Sheet → State → Event → Answer
+abbrev pub step : Sheet → Configuration → Event → Answer
 step s z x = turned s (z .store) (move (grammar s) (s .start-nonterminal) most (z .control) x)
 
 -- what events come to: the state after all of them; or the number of the first that is refused, the state before it, and the events from it on
 pub data Outcome : Type 0 where
-  finished : State → Outcome
-  stopped : ℕ → State → List Event → Outcome
+  finished : Configuration → Outcome
+  stopped : ℕ → Configuration → List Event → Outcome
 
-abbrev pub onward : State → List Event → Answer → (State → Outcome) → Outcome
+abbrev pub onward : Configuration → List Event → Answer → (Configuration → Outcome) → Outcome
 onward z xs (took z′) f = f z′
 onward z xs (refused n) f = stopped n z xs
 
-abbrev pub run : Sheet → State → List Event → Outcome
+abbrev pub run : Sheet → Configuration → List Event → Outcome
 run s z [] = finished z
 run s z (x ∷ xs) = onward z (x ∷ xs) (step s z x) (λ z′. run s z′ xs)
 

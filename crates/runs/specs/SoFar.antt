@@ -59,4 +59,4 @@ pub record TokenRefused {s : Sheet} {ts : List Token} {m : Store} (h : SpelledSo
   pub counts : isBlank k && passing (rowPasses (grammar s) [] (h .row)) ≡ false
   pub reached : Store
   pub left : List Event
-  pub stopped : Stopped s (eventsSoFar h ++ eventsOfToken k) n reached left
+  pub stops : Stopped s (eventsSoFar h ++ eventsOfToken k) n reached left

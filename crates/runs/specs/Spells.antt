@@ -14,7 +14,7 @@ use Rattle.runs.specs.Lookup.{tagOf}
 use Rattle.runs.specs.Visits.{grammar, Env, fresh}
 use Rattle.runs.specs.Events.{Event, starts, ends, letter}
 use Rattle.runs.specs.Parse.{Element, element, Children, childless, children, Parse, child, one-char, pair, first-of, second-of, repeat, void, Parses, done, next, depth, eval}
-use Rattle.runs.specs.Machine.{Control, before, inside, after, most, State, Answer, took, refused, answered, run}
+use Rattle.runs.specs.Machine.{Control, before, inside, after, most, Configuration, Answer, took, refused, answered, run}
 
 -- a tag is its number, and none where the sheet has no tag of that name
 pub data Token : Type 0 where
@@ -110,22 +110,22 @@ passesAt g before = true
 passesAt g (inside o os) = blanksPass (contentOf g (o .production))
 passesAt g after = true
 
-abbrev pub unless-blank : Bool → State → Answer → Answer
+abbrev pub unless-blank : Bool → Configuration → Answer → Answer
 unless-blank true z a = took z
 unless-blank false z a = a
 
-abbrev pub stepToken : Sheet → State → Token → Answer
+abbrev pub stepToken : Sheet → Configuration → Token → Answer
 stepToken s z k = unless-blank (isBlank k && passesAt (grammar s) (z .control)) z (answered (run s z (eventsOfToken k)))
 
 -- as far as tokens are taken: the number of the first that is refused, the state before it, and the tokens from it on
 pub data TokenOutcome : Type 0 where
-  through : State → TokenOutcome
-  stops : ℕ → State → List Token → TokenOutcome
+  through : Configuration → TokenOutcome
+  stops : ℕ → Configuration → List Token → TokenOutcome
 
-abbrev pub onward-token : State → List Token → Answer → (State → TokenOutcome) → TokenOutcome
+abbrev pub onward-token : Configuration → List Token → Answer → (Configuration → TokenOutcome) → TokenOutcome
 onward-token z ts (took z′) f = f z′
 onward-token z ts (refused k) f = stops k z ts
 
-abbrev pub runTokens : Sheet → State → List Token → TokenOutcome
+abbrev pub runTokens : Sheet → Configuration → List Token → TokenOutcome
 runTokens s z [] = through z
 runTokens s z (k ∷ ts) = onward-token z (k ∷ ts) (stepToken s z k) (λ z′. runTokens s z′ ts)

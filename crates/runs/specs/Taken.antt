@@ -11,10 +11,10 @@ use Rattle.expressions.specs.FaultList.{KeepsT, KeepsS}
 use Rattle.sheet.specs.Sheet.{Sheet}
 use Rattle.expressions.specs.Grammar.{contentOf}
 use Rattle.runs.specs.Visits.{grammar, Env, fresh}
-use Rattle.runs.specs.Events.{Event, ends, Tags, openTags}
+use Rattle.runs.specs.Events.{Event, ends, OpenTags, openTags}
 use Rattle.runs.specs.Parse.{Element, yield, depth, eval}
 use Rattle.runs.specs.Acts.{Act, Store, fresh-store, acts}
-use Rattle.runs.specs.Machine.{State, after, most}
+use Rattle.runs.specs.Machine.{Configuration, after, most}
 use Rattle.runs.specs.Line.{line, Opened}
 
 -- a passed sheet keeps both rules
@@ -30,7 +30,7 @@ pub record ParsedTo (s : Sheet) (xs : List Event) (v : Env) : Type 0 where
   pub value : eval root s fresh ≡ some v
 
 -- the root is closed, and nothing is kept
-abbrev pub closed-with : Env → State
+abbrev pub closed-with : Env → Configuration
 closed-with v = record { control = after; store = record { kept = []; env = v } }
 
 -- the grammar allows these events from the start, with the acts that they ask for and the depth that they come to: there are none, a tree has
@@ -53,7 +53,7 @@ abbrev pub RootClosed : Sheet → List Event → Type 0
 RootClosed s xs = (t : Element (grammar s) (s .start-nonterminal)) × (yield t ≡ xs)
 
 -- an end tag that is not the open element's
-abbrev pub Innermost : Option ℕ → Tags → Type 0
+abbrev pub Innermost : Option ℕ → OpenTags → Type 0
 Innermost t [] = ⊥
 Innermost t (u ∷ us) = t ≡ u
 

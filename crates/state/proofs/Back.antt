@@ -1,4 +1,4 @@
--- A state's bytes read back as the state. Each part is shown to read back wherever it stands between other bytes (Back), so a list of parts
+-- A state's bytes read back as the state. Every part is shown to read back wherever it stands between other bytes (Back), so a list of parts
 -- does too, by its length (gathered-back).
 use mathlib.Core.Bool.{Bool, true, false, not}
 use mathlib.Core.Path.{_≡_, refl, sym, ap, ap₂, _∙_}
@@ -15,7 +15,7 @@ use Rattle.state.specs.Bounds.{mostSets, setWidth, frameWidth, countAt, 
 use Rattle.state.specs.declared.Saved.{Saved}
 use Rattle.state.specs.declared.Frame.{Frame}
 use Rattle.state.specs.declared.State.{State}
-use Rattle.state.specs.Meaning.{All, none, more}
+use Rattle.state.specs.Meaning.{Every, none, more}
 use Rattle.state.specs.Changes.{bareSaved, bareFrom, tidyFrame}
 use Rattle.state.specs.Bytes.{flag, numberBytes, number, eachBytes, savedBytes, frameBytes, usedBytes, bytesOf}
 use Rattle.layout.specs.Layout.{byteAt}
@@ -32,7 +32,7 @@ pub record Back {X : Type 0} (f : X → List ℕ) (g : List ℕ → ℕ → X) (
 longer : (pre xs : List ℕ) (at w : ℕ) → length pre ≡ at → length xs ≡ w → length (pre ++ xs) ≡ at + w
 longer pre xs at w p q = length-append pre xs ∙ (cc)
 
-gathered-back : {X : Type 0} (f : X → List ℕ) (g : List ℕ → ℕ → X) (w : ℕ) (l : List X) → All (Back f g w) l →
+gathered-back : {X : Type 0} (f : X → List ℕ) (g : List ℕ → ℕ → X) (w : ℕ) (l : List X) → Every (Back f g w) l →
     (pre post : List ℕ) (at n : ℕ) → length pre ≡ at → length l ≡ n → gathered (g (pre ++ (eachBytes f l ++ post))) w at n ≡ l
 unfolding gathered eachBytes
 gathered-back f g w [] a pre post at zero p q = refl
@@ -59,7 +59,7 @@ unfolding eachBytes
 joined-bytes [] = refl
 joined-bytes (b ∷ l) = ap (λ (r : List ℕ). b ∷ r) (joined-bytes l)
 
-each-byte : (l : List ℕ) → All (Back (λ (b : ℕ). b ∷ []) byteAt 1) l
+each-byte : (l : List ℕ) → Every (Back (λ (b : ℕ). b ∷ []) byteAt 1) l
 each-byte [] = none
 each-byte (b ∷ l) = more (record { wide = refl; same = λ pre post at p. byte-first pre (b ∷ post) at p }) (each-byte l)
 
@@ -93,11 +93,11 @@ saved-back k h =
           rw (e, v, o);
     }
 
-each-saved : {l : List Saved} → All SizedSet l → All (Back savedBytes savedAt setWidth) l
+each-saved : {l : List Saved} → Every SizedSet l → Every (Back savedBytes savedAt setWidth) l
 each-saved none = none
 each-saved (more h a) = more (saved-back _ h) (each-saved a)
 
-joined-wide : {X : Type 0} (f : X → List ℕ) (g : List ℕ → ℕ → X) (w : ℕ) (l : List X) → All (Back f g w) l → length (eachBytes f l) ≡ w * length l
+joined-wide : {X : Type 0} (f : X → List ℕ) (g : List ℕ → ℕ → X) (w : ℕ) (l : List X) → Every (Back f g w) l → length (eachBytes f l) ≡ w * length l
 unfolding eachBytes
 joined-wide f g w [] a = omega arith
 joined-wide f g w (x ∷ l) (more b a) = length-append (f x) (eachBytes f l) ∙ rw (b .wide, joined-wide f g w l a, mul-suc) (omega arith)
@@ -125,7 +125,7 @@ frame-back f h =
     }
 
 -- of a list the first n alone were written: they are read back, the others are bare
-some-back : {X : Type 0} (bare : X) (f : X → List ℕ) (g : List ℕ → ℕ → X) (w n : ℕ) (l : List X) → All (Back f g w) l →
+some-back : {X : Type 0} (bare : X) (f : X → List ℕ) (g : List ℕ → ℕ → X) (w n : ℕ) (l : List X) → Every (Back f g w) l →
     (pre post : List ℕ) (at m : ℕ) → length pre ≡ at → length l ≡ m → bareFrom bare n (gathered (g (pre ++ (eachBytes f (take n l) ++ post))) w at m) ≡ bareFrom bare n l
 unfolding gathered eachBytes bareFrom
 some-back bare f g w n [] a pre post at zero p q = refl
@@ -164,7 +164,7 @@ used-back f h pre post at p =
     (h .saved)) in
     rw (q, r, o, k)
 
-all-take : {X : Type 0} {P : X → Type 0} (n : ℕ) (l : List X) → All P l → All P (take n l)
+all-take : {X : Type 0} {P : X → Type 0} (n : ℕ) (l : List X) → Every P l → Every P (take n l)
 all-take zero l a = none
 all-take (suc n) [] a = none
 all-take (suc n) (x ∷ l) (more p a) = more p (all-take n l a)
@@ -176,7 +176,7 @@ used-wide f h =
     let w : length (eachBytes savedBytes l) ≡ setWidth * length l = joined-wide savedBytes savedAt setWidth l (all-take (f .«open») (f .saved) (each-saved (h .sets))) in
     omega (arith, w, length-take (f .«open») (f .saved), h .saved)
 
-each-frame : {l : List Frame} → All SizedFrame l → All (Back frameBytes frameAt frameWidth) l
+each-frame : {l : List Frame} → Every SizedFrame l → Every (Back frameBytes frameAt frameWidth) l
 each-frame none = none
 each-frame (more h a) = more (frame-back _ h) (each-frame a)
 

@@ -6,7 +6,7 @@ use native.Mathlib.Omega.{arith}
 use native.Mathlib.Numerals.{sub-one, add-one}
 use lib.Seq.{set-out, take-suc, take-suc-set, take-all}
 use lib.ListN.{length, length-map, length-set, getD, set, take, List·getD-eq-default}
-use Rattle.state.specs.Meaning.{All, none, more}
+use Rattle.state.specs.Meaning.{Every, none, more}
 use Rattle.state.specs.Changes.{lastOf, putLast}
 
 -- how long a field that is an array of structs is: its relation speaks of the mapped list
@@ -65,20 +65,20 @@ pub first-push : {X : Type 0} (l : List X) (n : ℕ) (x : X) → n < length l �
 first-push l n x h = reverse-snoc (take (n + 1) (set l n x)) (take n l) x (take-push l n x h)
 
 -- what holds of each of a list, and of one more
-pub all-snoc : {X : Type 0} {P : X → Type 0} {l : List X} {x : X} → All P l → P x → All P (l ++ (x ∷ []))
+pub all-snoc : {X : Type 0} {P : X → Type 0} {l : List X} {x : X} → Every P l → P x → Every P (l ++ (x ∷ []))
 all-snoc none p = more p none
 all-snoc (more q a) p = more q (all-snoc a p)
 
-pub all-more : {X : Type 0} (P : X → Type 0) (l : List X) (i : ℕ) (z : X) → i < length l → All P (take i l) → P (getD l i z) → All P (take (i + 1) l)
+pub all-more : {X : Type 0} (P : X → Type 0) (l : List X) (i : ℕ) (z : X) → i < length l → Every P (take i l) → P (getD l i z) → Every P (take (i + 1) l)
 all-more P l i z h a p = rw (add-one, take-suc l i z h) (all-snoc a p)
 
-pub all-whole : {X : Type 0} (P : X → Type 0) (l : List X) (n i : ℕ) → length l ≡ n → i ≡ n → All P (take i l) → All P l
-all-whole P l n i e g a = let h : take i l ≡ l = take-all i l (omega arith) in subst (All P) h a
+pub all-whole : {X : Type 0} (P : X → Type 0) (l : List X) (n i : ℕ) → length l ≡ n → i ≡ n → Every P (take i l) → Every P l
+all-whole P l n i e g a = let h : take i l ≡ l = take-all i l (omega arith) in subst (Every P) h a
 
-pub all-front : {X : Type 0} {P : X → Type 0} (l : List X) (x : X) → All P (l ++ (x ∷ [])) → All P l
+pub all-front : {X : Type 0} {P : X → Type 0} (l : List X) (x : X) → Every P (l ++ (x ∷ [])) → Every P l
 all-front [] x a = none
 all-front (y ∷ l) x (more q a) = more q (all-front l x a)
 
-pub all-last : {X : Type 0} {P : X → Type 0} (l : List X) (x : X) → All P (l ++ (x ∷ [])) → P x
+pub all-last : {X : Type 0} {P : X → Type 0} (l : List X) (x : X) → Every P (l ++ (x ∷ [])) → P x
 all-last [] x (more q a) = q
 all-last (y ∷ l) x (more q a) = all-last l x a

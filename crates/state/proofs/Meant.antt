@@ -1,4 +1,4 @@
--- What each change of a state means: the change that the machine makes (runs, Acts and Machine). Each follows from one law on lists: the first
+-- What each change of a state means: the change that the machine makes (runs, Acts and Machine). Every follows from one law on lists: the first
 -- n with the last put apart, with another last, with one more, all turned round.
 use mathlib.Core.Bool.{Bool, true, false, cond}
 use mathlib.Core.Path.{_≡_, refl, ap, subst, _∙_}
@@ -10,17 +10,17 @@ use borrow.Author.Tests.{lt-ltb, ltb-true, ne-eqb}
 use lib.Dec.{eqb, ltb}
 use lib.ListN.{length, take, set, length-set, length-replicate}
 use Rattle.runs.specs.Acts.{without-element, without-node, innermost, pushed as pushed-on}
-use Rattle.runs.specs.Machine.{Open, inside, most, State as Run, outer, fresh-state, at-start, at-place}
+use Rattle.runs.specs.Machine.{Open, inside, most, Configuration as Run, outer, fresh-configuration, at-start, at-place}
 use Rattle.state.specs.declared.Saved.{Saved}
 use Rattle.state.specs.declared.Frame.{Frame}
 use Rattle.state.specs.declared.State.{State}
 use Rattle.state.specs.Bounds.{mostSets}
 use Rattle.state.specs.Changes.{bareSaved, bareFrame, freshState, started, keeping, lastSet, withoutLast, atPlace}
 use Rattle.state.specs.Changes.{pushed, popped, topOf, withTop, saving, restored, placed, withEnv, closedWith}
-use Rattle.state.specs.Meaning.{keptOf, setsOf, openOf, elements, standing, opensOf, meaningOf, All, none, Fits, Shaped}
+use Rattle.state.specs.Meaning.{keptOf, setsOf, openOf, elements, standing, opensOf, meaningOf, Every, none, Fits, Shaped}
 use Rattle.state.proofs.Laws.{take-last, take-put, take-push, first-last, first-put, first-push, length-put, all-snoc, all-front, all-last}
 
-pub meaning-fresh : meaningOf freshState ≡ fresh-state
+pub meaning-fresh : meaningOf freshState ≡ fresh-configuration
 unfolding meaningOf freshState
 meaning-fresh = refl
 
@@ -91,11 +91,11 @@ meaning-popped s h o os e =
 -- the innermost element fits, and with one that fits in its place so does the state
 pub fits-top : (s : State) → Shaped s → 0 < s .depth → Fits (topOf s)
 fits-top s h p =
-    all-last (take (s .depth - 1) (s .frames)) (topOf s) (subst (All Fits) (take-last bareFrame (s .frames) (s .depth) p (omega arith)) (h .fits))
+    all-last (take (s .depth - 1) (s .frames)) (topOf s) (subst (Every Fits) (take-last bareFrame (s .frames) (s .depth) p (omega arith)) (h .fits))
 
-fits-below : (s : State) → Shaped s → 0 < s .depth → All Fits (take (s .depth - 1) (s .frames))
+fits-below : (s : State) → Shaped s → 0 < s .depth → Every Fits (take (s .depth - 1) (s .frames))
 fits-below s h p =
-    all-front (take (s .depth - 1) (s .frames)) (topOf s) (subst (All Fits) (take-last bareFrame (s .frames) (s .depth) p (omega arith)) (h .fits))
+    all-front (take (s .depth - 1) (s .frames)) (topOf s) (subst (Every Fits) (take-last bareFrame (s .frames) (s .depth) p (omega arith)) (h .fits))
 
 pub shaped-put : (s : State) (f : Frame) → Shaped s → 0 < s .depth → Fits f → Shaped (withTop s f)
 shaped-put s f h p g =

@@ -10,7 +10,7 @@ use denote.Struct.Field.{Field}
 use Rattle.runs.specs.Visits.{attributes}
 use Rattle.runs.specs.Machine.{most}
 use Rattle.state.specs.Bounds.{mostSets}
-use Rattle.state.specs.Meaning.{All, none, more}
+use Rattle.state.specs.Meaning.{Every, none, more}
 use Rattle.state.specs.Bytes.{SizedSet, SizedFrame, Sized}
 use Rattle.state.specs.declared.Saved.{Saved}
 use Rattle.state.specs.declared.Frame.{Frame}
@@ -21,7 +21,7 @@ use Rattle.state.proofs.Frame.{the-field as frame-field}
 use Rattle.state.proofs.State.{the-row as state-row}
 
 all-held : (F : Field) (P : F .Value → Type 0) → ((x : F .Value) (vs : List Val) → Is (F .row) (F .into x) vs → P x) → (l : List (F .Value)) (us : List Val) →
-    shadow (each (F .row .Denot) (F .row .own) (map (F .into) l) us) → All P l
+    shadow (each (F .row .Denot) (F .row .own) (map (F .into) l) us) → Every P l
 all-held F P h [] us r = none
 all-held F P h (x ∷ l) [] r = absurd r
 all-held F P h (x ∷ l) (u ∷ us) r = more (h x (u ∷ []) (r .0)) (all-held F P h l us (r .1))

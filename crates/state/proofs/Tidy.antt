@@ -11,13 +11,13 @@ use lib.ListN.{length, take, getD, set, replicate, length-map, length-reverse, l
 use lib.Seq.{length-take-le}
 use borrow.Author.Tests.{ne-eqb}
 use Rattle.runs.specs.Visits.{Saved as Kept}
-use Rattle.runs.specs.Machine.{Open, most, State as Run, fresh-state}
+use Rattle.runs.specs.Machine.{Open, most, Configuration as Run, fresh-configuration}
 use Rattle.state.specs.declared.Saved.{Saved}
 use Rattle.state.specs.declared.Frame.{Frame}
 use Rattle.state.specs.declared.State.{State}
 use Rattle.state.specs.Bounds.{mostSets}
 use Rattle.state.specs.Changes.{bareSaved, bareFrame, notClosed, freshState, putLast, topOf, withTop, closedWith, bareFrom, tidyFrame, tidied}
-use Rattle.state.specs.Meaning.{keptOf, setsOf, openOf, elements, standing, opensOf, meaningOf, All, none, more, Fits, Shaped}
+use Rattle.state.specs.Meaning.{keptOf, setsOf, openOf, elements, standing, opensOf, meaningOf, Every, none, more, Fits, Shaped}
 use Rattle.state.specs.Bytes.{SizedSet, SizedFrame, Sized}
 use Rattle.state.specs.Canonical.{savedFor, frameFor, framesFor, rootClosed, stateFor}
 use Rattle.state.proofs.Laws.{first-last}
@@ -84,7 +84,7 @@ map-aux : {X Y : Type 0} (f : X → Y) (l r : List X) → map f (reverseAux l r)
 map-aux f [] r = refl
 map-aux f (x ∷ l) r = map-aux f l (x ∷ r)
 
-all-aux : {X : Type 0} {P : X → Type 0} (l r : List X) → All P l → All P r → All P (reverseAux l r)
+all-aux : {X : Type 0} {P : X → Type 0} (l r : List X) → Every P l → Every P r → Every P (reverseAux l r)
 all-aux [] r a b = b
 all-aux (x ∷ l) r (more p a) b = all-aux l (x ∷ r) a (more p b)
 
@@ -104,7 +104,7 @@ frame-for f h =
     bare-is bareSaved (f .«open») (f .saved) ∙ ap (λ (m : ℕ). l ++ replicate (m - f .«open») bareSaved) (h .sets) in
     rw (b, s, n)
 
-frames-for : (fs : List Frame) → All Fits fs → framesFor (map openOf fs) (map setsOf fs) ≡ map tidyFrame fs
+frames-for : (fs : List Frame) → Every Fits fs → framesFor (map openOf fs) (map setsOf fs) ≡ map tidyFrame fs
 frames-for [] a = refl
 frames-for (f ∷ fs) (more h a) = ap₂ (λ (x : Frame) (xs : List Frame). x ∷ xs) (frame-for f h) (frames-for fs a)
 
@@ -120,7 +120,7 @@ sets-tidied (f ∷ fs) =
 pub fits-tidy : (f : Frame) → Fits f → Fits (tidyFrame f)
 fits-tidy f h = record { room = h .room; sets = length-bare bareSaved (f .«open») (f .saved) ∙ h .sets }
 
-fits-tidied : {fs : List Frame} → All Fits fs → All Fits (map tidyFrame fs)
+fits-tidied : {fs : List Frame} → Every Fits fs → Every Fits (map tidyFrame fs)
 fits-tidied none = none
 fits-tidied (more {x = f} h a) = more (fits-tidy f h) (fits-tidied a)
 
@@ -198,7 +198,7 @@ module _ (z : State) (h : Shaped z) where
       rw (o, n, r, g, v, b)
 
 -- a fresh state is one that is handed back, and a number that closes changes nothing else
-pub fresh-for : freshState ≡ stateFor fresh-state notClosed
+pub fresh-for : freshState ≡ stateFor fresh-configuration notClosed
 unfolding freshState stateFor
 fresh-for = refl
 
@@ -207,7 +207,7 @@ unfolding stateFor
 closing-for m c n = refl
 
 -- a fresh state's arrays are as long as their types say
-all-alike : {X : Type 0} {P : X → Type 0} (n : ℕ) (x : X) → P x → All P (replicate n x)
+all-alike : {X : Type 0} {P : X → Type 0} (n : ℕ) (x : X) → P x → Every P (replicate n x)
 all-alike zero x p = none
 all-alike (suc n) x p = more p (all-alike n x p)
 

@@ -14,13 +14,13 @@ use Rattle.state.specs.Bounds.{mostSets, setWidth, frameWidth, headWidth
 use Rattle.layout.specs.Layout.{byteAt}
 use Rattle.state.specs.Bytes.{flag, numberBytes, eachBytes, frameBytes, bytesOf, bytesAt, gathered, savedAt, frameAt, stateFrom, SizedSet, SizedFrame}
 use Rattle.state.specs.Changes.{freshState}
-use Rattle.state.specs.Meaning.{All, none, more}
+use Rattle.state.specs.Meaning.{Every, none, more}
 use Rattle.state.proofs.Written.{number-wide}
 use Rattle.state.proofs.Gathered.{length-gathered}
 use Rattle.state.proofs.Back.{frame-back, state-back}
 use Rattle.state.proofs.Tidy.{fresh-sized}
 
-pub all-read : {X : Type 0} (P : X → Type 0) (f : ℕ → X) (w : ℕ) → ((at : ℕ) → P (f at)) → (at n : ℕ) → All P (gathered f w at n)
+pub all-read : {X : Type 0} (P : X → Type 0) (f : ℕ → X) (w : ℕ) → ((at : ℕ) → P (f at)) → (at n : ℕ) → Every P (gathered f w at n)
 unfolding gathered
 all-read P f w h at zero = none
 all-read P f w h at (suc n) = more (h at) (all-read P f w h (at + w) n)
@@ -33,7 +33,7 @@ pub frame-read : (b : List ℕ) (at : ℕ) → SizedFrame (frameAt b at)
 unfolding frameAt
 frame-read b at = record { saved = length-gathered (savedAt b) setWidth (at + 3) mostSets; sets = all-read SizedSet (savedAt b) setWidth (set-read b) (at + 3) mostSets }
 
-frames-wide : (l : List Frame) → All SizedFrame l → length (eachBytes frameBytes l) ≡ frameWidth * length l
+frames-wide : (l : List Frame) → Every SizedFrame l → length (eachBytes frameBytes l) ≡ frameWidth * length l
 unfolding eachBytes
 frames-wide [] a = omega arith
 frames-wide (f ∷ l) (more h a) =

@@ -19,7 +19,7 @@ use mathlib.Core.List.{List, [], _∷_, _++_}
 use Prim.Native.Nat.{ℕ, zero, suc, _+_, _*_, _/_, _%_, _^_, _<_}
 use lib.Dec.{eqb}
 use lib.ListN.{length, getD, take}
-use Rattle.state.specs.Meaning.{All}
+use Rattle.state.specs.Meaning.{Every}
 use Rattle.state.specs.Changes.{tidyFrame}
 use Rattle.lent.specs.Put.{put}
 use Rattle.layout.specs.Layout.{byteAt}
@@ -118,11 +118,11 @@ pub record SizedSet (k : Saved) : Type 0 where
 
 pub record SizedFrame (f : Frame) : Type 0 where
   pub saved : length (f .saved) ≡ mostSets
-  pub sets : All SizedSet (f .saved)
+  pub sets : Every SizedSet (f .saved)
 
 pub record Sized (s : State) : Type 0 where
   pub values : length (s .values) ≡ attributes
   pub count : s .count < 2 ^ 64
   pub depth : s .depth < 2 ^ 64
   pub frames : length (s .frames) ≡ most
-  pub each : All SizedFrame (s .frames)
+  pub each : Every SizedFrame (s .frames)

@@ -5,7 +5,7 @@ use mathlib.Core.List.{List, [], _∷_, _++_, map, reverse}
 use Prim.Native.Nat.{ℕ, _-_}
 use lib.ListN.{length, replicate}
 use Rattle.runs.specs.Visits.{Saved as Kept}
-use Rattle.runs.specs.Machine.{Open, Control, before, inside, after, most, State as Run}
+use Rattle.runs.specs.Machine.{Open, Control, before, inside, after, most, Configuration as Run}
 use Rattle.state.specs.declared.Saved.{Saved}
 use Rattle.state.specs.declared.Frame.{Frame}
 use Rattle.state.specs.declared.State.{State}

@@ -6,7 +6,7 @@ use mathlib.Core.Path.{_≡_}
 use Prim.Native.Nat.{_≤_}
 use lib.ListN.{length, take}
 use Rattle.runs.specs.Visits.{Env, Saved as Kept}
-use Rattle.runs.specs.Machine.{Open, Control, before, inside, after, most, State as Run}
+use Rattle.runs.specs.Machine.{Open, Control, before, inside, after, most, Configuration as Run}
 use Rattle.state.specs.declared.Saved.{Saved}
 use Rattle.state.specs.declared.Frame.{Frame}
 use Rattle.state.specs.declared.State.{State}
@@ -48,9 +48,9 @@ meaningOf s =
       store = record { kept = map setsOf (elements s); env = envOf s };
     }
 
-pub data All {X : Type 0} (P : X → Type 0) : List X → Type 0 where
-  none : All P []
-  more : {x : X} {xs : List X} → P x → All P xs → All P (x ∷ xs)
+pub data Every {X : Type 0} (P : X → Type 0) : List X → Type 0 where
+  none : Every P []
+  more : {x : X} {xs : List X} → P x → Every P xs → Every P (x ∷ xs)
 
 -- a meaning makes sense where at most 32 elements are open, each with no more sets in use than its frame has room for
 pub record Fits (f : Frame) : Type 0 where
@@ -60,4 +60,4 @@ pub record Fits (f : Frame) : Type 0 where
 pub record Shaped (s : State) : Type 0 where
   pub deep : s .depth ≤ most
   pub frames : length (s .frames) ≡ most
-  pub fits : All Fits (take (s .depth) (s .frames))
+  pub fits : Every Fits (take (s .depth) (s .frames))

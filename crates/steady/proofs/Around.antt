@@ -13,7 +13,7 @@ use Rattle.runs.specs.Visits.{grammar, Env, Saved, saved, opens, closes}
 use Rattle.runs.specs.Events.{letter}
 use Rattle.runs.specs.Acts.{bracket-act, bracket-acts, Store, pushed, act, acts, innermost, without-node}
 use Rattle.runs.specs.Way.{Way, atomWay}
-use Rattle.runs.specs.Machine.{Open, Control, inside, at-place, State, Answer, took, acted, turned, char-by, step}
+use Rattle.runs.specs.Machine.{Open, Control, inside, at-place, Configuration, Answer, took, acted, turned, char-by, step}
 use Rattle.steady.proofs.Steadies.{reading, then-reads}
 
 abbrev Keeps : List (List Saved) → Store → Type 0
@@ -54,14 +54,14 @@ module _ (a : Sheet) (q : ℕ) (kss : List (List Saved)) where
       by on (some v) g h = on v (bracket-keeps b m v k g) h
 
 -- what stands around the innermost element stays
-pub record AroundStays (os : List Open) (kss : List (List Saved)) (y : State) : Type 0 where
+pub record AroundStays (os : List Open) (kss : List (List Saved)) (y : Configuration) : Type 0 where
   pub innermost-then : Open
   pub kept-then : List Saved
   pub control : y .control ≡ inside innermost-then os
   pub kept : y .store .kept ≡ kept-then ∷ kss
 
 module _ (a : Sheet) (c : ℕ) (o : Open) (os : List Open) (ks : List Saved) (kss : List (List Saved)) where
-  pub around-stays : (m y : State) → m .control ≡ inside o os → m .store .kept ≡ ks ∷ kss → step a m (letter c) ≡ took y → AroundStays os kss y
+  pub around-stays : (m y : Configuration) → m .control ≡ inside o os → m .store .kept ≡ ks ∷ kss → step a m (letter c) ≡ took y → AroundStays os kss y
   around-stays m y e k f =
       by (atomWay (tagsOf (grammar a)) (contentOf (grammar a) (o .production)) (o .place) anyCharacter)
       (sym (ap (λ (z : Control). step a (record { control = z; store = m .store }) (letter c)) e) ∙ f)
@@ -75,8 +75,8 @@ module _ (a : Sheet) (c : ℕ) (o : Open) (os : List Open) (ks : List Saved) (ks
           record {
             innermost-then = at-place o (w .place);
             kept-then = l .0;
-            control = ap (λ (z : State). z .control) (sym q);
-            kept = ap (λ (z : State). z .store .kept) (sym q) ∙ l .1;
+            control = ap (λ (z : Configuration). z .control) (sym q);
+            kept = ap (λ (z : Configuration). z .store .kept) (sym q) ∙ l .1;
           }
 
       by : (w : Option Way) → turned a (m .store) (char-by o os c w) ≡ took y → AroundStays os kss y

@@ -17,7 +17,7 @@ use Rattle.runs.specs.Visits.{grammar, whileOn, echoed, Env}
 use Rattle.runs.specs.Events.{letter}
 use Rattle.runs.specs.Acts.{Act, letter-read, bracket-acts, Store, acts}
 use Rattle.runs.specs.Way.{Way, atomWay}
-use Rattle.runs.specs.Machine.{Open, Control, before, inside, after, at-place, State, Answer, took, refused, acted, turned, char-by, step, onward, finished, answered, run}
+use Rattle.runs.specs.Machine.{Open, Control, before, inside, after, at-place, Configuration, Answer, took, refused, acted, turned, char-by, step, onward, finished, answered, run}
 use Rattle.runs.specs.Spells.{literal, passesAt, unless-blank, stepToken}
 use Rattle.runs.proofs.Line.{acts-append}
 use Rattle.calls.specs.Limits.{silent, outputOf}
@@ -29,7 +29,7 @@ and-false true = refl
 and-false false = refl
 
 -- one event alone
-one-alone : (a : Sheet) (m : State) (c : ℕ) → answered (run a m (letter c ∷ [])) ≡ step a m (letter c)
+one-alone : (a : Sheet) (m : Configuration) (c : ℕ) → answered (run a m (letter c ∷ [])) ≡ step a m (letter c)
 one-alone a m c = by (step a m (letter c))
   where
     by : (x : Answer) → answered (onward m (letter c ∷ []) x (λ z. finished z)) ≡ x
@@ -37,7 +37,7 @@ one-alone a m c = by (step a m (letter c))
     by (refused n) = refl
 
 -- a character where white space is an event like any other
-as-event : (a : Sheet) (m : State) (c : ℕ) → passesAt (grammar a) (m .control) ≡ false → stepToken a m (literal c) ≡ step a m (letter c)
+as-event : (a : Sheet) (m : Configuration) (c : ℕ) → passesAt (grammar a) (m .control) ≡ false → stepToken a m (literal c) ≡ step a m (letter c)
 as-event a m c p = ap (λ (b : Bool). unless-blank (blank c && b) m (answered (run a m (letter c ∷ [])))) p ∙ ap (λ (b : Bool). unless-blank b m (answered (run a m (letter c ∷ [])))) (and-false (blank c)) ∙ one-alone a m c
 
 -- the character c after the acts that came to m
@@ -96,7 +96,7 @@ leaves-anywhere a bs k m x silent-then e hk hv he hc hw n =
         }
 
 -- the character c₀ left the run m as it is, but for k visits, and nothing but the character was written
-pub record Unmoved (a : Sheet) (c₀ k : ℕ) (m y : State) : Type 0 where
+pub record Unmoved (a : Sheet) (c₀ k : ℕ) (m y : Configuration) : Type 0 where
   pub stepped : step a m (letter c₀) ≡ took y
   pub control : y .control ≡ m .control
   pub kept : y .store .kept ≡ m .store .kept
@@ -109,8 +109,8 @@ pub record Unmoved (a : Sheet) (c₀ k : ℕ) (m y : State) : Type 0 where
 abbrev way-acts : Open → Way → List Act
 way-acts o w = bracket-acts (o .production) (w .string)
 
-module _ (a : Sheet) (c₀ k : ℕ) (o : Open) (os : List Open) (m : Store) (y : State) (silent-then : m .env .out ≡ []) where
-  abbrev here : State
+module _ (a : Sheet) (c₀ k : ℕ) (o : Open) (os : List Open) (m : Store) (y : Configuration) (silent-then : m .env .out ≡ []) where
+  abbrev here : Configuration
   here = record { control = inside o os; store = m }
 
   abbrev way : Option Way
@@ -131,14 +131,14 @@ module _ (a : Sheet) (c₀ k : ℕ) (o : Open) (os : List Open) (m : Store) (y :
       after-brackets w f none g e = absurd (let q : _≡_ {A = ℕ} 0 1 = cc in omega arith)
       after-brackets w f (some x) g e =
           let q : record { control = inside (at-place o (w .place)) os; store = reading c₀ x } ≡ y = cc in
-          let echoes : x .env .echo ≡ m .env .echo = ap (λ (z : State). z .store .env .echo) q ∙ u .echo in
+          let echoes : x .env .echo ≡ m .env .echo = ap (λ (z : Configuration). z .store .env .echo) q ∙ u .echo in
           record {
             by-way = w;
             found = f;
-            leaves = leaves-anywhere a (way-acts o w) k m x silent-then g (ap (λ (z : State). z .store .kept) q ∙ u .kept) (ap (λ (z : State). z .store .env .values) q ∙ u .values)
-                echoes (ap (λ (z : State). z .store .env .count) q ∙ u .count)
-                (none-written (x .env .out) (whileOn (x .env .echo) (character c₀)) (ap (λ (z : State). length (outputOf z)) q ∙ u .writes ∙ ap (λ (b : Bool). length (shown b c₀)) (sym echoes)));
-            stays = ap (λ (z : State). z .control) q ∙ u .control;
+            leaves = leaves-anywhere a (way-acts o w) k m x silent-then g (ap (λ (z : Configuration). z .store .kept) q ∙ u .kept) (ap (λ (z : Configuration). z .store .env .values) q ∙ u .values)
+                echoes (ap (λ (z : Configuration). z .store .env .count) q ∙ u .count)
+                (none-written (x .env .out) (whileOn (x .env .echo) (character c₀)) (ap (λ (z : Configuration). length (outputOf z)) q ∙ u .writes ∙ ap (λ (b : Bool). length (shown b c₀)) (sym echoes)));
+            stays = ap (λ (z : Configuration). z .control) q ∙ u .control;
           }
 
       by : (w : Option Way) → way ≡ w → turned a m (char-by o os c₀ w) ≡ took y → Leads
@@ -150,7 +150,7 @@ module _ (a : Sheet) (c₀ k : ℕ) (o : Open) (os : List Open) (m : Store) (y :
   takes-any l p c n =
       let L = l .leaves n in
       let x : Store = L .after-acts in
-      let to : State = record { control = inside (at-place o (l .by-way .place)) os; store = reading c x } in
+      let to : Configuration = record { control = inside (at-place o (l .by-way .place)) os; store = reading c x } in
       record {
         reached = to;
         stepped = as-event a (counting here n) c p
@@ -160,7 +160,7 @@ module _ (a : Sheet) (c₀ k : ℕ) (o : Open) (os : List Open) (m : Store) (y :
         writes = render-append (x .env .out) (whileOn (x .env .echo) (character c)) ∙ ap (λ (z : List ℕ). z ++ render (whileOn (x .env .echo) (character c))) (L .writes) ∙ ap (λ (b : Bool). shown b c) (L .echo);
       }
 
-pub steady : (a : Sheet) (c₀ k : ℕ) (m y : State) → m .store .env .out ≡ [] → passesAt (grammar a) (m .control) ≡ false → Unmoved a c₀ k m y → Steady a (m .store .env .echo) k m
+pub steady : (a : Sheet) (c₀ k : ℕ) (m y : Configuration) → m .store .env .out ≡ [] → passesAt (grammar a) (m .control) ≡ false → Unmoved a c₀ k m y → Steady a (m .store .env .echo) k m
 steady a c₀ k m y silent-then p u = by (m .control) refl
   where
     by : (z : Control) → m .control ≡ z → Steady a (m .store .env .echo) k m
@@ -169,4 +169,4 @@ steady a c₀ k m y silent-then p u = by (m .control) refl
     by (inside o os) e =
         let s : m ≡ record { control = inside o os; store = m .store } = ap (λ (z : Control). record { control = z; store = m .store }) e in
         subst (Steady a (m .store .env .echo) k) (sym s)
-        (takes-any a c₀ k o os (m .store) y silent-then (leads a c₀ k o os (m .store) y silent-then (subst (λ (z : State). Unmoved a c₀ k z y) s u)) (sym (ap (passesAt (grammar a)) e) ∙ p))
+        (takes-any a c₀ k o os (m .store) y silent-then (leads a c₀ k o os (m .store) y silent-then (subst (λ (z : Configuration). Unmoved a c₀ k z y) s u)) (sym (ap (passesAt (grammar a)) e) ∙ p))

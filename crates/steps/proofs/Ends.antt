@@ -12,7 +12,7 @@ use lib.Dec.{ltb}
 use lib.ListN.{length, take}
 use Rattle.expressions.specs.Words.{Bracket}
 use Rattle.expressions.specs.Grammar.{contentOf}
-use Rattle.layout.specs.LaidOut.{Reads}
+use Rattle.layout.specs.LaidOut.{NumberRead}
 use Rattle.layout.specs.Records.{tagNumberOf}
 use Rattle.sheet.specs.Sheet.{Sheet, IsSheet}
 use Rattle.visits.specs.Written.{Pen}
@@ -26,7 +26,7 @@ use Rattle.runs.specs.Events.{ends}
 use Rattle.runs.specs.Nodes.{through-nodes}
 use Rattle.runs.specs.Acts.{Store, end-tag, bracket-acts, acts}
 use Rattle.runs.specs.Way.{endWay}
-use Rattle.runs.specs.Machine.{Open, before, inside, outer, same-tag, own-tag, end-by, State as Standing, acted, turned, step}
+use Rattle.runs.specs.Machine.{Open, before, inside, outer, same-tag, own-tag, end-by, Configuration as Standing, acted, turned, step}
 use Rattle.runs.proofs.Kept.{kept-string}
 use Rattle.fit.specs.RunFits.{RunFits}
 use Rattle.state.specs.declared.State.{State}
@@ -77,7 +77,7 @@ one-left a q α z p b d m h j ns t l e D =
     omega (arith, sets-are (b .state) (D .shaped) o, ap length y, k .2)
 
 -- its own end tag
-own-turn : {s : List ℕ} {a : Sheet} (i : IsSheet s a) {z : State} (h : Shaped z) (f : RunFits a (meaningOf z)) (o : 0 < z .depth) {t u : ℕ} → Reads 256 (tagNumberOf s (topOf z .production)) u → u ≡ t →
+own-turn : {s : List ℕ} {a : Sheet} (i : IsSheet s a) {z : State} (h : Shaped z) (f : RunFits a (meaningOf z)) (o : 0 < z .depth) {t u : ℕ} → NumberRead 256 (tagNumberOf s (topOf z .production)) u → u ≡ t →
     (v : Option (List Bracket)) → endWay (contentOf (grammar a) (topOf z .production)) (topOf z .place) ≡ v →
     step a (meaningOf z) (ends (tagIn t)) ≡ turned a (meaningOf z .store) (end-by (openOf (topOf z)) (inside-at z h o .around) v)
 own-turn {s} {a} i {z} h f o {t} {u} R own v e =
@@ -91,7 +91,7 @@ record Closes (a : Sheet) (z : State) (os : List Open) (t : ℕ) (p : Pen) (b : 
   comes : Comes (acts a (bracket-acts (topOf z .production) string) (meaningOf z .store)) (meaningOf z .control) z p b mid
   left : (m : Store) → acts a (bracket-acts (topOf z .production) string) (meaningOf z .store) ≡ some m → Done (meaningOf z .control) m z p b mid → 0 < topOf (b .state) .«open»
 
-closes : {s : List ℕ} {a : Sheet} (i : IsSheet s a) {z : State} (h : Shaped z) (f : RunFits a (meaningOf z)) (o : 0 < z .depth) {t u : ℕ} → Reads 256 (tagNumberOf s (topOf z .production)) u → u ≡ t →
+closes : {s : List ℕ} {a : Sheet} (i : IsSheet s a) {z : State} (h : Shaped z) (f : RunFits a (meaningOf z)) (o : 0 < z .depth) {t u : ℕ} → NumberRead 256 (tagNumberOf s (topOf z .production)) u → u ≡ t →
     {w : Line} → EndWayIs s (topOf z .production) (topOf z .place) w → w .found ≡ true → {p : Pen} {b : Acted} {mid : List ℕ} → BracketsAs s (topOf z .production) (take (w .length) (w .bytes)) z p b mid →
     Closes a z (inside-at z h o .around) t p b mid
 closes {s} {a} i {z} h f o R own {w} W there {p} {b} {mid} B =
@@ -110,7 +110,7 @@ module _ {s : List ℕ} {z : State} {p : Pen} {r : Stepped} {d : List ℕ} (t : 
   pub end-before : r ≡ refusedAt 22 z p → d ≡ p .lent → z .depth ≡ 0 → z .rooted ≡ false → SteppedAs s (ends (tagIn t)) z p r d
   end-before e k o b = refusal 22 e k (λ a i h f. at-step a (meaningOf z) before (no-root z o b) (ends (tagIn t)))
 
-  module _ (o : 0 < z .depth) {u : ℕ} (R : Reads 256 (tagNumberOf s (topOf z .production)) u) where
+  module _ (o : 0 < z .depth) {u : ℕ} (R : NumberRead 256 (tagNumberOf s (topOf z .production)) u) where
     pub end-other : r ≡ refusedAt 22 z p → d ≡ p .lent → (u ≡ t → ⊥) → SteppedAs s (ends (tagIn t)) z p r d
     end-other e k n =
         refusal 22 e k (λ a i h f.

@@ -12,7 +12,7 @@ use Rattle.ways.specs.Held.{codes}
 use Rattle.runs.specs.Acts.{Store, bracket-acts, acts}
 use Rattle.runs.specs.Way.{Way as Found, atomWay}
 use Rattle.runs.specs.Visits.{grammar}
-use Rattle.runs.specs.Machine.{Open, inside, at-place, State as Standing}
+use Rattle.runs.specs.Machine.{Open, inside, at-place, Configuration as Standing}
 use Rattle.fit.specs.RunFits.{RunFits}
 use Rattle.state.specs.declared.State.{State}
 use Rattle.state.specs.Changes.{topOf, placed}

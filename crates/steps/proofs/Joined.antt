@@ -12,7 +12,7 @@ use Rattle.visits.specs.Written.{Pen}
 use Rattle.runs.specs.Options.{bind}
 use Rattle.runs.specs.Acts.{Act, Store, act, acts, store-behind}
 use Rattle.runs.specs.Events.{Event}
-use Rattle.runs.specs.Machine.{Control, State as Standing, Answer, took, refused, acted, step}
+use Rattle.runs.specs.Machine.{Control, Configuration as Standing, Answer, took, refused, acted, step}
 use Rattle.runs.proofs.Line.{acts-append}
 use Rattle.runs.proofs.Frame.{acts-frame}
 use Rattle.calls.specs.Limits.{silent}

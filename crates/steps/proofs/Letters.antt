@@ -17,7 +17,7 @@ use Rattle.ways.specs.Held.{WayIn as Way}
 use Rattle.runs.specs.Events.{letter}
 use Rattle.runs.specs.Acts.{letter-read, bracket-acts, act, acts}
 use Rattle.runs.specs.Way.{Way as Found}
-use Rattle.runs.specs.Machine.{Control, before, inside, at-place, char-by, State as Standing, acted, turned, step}
+use Rattle.runs.specs.Machine.{Control, before, inside, at-place, char-by, Configuration as Standing, acted, turned, step}
 use Rattle.state.specs.declared.State.{State}
 use Rattle.state.specs.Changes.{topOf}
 use Rattle.state.specs.Meaning.{openOf, meaningOf}

@@ -9,7 +9,7 @@ use Rattle.tokens.specs.declared.Event.{Event}
 use Rattle.tokens.specs.declared.Event.the-variants.{Start, End, Empty, Character}
 use Rattle.sheet.specs.Sheet.{Sheet, IsSheet}
 use Rattle.runs.specs.Fits.{SheetFits, EventsFit}
-use Rattle.runs.specs.Machine.{State as Standing, took, answered, run}
+use Rattle.runs.specs.Machine.{Configuration as Standing, took, answered, run}
 use Rattle.runs.specs.Spells.{Token, eventsOfToken, isBlank, passesAt, unless-blank, stepToken}
 use Rattle.runs.specs.Visits.{grammar}
 use Rattle.runs.proofs.Moves.{run-through}

@@ -23,7 +23,7 @@ use Rattle.runs.specs.Visits.{grammar}
 use Rattle.runs.specs.Events.{Event, starts}
 use Rattle.runs.specs.Acts.{start-tag, bracket-acts, act}
 use Rattle.runs.specs.Way.{Way as Found}
-use Rattle.runs.specs.Machine.{Open, Control, before, inside, after, at-start, at-place, most, Turn, opening-up, start-at, start-by, root-by, State as Standing, Answer, acted, turned, step}
+use Rattle.runs.specs.Machine.{Open, Control, before, inside, after, at-start, at-place, most, Turn, opening-up, start-at, start-by, root-by, Configuration as Standing, Answer, acted, turned, step}
 use Rattle.lookups.specs.Found.{ProductionFound}
 use Rattle.state.specs.declared.State.{State}
 use Rattle.state.specs.Changes.{topOf}

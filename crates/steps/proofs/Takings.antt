@@ -18,7 +18,7 @@ use Rattle.sheet.specs.Sheet.{Sheet, IsSheet}
 use Rattle.visits.specs.Written.{Pen}
 use Rattle.runs.specs.Visits.{mostVisits}
 use Rattle.runs.specs.Events.{Event}
-use Rattle.runs.specs.Machine.{State as Standing, Answer, took, refused, step}
+use Rattle.runs.specs.Machine.{Configuration as Standing, Answer, took, refused, step}
 use Rattle.runs.specs.Spells.{stepToken}
 use Rattle.calls.specs.Limits.{Taking, taken, refuses, no-room, limited, within, oneToken, outputOf}
 use Rattle.calls.specs.Names.{tokenOf}

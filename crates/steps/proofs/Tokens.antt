@@ -18,7 +18,7 @@ use Rattle.visits.specs.Written.{Pen}
 use Rattle.runs.specs.Visits.{grammar}
 use Rattle.runs.specs.Events.{Event, starts, ends, letter}
 use Rattle.runs.specs.Fits.{EventsFit}
-use Rattle.runs.specs.Machine.{before, after, State as Standing, Answer, took, refused, step, finished, onward, answered, run}
+use Rattle.runs.specs.Machine.{before, after, Configuration as Standing, Answer, took, refused, step, finished, onward, answered, run}
 use Rattle.runs.specs.Spells.{empty-token, passesAt, unless-blank, stepToken}
 use Rattle.runs.proofs.SheetFits.{sheet-fits}
 use Rattle.sheet.specs.Tags.{TagAt}

@@ -15,7 +15,7 @@ use Rattle.expressions.proofs.Rule.{Rest}
 use Rattle.expressions.specs.Grammar.{Production, Nth, Next, tag, tagsOf, contentOf, canBe}
 use Rattle.expressions.specs.FaultList.{KeepsS}
 use Rattle.layout.specs.Layout.{productionCount}
-use Rattle.layout.specs.LaidOut.{Reads, LaidOut}
+use Rattle.layout.specs.LaidOut.{NumberRead, LaidOut}
 use Rattle.layout.specs.declared.Layout.{Layout}
 use Rattle.layout.specs.Records.{nonterminalOf, tagNumberOf, nodeCountOf}
 use Rattle.trees.specs.declared.Symbol.{Symbol}
@@ -180,8 +180,8 @@ module _ (s : List ℕ) (z : State) {f : Frame} (e : f ≡ topOf z) where
   pub top-end : {w : Line} → EndWayIs s (f .production) (f .place) w → EndWayIs s (topOf z .production) (topOf z .place) w
   top-end {w} h = subst (λ (k : Frame). EndWayIs s (k .production) (k .place) w) e h
 
-  pub top-reads : {u : ℕ} → Reads 256 (tagNumberOf s (f .production)) u → Reads 256 (tagNumberOf s (topOf z .production)) u
-  top-reads {u} h = subst (λ (k : Frame). Reads 256 (tagNumberOf s (k .production)) u) e h
+  pub top-reads : {u : ℕ} → NumberRead 256 (tagNumberOf s (f .production)) u → NumberRead 256 (tagNumberOf s (topOf z .production)) u
+  top-reads {u} h = subst (λ (k : Frame). NumberRead 256 (tagNumberOf s (k .production)) u) e h
 
   pub top-brackets : {w : List ℕ} {p : Pen} {r : Acted} {d : List ℕ} → BracketsAs s (f .production) w z p r d → BracketsAs s (topOf z .production) w z p r d
   top-brackets {w} {p} {r} {d} h = subst (λ (k : Frame). BracketsAs s (k .production) w z p r d) e h

@@ -13,7 +13,7 @@ use Rattle.runs.specs.Options.{bind}
 use Rattle.runs.specs.Visits.{grammar}
 use Rattle.runs.specs.Events.{Event}
 use Rattle.runs.specs.Acts.{Act, Store, act, acts}
-use Rattle.runs.specs.Machine.{Control, State as Standing, Answer, refused, acted, turned, move, most, step}
+use Rattle.runs.specs.Machine.{Control, Configuration as Standing, Answer, refused, acted, turned, move, most, step}
 use Rattle.runs.proofs.Line.{acts-append}
 use Rattle.fit.specs.RunFits.{RunFits}
 use Rattle.state.specs.Meaning.{meaningOf, Shaped}

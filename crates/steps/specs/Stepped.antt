@@ -12,7 +12,7 @@ use Rattle.tokens.specs.declared.Event.{Event as Read}
 use Rattle.sheet.specs.Sheet.{Sheet, IsSheet}
 use Rattle.visits.specs.Written.{Pen}
 use Rattle.runs.specs.Events.{Event}
-use Rattle.runs.specs.Machine.{State as Standing, Answer, took, refused, step}
+use Rattle.runs.specs.Machine.{Configuration as Standing, Answer, took, refused, step}
 use Rattle.runs.specs.Spells.{stepToken}
 use Rattle.calls.specs.Limits.{silent}
 use Rattle.calls.specs.Names.{tokenOf}

@@ -12,7 +12,7 @@ use Rattle.sheet.specs.Sheet.{Sheet, IsSheet}
 use Rattle.calls.specs.Limits.{Taking, taken, refuses, no-room, oneToken}
 use Rattle.calls.specs.Names.{tokenOf}
 use Rattle.fit.specs.RunFits.{RunFits}
-use Rattle.runs.specs.Machine.{State as Standing}
+use Rattle.runs.specs.Machine.{Configuration as Standing}
 use Rattle.runs.specs.Visits.{mostVisits}
 use Rattle.state.specs.Meaning.{meaningOf, Shaped}
 use Rattle.state.specs.declared.State.{State}

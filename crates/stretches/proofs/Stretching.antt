@@ -24,7 +24,7 @@ use Rattle.output.specs.Escape.{Piece, escaped, character, render}
 use Rattle.sheet.specs.Sheet.{Sheet}
 use Rattle.visits.proofs.Printing.{escaped-short}
 use Rattle.runs.specs.Visits.{grammar, mostVisits}
-use Rattle.runs.specs.Machine.{State, took, answered, run}
+use Rattle.runs.specs.Machine.{Configuration, took, answered, run}
 use Rattle.runs.specs.Spells.{literal, passesAt, unless-blank, stepToken, eventsOfToken}
 use Rattle.calls.specs.Limits.{silent, outputOf, Taking, taken, limited, within, oneToken}
 use Rattle.calls.specs.Call.{Result, after-writing, Runs, takes}
@@ -97,7 +97,7 @@ module _ (part : List ℕ) (from : ℕ) where
               p ∙ q ∙ append-assoc (take put lent) w (v ++ u) ∙ ap (λ (x : List ℕ). take put lent ++ x) r;
           rest = λ a m steady more x run-on.
               let t = steady c count in
-              let counts : t .reached .store .env .count ≤ mostVisits = omega (arith, ap (λ (z : State). z .store .env .count) (t .leaves), counted) in
+              let counts : t .reached .store .env .count ≤ mostVisits = omega (arith, ap (λ (z : Configuration). z .store .env .count) (t .leaves), counted) in
               let fits : length (outputOf (t .reached)) ≤ length lent - to = omega (arith, ap length (t .writes), short, roomy) in
               let taking : oneToken a (counting m count) (length lent - to) (literal c) ≡ taken (counting m (count + k)) v =
               one-takes a (counting m count) (length lent - to) (literal c) (t .reached) (t .stepped) counts fits ∙ ap₂ taken (t .leaves) (t .writes) in
@@ -109,7 +109,7 @@ module _ (part : List ℕ) (from : ℕ) where
               (subst (λ (i : ℕ). Runs a part more (next .at) i (counting m (count + k)) x) left-over run-on)));
         }
 
-  without : (m : State) → m .store .env .out ≡ [] → silent m ≡ m
+  without : (m : Configuration) → m .store .env .out ≡ [] → silent m ≡ m
   without m e =
       ap (λ (o : List Piece). record { control = m .control; store = record { kept = m .store .kept; env = record { values = m .store .env .values; echo = m .store .env .echo; out = o; count = m .store .env .count } } })
       (sym e)

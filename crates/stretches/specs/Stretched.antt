@@ -7,7 +7,7 @@ use Prim.Native.Nat.{ℕ, _+_, _-_, _≤_}
 use lib.ListN.{length, take, drop}
 use Rattle.sheet.specs.Sheet.{Sheet}
 use Rattle.runs.specs.Visits.{grammar, mostVisits}
-use Rattle.runs.specs.Machine.{State}
+use Rattle.runs.specs.Machine.{Configuration}
 use Rattle.runs.specs.Spells.{passesAt}
 use Rattle.calls.specs.Call.{Result, after-writing, Runs}
 use Rattle.steady.specs.Steady.{counting, Steady}
@@ -23,7 +23,7 @@ pub record StretchedAs (part : List ℕ) (from : ℕ) (on : Bool) (k n : ℕ) (l
   pub written : List ℕ
   pub next : r .put ≡ put + length written
   pub left : d ≡ take put lent ++ (written ++ drop (put + length written) lent)
-  pub rest : (a : Sheet) (m : State) → Steady a on k m → (more : Bool) (x : Result) → Runs a part more (r .at) (length lent - r .put) (counting m (r .count)) x →
+  pub rest : (a : Sheet) (m : Configuration) → Steady a on k m → (more : Bool) (x : Result) → Runs a part more (r .at) (length lent - r .put) (counting m (r .count)) x →
       Runs a part more from (length lent - put) (counting m n) (after-writing written x)
 
 -- a stretch h carried on to r: whatever stretch ended at h, with b in the lent memory, ends at r, with d
@@ -36,5 +36,5 @@ pub record CarriedAs (part : List ℕ) (on : Bool) (k : ℕ) (h : Stretch) (b : 
 pub record BlanksAs (part : List ℕ) (from : ℕ) (r : ℕ) : Type 0 where
   pub forward : from ≤ r
   pub within : r ≤ length part
-  pub rest : (a : Sheet) (m : State) → m .store .env .out ≡ [] → m .store .env .count ≤ mostVisits → passesAt (grammar a) (m .control) ≡ true → (more : Bool) (room : ℕ) (x : Result) →
+  pub rest : (a : Sheet) (m : Configuration) → m .store .env .out ≡ [] → m .store .env .count ≤ mostVisits → passesAt (grammar a) (m .control) ≡ true → (more : Bool) (room : ℕ) (x : Result) →
       Runs a part more r room m x → Runs a part more from room m x

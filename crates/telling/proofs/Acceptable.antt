@@ -26,7 +26,7 @@ use Rattle.notation.specs.Statements.{parentheses}
 use Rattle.notation.proofs.Rows.{utf8-some}
 use Rattle.reading.specs.Tests.{tagName?, string?}
 use Rattle.reading.specs.Conditions.{Part, other, partIf, value?, attribute?, attributePart, attributeOf, partOf, Reading, stepPart, stepCondition, valueOf}
-use Rattle.reading.specs.Statements.{Start, no-start, targetIf, current?, startOf, Next, nothing, itemIf, nextOf, Level, Listing, wants, target, assigning, printing, testing, after, thenned, tested, started, targeted, assignedBy, printed, followed, stepStatements, valueOfList}
+use Rattle.reading.specs.Statements.{Start, no-start, targetIf, current?, startOf, Behind, nothing, itemIf, nextOf, Level, Listing, wants, target, assigning, printing, testing, after, thenned, tested, started, targeted, assignedBy, printed, followed, stepStatements, valueOfList}
 use Rattle.reading.specs.Expressions.{Piece, atomIf, nonterminal?, pieceOf, Parsing, stepPiece, unbraces, listing, stepExpression, valueOfContent}
 use Rattle.reading.specs.Rules.{Key, keyIf, keyOf, Head, ruleOf, Progress, beginning, first-word, named, defined, own-front, wants-tag, tagged, within, closed, own-back, complete, stepKey, closes, parsing, stepRules}
 use Rattle.reading.proofs.Telling.{none≢some}

@@ -11,7 +11,7 @@ use Rattle.tokens.specs.declared.Event.{Event}
 use Rattle.tokens.specs.declared.Answer.{Answer}
 use Rattle.programs.specs.Bounds.{Bounds, attributesIn}
 use Rattle.sheet.specs.Sheet.{Sheet}
-use Rattle.runs.specs.Machine.{Control, State}
+use Rattle.runs.specs.Machine.{Control, Configuration}
 use Rattle.calls.specs.Names.{tokenOf}
 use Rattle.calls.specs.Limits.{Taking, taken, refuses, no-room, oneToken}
 use Rattle.calls.specs.Held.{Held, handed}
@@ -32,11 +32,11 @@ record Results (top : ℕ) (r r′ : Result) : Type 0 where
   pub held : Helds top (r .held) (r′ .held)
 
 -- the same of a token from one answer as from the other
-taken-too : {top : ℕ} {t t′ : Taking} → Takings top t t′ → (z : State) (w : List ℕ) → t ≡ taken z w → (z′ : State) × (t′ ≡ taken z′ w) × States top z z′
+taken-too : {top : ℕ} {t t′ : Taking} → Takings top t t′ → (z : Configuration) (w : List ℕ) → t ≡ taken z w → (z′ : Configuration) × (t′ ≡ taken z′ w) × States top z z′
 taken-too {top} (both-taken {z = y} {z′ = y′} {w = v} {w′ = v′} h e) z w q =
     let p : y ≡ z = cc in
     let o : v ≡ w = cc in
-    (y′, ap (λ (l : List ℕ). taken y′ l) (sym e ∙ o), subst (λ (x : State). States top x y′) p h)
+    (y′, ap (λ (l : List ℕ). taken y′ l) (sym e ∙ o), subst (λ (x : Configuration). States top x y′) p h)
 taken-too (both-refuse n) z w q = absurd (let x : _≡_ {A = ℕ} 0 1 = cc in omega arith)
 taken-too both-full z w q = absurd (let x : _≡_ {A = ℕ} 0 1 = cc in omega arith)
 
@@ -55,13 +55,13 @@ module _ (a : Sheet) (b : Bounds) (keeps : AllFitIn b a) where
   top = b .highest-attribute
 
   module _ (part : List ℕ) (more : Bool) where
-    stop-alike : {at room n : ℕ} {z : State} (z′ : State) → States top z z′ → Stop a part more at room z n → Stop a part more at room z′ n
+    stop-alike : {at room n : ℕ} {z : Configuration} (z′ : Configuration) → States top z z′ → Stop a part more at room z n → Stop a part more at room z′ n
     stop-alike {room = room} {z = z} z′ h (stops e next n m q) = stops e next n m (refused-too (one-token-alike a b keeps room (tokenOf a part e) z z′ h) n q)
     stop-alike {room = room} {z = z} z′ h (full e next m q) = full e next m (full-too (one-token-alike a b keeps room (tokenOf a part e) z z′ h) q)
     stop-alike {at = at} z′ h (no-token x n m q) =
         no-token x n m (subst (λ (c : Control). numberAt more (length (drop at part)) c x ≡ some n) (h .control) q)
 
-    runs-alike : {at room : ℕ} {z : State} {r : Result} (z′ : State) → States top z z′ → Runs a part more at room z r →
+    runs-alike : {at room : ℕ} {z : Configuration} {r : Result} (z′ : Configuration) → States top z z′ → Runs a part more at room z r →
         (r′ : Result) × Runs a part more at room z′ r′ × Results top r r′
     runs-alike z′ h (takes {room = room} {z = z} e next z₁ w m q d) =
         let t = taken-too (one-token-alike a b keeps room (tokenOf a part e) z z′ h) z₁ w q in
@@ -73,7 +73,7 @@ module _ (a : Sheet) (b : Bounds) (keeps : AllFitIn b a) where
     runs-alike z′ h (halts {at = at} {z = z} {n = n} s) =
         (stopped-at n at z′, halts (stop-alike z′ h s), record { number = refl; taken = refl; output = refl; held = record { run = h; closing = refl } })
 
-    called-by : (room : ℕ) (z z′ : State) → States top z z′ → (c : Option ℕ) (r : Result) → CalledBy a part more room z c r →
+    called-by : (room : ℕ) (z z′ : Configuration) → States top z z′ → (c : Option ℕ) (r : Result) → CalledBy a part more room z c r →
         (r′ : Result) × CalledBy a part more room z′ c r′ × Results top r r′
     called-by room z z′ h none r d = runs-alike z′ h d
     called-by room z z′ h (some n) r e =

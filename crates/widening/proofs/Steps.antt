@@ -14,27 +14,27 @@ use Rattle.output.specs.Escape.{Piece, render}
 use Rattle.runs.specs.Visits.{grammar, mostVisits}
 use Rattle.runs.specs.Events.{Event}
 use Rattle.runs.specs.Acts.{Store, acts}
-use Rattle.runs.specs.Machine.{Control, Turn, refuse, go, move, most, State, Answer, took, refused, acted, turned, step, Outcome, finished, stopped, onward, run, answered}
+use Rattle.runs.specs.Machine.{Control, Turn, refuse, go, move, most, Configuration, Answer, took, refused, acted, turned, step, Outcome, finished, stopped, onward, run, answered}
 use Rattle.runs.specs.Spells.{Token, eventsOfToken, isBlank, passesAt, unless-blank, stepToken}
 use Rattle.calls.specs.Limits.{silent, outputOf, Taking, taken, refuses, no-room, limited, within, oneToken}
 use Rattle.widening.proofs.Alike.{Both, neither, each}
 use Rattle.widening.proofs.Acts.{Stores, AllFitIn, acts-alike}
 
-pub record States (top : ℕ) (z z′ : State) : Type 0 where
+pub record States (top : ℕ) (z z′ : Configuration) : Type 0 where
   pub control : z .control ≡ z′ .control
   pub store : Stores top (z .store) (z′ .store)
 
 pub data Answers (top : ℕ) : Answer → Answer → Type 0 where
-  both-took : {z z′ : State} → States top z z′ → Answers top (took z) (took z′)
+  both-took : {z z′ : Configuration} → States top z z′ → Answers top (took z) (took z′)
   both-refused : (n : ℕ) → Answers top (refused n) (refused n)
 
 -- what a stop leaves is not looked at: a token's events are taken together or not at all
 data Outcomes (top : ℕ) : Outcome → Outcome → Type 0 where
-  both-finished : {z z′ : State} → States top z z′ → Outcomes top (finished z) (finished z′)
-  both-stopped : (n : ℕ) {z z′ : State} {xs ys : List Event} → Outcomes top (stopped n z xs) (stopped n z′ ys)
+  both-finished : {z z′ : Configuration} → States top z z′ → Outcomes top (finished z) (finished z′)
+  both-stopped : (n : ℕ) {z z′ : Configuration} {xs ys : List Event} → Outcomes top (stopped n z xs) (stopped n z′ ys)
 
 pub data Takings (top : ℕ) : Taking → Taking → Type 0 where
-  both-taken : {z z′ : State} {w w′ : List ℕ} → States top z z′ → w ≡ w′ → Takings top (taken z w) (taken z′ w′)
+  both-taken : {z z′ : Configuration} {w w′ : List ℕ} → States top z z′ → w ≡ w′ → Takings top (taken z w) (taken z′ w′)
   both-refuse : (n : ℕ) → Takings top (refuses n) (refuses n)
   both-full : Takings top no-room no-room
 
@@ -42,7 +42,7 @@ acted-alike : {top : ℕ} (c : Control) {o o′ : Option Store} → Both (Stores
 acted-alike c neither = both-refused 25
 acted-alike c (each r) = both-took (record { control = refl; store = r })
 
-onward-alike : {top : ℕ} (z z′ : State) (xs : List Event) (f : State → Outcome) → ((y y′ : State) → States top y y′ → Outcomes top (f y) (f y′)) →
+onward-alike : {top : ℕ} (z z′ : Configuration) (xs : List Event) (f : Configuration → Outcome) → ((y y′ : Configuration) → States top y y′ → Outcomes top (f y) (f y′)) →
     {o o′ : Answer} → Answers top o o′ → Outcomes top (onward z xs o f) (onward z′ xs o′ f)
 onward-alike z z′ xs f F (both-took {z = y} {z′ = y′} h) = F y y′ h
 onward-alike z z′ xs f F (both-refused n) = both-stopped n
@@ -51,11 +51,11 @@ answered-alike : {top : ℕ} {o o′ : Outcome} → Outcomes top o o′ → Answ
 answered-alike (both-finished h) = both-took h
 answered-alike (both-stopped n) = both-refused n
 
-unless-alike : {top : ℕ} (p : Bool) (z z′ : State) → States top z z′ → {o o′ : Answer} → Answers top o o′ → Answers top (unless-blank p z o) (unless-blank p z′ o′)
+unless-alike : {top : ℕ} (p : Bool) (z z′ : Configuration) → States top z z′ → {o o′ : Answer} → Answers top o o′ → Answers top (unless-blank p z o) (unless-blank p z′ o′)
 unless-alike true z z′ h g = both-took h
 unless-alike false z z′ h g = g
 
-limited-alike : {top : ℕ} (z z′ : State) → States top z z′ → (p q : Bool) → Takings top (limited z p q) (limited z′ p q)
+limited-alike : {top : ℕ} (z z′ : Configuration) → States top z z′ → (p q : Bool) → Takings top (limited z p q) (limited z′ p q)
 limited-alike z z′ h false q = both-refuse 30
 limited-alike z z′ h true false = both-full
 limited-alike z z′ h true true =
@@ -79,19 +79,19 @@ module _ (a : Sheet) (b : Bounds) (keeps : AllFitIn b a) where
   turned-alike (refuse n) m m′ h = both-refused n
   turned-alike (go bs c) m m′ h = acted-alike c (acts-alike a b keeps bs m m′ h)
 
-  step-alike : (x : Event) (z z′ : State) → States top z z′ → Answers top (step a z x) (step a z′ x)
+  step-alike : (x : Event) (z z′ : Configuration) → States top z z′ → Answers top (step a z x) (step a z′ x)
   step-alike x z z′ h =
       subst (λ (c : Control). Answers top (step a z x) (turned a (z′ .store) (move (grammar a) (a .start-nonterminal) most c x))) (h .control)
       (turned-alike (move (grammar a) (a .start-nonterminal) most (z .control) x) (z .store) (z′ .store) (h .store))
 
-  run-alike : (xs : List Event) (z z′ : State) → States top z z′ → Outcomes top (run a z xs) (run a z′ xs)
+  run-alike : (xs : List Event) (z z′ : Configuration) → States top z z′ → Outcomes top (run a z xs) (run a z′ xs)
   run-alike [] z z′ h = both-finished h
   run-alike (x ∷ xs) z z′ h = onward-alike z z′ (x ∷ xs) (λ y. run a y xs) (λ y y′ g. run-alike xs y y′ g) (step-alike x z z′ h)
 
-  token-alike : (k : Token) (z z′ : State) → States top z z′ → Answers top (stepToken a z k) (stepToken a z′ k)
+  token-alike : (k : Token) (z z′ : Configuration) → States top z z′ → Answers top (stepToken a z k) (stepToken a z′ k)
   token-alike k z z′ h =
       subst (λ (c : Control). Answers top (stepToken a z k) (unless-blank (isBlank k && passesAt (grammar a) c) z′ (answered (run a z′ (eventsOfToken k))))) (h .control)
       (unless-alike (isBlank k && passesAt (grammar a) (z .control)) z z′ h (answered-alike (run-alike (eventsOfToken k) z z′ h)))
 
-  pub one-token-alike : (room : ℕ) (k : Token) (z z′ : State) → States top z z′ → Takings top (oneToken a z room k) (oneToken a z′ room k)
+  pub one-token-alike : (room : ℕ) (k : Token) (z z′ : Configuration) → States top z z′ → Takings top (oneToken a z room k) (oneToken a z′ room k)
   one-token-alike room k z z′ h = within-alike room (token-alike k z z′ h)

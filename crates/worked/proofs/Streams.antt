@@ -12,7 +12,7 @@ use Rattle.tokens.specs.Stream.{flat, AllGood, AllShort, Followed, AllWhole}
 use Rattle.sheet.specs.Sheet.{Sheet}
 use Rattle.output.specs.Escape.{render}
 use Rattle.runs.specs.Visits.{Env, mostVisits}
-use Rattle.runs.specs.Machine.{State, fresh-state, refused}
+use Rattle.runs.specs.Machine.{Configuration, fresh-configuration, refused}
 use Rattle.runs.specs.Taken.{Passed}
 use Rattle.runs.specs.Spells.{stepToken, through, runTokens}
 use Rattle.runs.specs.Examples.{book}
@@ -32,7 +32,7 @@ pub record TakenWhole (a : Sheet) (s o : List ℕ) (n : ℕ) : Type 0 where
   pub whole : AllWhole false tokens []
   pub are-bytes : s ≡ flat tokens
   pub value : Env
-  pub runs : of-tokens (runTokens a fresh-state (tokensFor a tokens)) ≡ some value
+  pub runs : of-tokens (runTokens a fresh-configuration (tokensFor a tokens)) ≡ some value
   pub writes : render (value .out) ≡ o
   pub visits : value .count ≡ n
   pub few : n ≤ mostVisits
@@ -46,7 +46,7 @@ taken-whole a ok s o n t = (
     short = t .short;
     whole = t .whole;
     are-bytes = t .are-bytes;
-    spells = spelled-iff a ok (tokensFor a (t .tokens)) (t .value) .0 (tokens-are (runTokens a fresh-state (tokensFor a (t .tokens))) (t .value) (t .runs));
+    spells = spelled-iff a ok (tokensFor a (t .tokens)) (t .value) .0 (tokens-are (runTokens a fresh-configuration (tokensFor a (t .tokens))) (t .value) (t .runs));
     counts = omega (arith, t .visits, t .few);
   },
   t .writes,
@@ -66,8 +66,8 @@ pub record RefusedAt (a : Sheet) (s : List ℕ) (k at : ℕ) (o : List ℕ) : Ty
   pub next-whole : Followed false next rest
   pub are-bytes : s ≡ flat tokens ++ (bytes next ++ rest)
   pub place : length (flat tokens) ≡ at
-  pub state : State
-  pub runs : runTokens a fresh-state (tokensFor a tokens) ≡ through state
+  pub state : Configuration
+  pub runs : runTokens a fresh-configuration (tokensFor a tokens) ≡ through state
   pub refuses : stepToken a state (tokenFor a next) ≡ refused k
   pub writes : render (state .store .env .out) ≡ o
   pub few : state .store .env .count ≤ mostVisits

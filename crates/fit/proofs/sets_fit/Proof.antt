@@ -8,7 +8,7 @@ use borrow.Author.Needs.{needs}
 use Rattle.tells.specs.Tells.{holds, fails}
 use Rattle.tells.proofs.Laws.{held, failed}
 use Rattle.state.specs.Bounds.{mostSets}
-use Rattle.state.specs.Meaning.{All, none}
+use Rattle.state.specs.Meaning.{Every, none}
 use Rattle.state.proofs.Laws.{length-mapped, all-more}
 use Rattle.fit.specs.Fit.{SetFits}
 use Rattle.fit.proofs.Lists.{all-first}
@@ -16,7 +16,7 @@ use Rattle.fit.proofs.sets_fit.Statement.{statement}
 use Rattle.fit.proofs.sets_fit.Tie as tie
 
 abbrev Inv-loop : tie.InvT-loop
-Inv-loop n sets i₀ i = (i ≤ n) × All SetFits (take i sets)
+Inv-loop n sets i₀ i = (i ≤ n) × Every SetFits (take i sets)
 
 abbrev μ-loop : tie.MeasureT-loop
 μ-loop n sets i₀ i = n - i
@@ -40,7 +40,7 @@ returns-2 : tie.Need-returns-2 Inv-loop μ-loop
 returns-2 c =
     let w = c .before .before in
     let e : c .before .loop .i ≡ w .args .n = omega arith in
-    holds (subst (λ (m : ℕ). All SetFits (take m (w .args .t1))) e (c .before .loop .inv .1))
+    holds (subst (λ (m : ℕ). Every SetFits (take m (w .args .t1))) e (c .before .loop .inv .1))
 
 pub sets-fit-spec : {M : Type 1} → statement M
 sets-fit-spec =

@@ -7,14 +7,14 @@ use borrow.Author.Needs.{needs}
 use Rattle.tells.specs.Tells.{holds, fails}
 use Rattle.programs.specs.Limits.{Value}
 use Rattle.runs.specs.Visits.{attributes}
-use Rattle.state.specs.Meaning.{All, none}
+use Rattle.state.specs.Meaning.{Every, none}
 use Rattle.state.proofs.Laws.{all-whole}
 use Rattle.fit.proofs.Lists.{value-over, value-more}
 use Rattle.fit.proofs.values_fit.Statement.{statement}
 use Rattle.fit.proofs.values_fit.Tie as tie
 
 abbrev Inv-loop : tie.InvT-loop
-Inv-loop values i₀ i = (i ≤ attributes) × All Value (take i values)
+Inv-loop values i₀ i = (i ≤ attributes) × Every Value (take i values)
 
 abbrev μ-loop : tie.MeasureT-loop
 μ-loop values i₀ i = attributes - i
