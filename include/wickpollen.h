@@ -6,7 +6,7 @@
    run at the same time.
 
    The library is for x86-64 and needs of a C library memcpy and memset alone; it allocates nothing, opens nothing and has no variables. Its
-   stack is bounded by the sheet's limits: a call takes at most 34 kB of it, most of them for expressions nested 12 deep (bench/stack adds them up). */
+   stack is bounded by the sheet's limits: a call takes at most 43 kB of it, half of them for states and half for expressions nested 12 deep (bench/stack adds them up). */
 #ifndef WICKPOLLEN_H
 #define WICKPOLLEN_H
 #include <stddef.h>
@@ -24,10 +24,11 @@ uint64_t wickpollen_check(const uint8_t *sheet, size_t sheet_len, uint8_t *list,
 static inline unsigned wickpollen_number(uint64_t answer) { return (unsigned)(answer % 256); }
 static inline uint64_t wickpollen_count(uint64_t answer) { return answer / 256; }
 
-/* The length of a state. */
-#define WICKPOLLEN_STATE 2199
+/* The length of a state: eight attributes, echo, the count of visits, whether the root is closed, the closing number, how many elements are open, and 32 frames of 120
+   bytes (docs/DECISIONS.md 5.15). A state of another length is 29, one kept from the time of four attributes too: begin the stream again. */
+#define WICKPOLLEN_STATE 3867
 
-/* Writes a fresh state, with which a stream begins, to state[0 .. 2199) and answers 2199; the bytes of the area past it are as lent.
+/* Writes a fresh state, with which a stream begins, to state[0 .. WICKPOLLEN_STATE) and answers WICKPOLLEN_STATE; the bytes of the area past it are as lent.
    Where the area is shorter it answers 0, and the whole area is as lent. */
 uint64_t wickpollen_fresh(uint8_t *state, size_t state_len);
 

@@ -46,6 +46,7 @@ class Parts:
     """What the later tests ask of a sheet: tag count, productions (nonterminal, tag, tree), program bytes, strings, start."""
 
 
+ATTRIBUTE, HIGHEST = 7, 63  # the highest attribute and the highest value
 SECTIONS = ((16, 1, 64), (12, 1, 64), (6, 0, 256), (1, 0, 16384), (1, 0, 8192))  # bytes of one, fewest, most
 
 
@@ -138,9 +139,9 @@ class Program:
             if statement == 0:
                 return
             if statement == 1:
-                self.byte(most=3), self.byte(most=15)
+                self.byte(most=ATTRIBUTE), self.byte(most=HIGHEST)
             elif statement in (2, 3):
-                self.byte(most=3), self.byte(most=3)
+                self.byte(most=ATTRIBUTE), self.byte(most=ATTRIBUTE)
             elif statement in (5, 6):
                 self.byte(most=self.parts.tags - 1)
             elif statement == 7:
@@ -163,7 +164,7 @@ class Program:
 
     def operand(self):
         kind = self.byte(most=2)
-        self.byte(most=15 if kind == 0 else 3)
+        self.byte(most=HIGHEST if kind == 0 else ATTRIBUTE)
         self.visits |= {2} if kind == 2 else set()
 
 
@@ -530,10 +531,10 @@ def full():
     wide = '((n1.n2.n3.n4).(n5.n6.n7.n8).((n9.n10.n11.n12).(n13.n14.n15.n16)))*'  # 32 nodes
     texts = [deep, wide] + 16 * ['(n1.n2)*'] + 46 * ['n3.n4']
     prints = [TEXT(offset, 128) for offset in range(0, 8192, 128)]
-    nested = SET(3, 15)
+    nested = SET(ATTRIBUTE, HIGHEST)
     for _ in range(8):
-        nested = IF(EQUAL(THEN(3), VALUE(15)), nested)
-    programs = [b''.join(prints[:32]), b''.join(prints[32:]), nested + RECALL(3, 3) + OPEN(63) + CLOSE(63)] + 61 * [b'']
+        nested = IF(EQUAL(THEN(ATTRIBUTE), VALUE(HIGHEST)), nested)
+    programs = [b''.join(prints[:32]), b''.join(prints[32:]), nested + RECALL(ATTRIBUTE, ATTRIBUTE) + OPEN(63) + CLOSE(63)] + 61 * [b'']
     sheet = Sheet(['abcdefghijkl_%02d' % t for t in range(64)], [(63 - i, 63 - i, text) for i, text in enumerate(texts)], start=63,
                   programs=[p + (255 - len(p)) * REJECT + END for p in programs], strings=4096 * 'é'.encode())
     for part in sheet.productions + sheet.nodes:
@@ -683,15 +684,17 @@ def programs():
     first = lambda body, **parts: smallest(programs=body + END, **parts).production(0, first=0)
     second = lambda body, **parts: smallest(programs=body + END, **parts).production(0, second=0)
     case(0, 'a program with no statement', first(b''))
-    for what, body in (('1: attribute 3, value 15', SET(3, 15)), ('2: attributes 3, 3', COPY(3, 3)), ('4', REJECT), ('5: tag 0', OPEN(0)),
+    top, over = ATTRIBUTE, ATTRIBUTE + 1
+    for what, body in (('1: attribute %d, value %d' % (top, HIGHEST), SET(top, HIGHEST)), ('2: attributes %d, %d' % (top, top), COPY(top, top)), ('4', REJECT), ('5: tag 0', OPEN(0)),
                        ('6: tag 0', CLOSE(0)), ('7: no byte', TEXT(0, 0)), ('10: an if with two empty lists', IF(SAME, b'')),
-                       ('10: operands constant 15 and attribute 3', IF(EQUAL(VALUE(15), NOW(3)), b'')),
+                       ('10: operands constant %d and attribute %d' % (HIGHEST, top), IF(EQUAL(VALUE(HIGHEST), NOW(top)), b'')),
+                       ('attributes 4 to 6, values 16 to 62', SET(4, 16) + COPY(5, 4) + IF(EQUAL(NOW(6), VALUE(62)), SET(3, 15))),
                        ('10: not, and, or', IF(OR(AND(SAME, NOT(SAME)), SAME), REJECT, OPEN(0))), ('statements after reject', REJECT + SET(0, 0))):
         case(0, 'both visits, ' + what, first(body).production(0, second=0))
     for what, body in (('8', ECHO), ('9', ECHO_OFF), ('8 in a branch', IF(SAME, b'', ECHO)), ('9 in a branch of a branch', IF(SAME, IF(SAME, ECHO_OFF)))):
         case(0, 'first visit, ' + what, first(body))
         case(6, 'second visit, ' + what, second(body))
-    for what, body in (('3: attributes 3, 3', RECALL(3, 3)), ('operand 2 on the left', IF(EQUAL(THEN(3), NOW(0)), b'')),
+    for what, body in (('3: attributes %d, %d' % (top, top), RECALL(top, top)), ('operand 2 on the left', IF(EQUAL(THEN(top), NOW(0)), b'')),
                        ('operand 2 on the right', IF(EQUAL(NOW(0), THEN(0)), b'')), ('3 in the else list', IF(SAME, b'', RECALL(0, 1))),
                        ('operand 2 below not, and, or', IF(NOT(AND(SAME, OR(SAME, EQUAL(NOW(0), THEN(0))))), b''))):
         case(6, 'first visit, ' + what, first(body))
@@ -700,15 +703,16 @@ def programs():
     case(6, 'second visit, both 8 and 3', second(ECHO + RECALL(0, 0)))
     case(6, 'one program in both fields, with 8', second(ECHO).production(0, first=0))
     case(6, 'one program in both fields, with 3', second(RECALL(0, 0)).production(0, first=0))
-    for what, body in (('attribute 4 in 1', SET(4, 0)), ('value 16 in 1', SET(0, 16)), ('value 255', SET(0, 255)), ('attribute 4 in 2, to', COPY(4, 0)),
-                       ('attribute 4 in 2, from', COPY(0, 4)), ('attribute 4 in 3, to', RECALL(4, 0)), ('attribute 4 in 3, from', RECALL(0, 4)),
+    for what, body in (('attribute %d in 1' % over, SET(over, 0)), ('value %d in 1' % (HIGHEST + 1), SET(0, HIGHEST + 1)), ('value 255', SET(0, 255)), ('attribute 255', SET(255, 0)),
+                       ('attribute %d in 2, to' % over, COPY(over, 0)), ('attribute %d in 2, from' % over, COPY(0, over)),
+                       ('attribute %d in 3, to' % over, RECALL(over, 0)), ('attribute %d in 3, from' % over, RECALL(0, over)),
                        ('5 with a tag number at the count', OPEN(1)), ('6 with a tag number at the count', CLOSE(1)), ('statement 11', b'\x0b'),
                        ('statement 255', b'\xff'), ('condition 4 of two operands', IF(b'\4' + VALUE(0) + VALUE(0), b'')),
                        ('condition 4 of one condition', IF(b'\4' + SAME, b'')), ('condition 4 of two', IF(b'\4' + SAME + SAME, b'')), ('operand 3', IF(EQUAL(b'\3\0', NOW(0)), b'')),
-                       ('operand 3 on the right', IF(EQUAL(NOW(0), b'\3\0'), b'')), ('constant 16', IF(EQUAL(VALUE(16), NOW(0)), b'')),
-                       ('constant 16 on the right', IF(EQUAL(NOW(0), VALUE(16)), b'')), ('operand attribute 4', IF(EQUAL(NOW(4), NOW(0)), b'')),
-                       ('operand 2, attribute 4', IF(EQUAL(NOW(0), THEN(4)), b'')), ('a bad statement in the then list', IF(SAME, SET(4, 0))),
-                       ('a bad statement in the else list', IF(SAME, b'', SET(4, 0))), ('a bad statement after a branch', IF(SAME, b'') + SET(4, 0))):
+                       ('operand 3 on the right', IF(EQUAL(NOW(0), b'\3\0'), b'')), ('constant %d' % (HIGHEST + 1), IF(EQUAL(VALUE(HIGHEST + 1), NOW(0)), b'')),
+                       ('constant %d on the right' % (HIGHEST + 1), IF(EQUAL(NOW(0), VALUE(HIGHEST + 1)), b'')), ('operand attribute %d' % over, IF(EQUAL(NOW(over), NOW(0)), b'')),
+                       ('operand 2, attribute %d' % over, IF(EQUAL(NOW(0), THEN(over)), b'')), ('a bad statement in the then list', IF(SAME, SET(over, 0))),
+                       ('a bad statement in the else list', IF(SAME, b'', SET(over, 0))), ('a bad statement after a branch', IF(SAME, b'') + SET(over, 0))):
         case(6, what, second(body))
     many = Sheet(['t%d' % t for t in range(64)], [(0, 0, '')], programs=[OPEN(63) + CLOSE(63) + END])
     case(0, '5 and 6 with tag 63 of 64', many.production(0, first=0))

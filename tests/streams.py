@@ -14,7 +14,7 @@ A line of cases.txt is a letter, a space, and what the letter asks for; numbers 
     c FROM TO ENDED ROOM NUMBER TAKEN AT WRITTEN VISITS HEAD
                 a call on the stream's bytes FROM to TO, declared ended (1) or not (0), with ROOM bytes lent. Then what it must answer:
                 the number, the bytes taken, the bytes written, which are those from AT on of the output, the visits, and the state's
-                first 23 bytes then (its flag "root closed" is 02 where an element is open: it tells nothing there). No HEAD: the
+                bytes before its frames then (its flag "root closed" is 02 where an element is open: it tells nothing there). No HEAD: the
                 state's bytes are untouched. A call finds the state as the call before left it, if no z or p comes between.
     g NAME      the end of a group: a line is written with how many of its calls were answered so
 """
@@ -27,7 +27,7 @@ import sys
 
 sys.path.insert(0, os.path.dirname(os.path.abspath(__file__)))
 import sheets
-from sheets import (AND, CLOSE, COPY, ECHO, ECHO_OFF, END, EQUAL, IF, NONE, NOT, NOW, OPEN, OR, RECALL, REJECT, SET, TEXT, THEN,
+from sheets import (AND, CLOSE, COPY, ECHO, ECHO_OFF, END, EQUAL, HIGHEST, IF, NONE, NOT, NOW, OPEN, OR, RECALL, REJECT, SET, TEXT, THEN,
                     VALUE, Sheet)
 
 LIMIT = 2 ** 62  # visits
@@ -203,6 +203,11 @@ def checked(sheet):
 # ---------------------------------------------------------------------------------------------------------------------
 # The state, and its bytes.
 
+def filled(values):
+    """These attributes, and the others 0."""
+    return list(values) + (ATTRIBUTES - len(values)) * [0]
+
+
 class Frame:
     """An open element: its production and place, and the sets kept, each the attributes after a first visit and echo before it."""
 
@@ -211,8 +216,8 @@ class Frame:
 
 
 class State:
-    def __init__(self, values=(0, 0, 0, 0), echo=False, count=0, rooted=False, closing=OPEN_STATE, frames=()):
-        self.values, self.echo, self.count, self.rooted, self.closing = list(values), echo, count, rooted, closing
+    def __init__(self, values=(), echo=False, count=0, rooted=False, closing=OPEN_STATE, frames=()):
+        self.values, self.echo, self.count, self.rooted, self.closing = filled(values), echo, count, rooted, closing
         self.frames = list(frames)
 
     def copy(self):
@@ -223,20 +228,31 @@ class State:
         laid = bytes(self.values) + struct.pack('<BQBBQ', self.echo, self.count, self.rooted, self.closing, len(self.frames))
         for frame in self.frames:
             sets = b''.join(bytes(values) + bytes([echo]) for values, echo in frame.sets)
-            laid += bytes([frame.production, frame.place, len(frame.sets)]) + sets + bytes(65 - len(sets))
+            laid += bytes([frame.production, frame.place, len(frame.sets)]) + sets + bytes(SETS_KEPT * SET_BYTES - len(sets))
         return laid + bytes(STATE_BYTES - len(laid))
 
 
-STATE_BYTES, FIRST_FRAME, FRAME_BYTES = 2199, 23, 68
+ATTRIBUTES = sheets.ATTRIBUTE + 1               # how many there are
+SETS_KEPT, SET_BYTES = 13, ATTRIBUTES + 1       # of an open element: its production's, and one for each open node; a set is the attributes and echo
+FRAME_BYTES = 3 + SETS_KEPT * SET_BYTES         # production, place, how many sets are in use, and the sets
+ECHO_FLAG, COUNT, ROOTED, CLOSING, OPENED, FIRST_FRAME = (ATTRIBUTES + n for n in (0, 1, 9, 10, 11, 19))
+STATE_BYTES = FIRST_FRAME + DEPTH * FRAME_BYTES
+PRODUCTION, PLACE, SETS, FIRST_SET = 0, 1, 2, 3  # in a frame
+ZEROS = ATTRIBUTES * (0,)
 FRESH = State().bytes()
+
+
+def count_in(given):
+    """The count that bytes of any length hold."""
+    return struct.unpack('<Q', (given + bytes(ROOTED))[COUNT:ROOTED])[0]
 
 
 def state_in(given, rules):
     """The state that bytes hold, None where they are unfit: 29."""
     if len(given) != STATE_BYTES:
         return None
-    echo, count, rooted, closing, depth = struct.unpack('<BQBBQ', given[4:FIRST_FRAME])
-    if depth > DEPTH or count > LIMIT or max(given[:4]) > 15 or closing not in {0, 30, OPEN_STATE, *range(20, 28)}:
+    echo, count, rooted, closing, depth = struct.unpack('<BQBBQ', given[ATTRIBUTES:FIRST_FRAME])
+    if depth > DEPTH or count > LIMIT or max(given[:ATTRIBUTES]) > HIGHEST or closing not in {0, 30, OPEN_STATE, *range(20, 28)}:
         return None
     frames, may = [], rules.start
     for k in range(depth):
@@ -247,13 +263,14 @@ def state_in(given, rules):
         production = rules.productions[number]
         if place >= len(production.atoms) or used != 1 + production.open_nodes(place):
             return None
-        sets = [(tuple(frame[3 + 5 * j:7 + 5 * j]), frame[7 + 5 * j] != 0) for j in range(used)]
-        if any(max(values) > 15 for values, _ in sets):
+        sets = [frame[FIRST_SET + SET_BYTES * j:FIRST_SET + SET_BYTES * (j + 1)] for j in range(used)]
+        sets = [(tuple(kept[:ATTRIBUTES]), kept[ATTRIBUTES] != 0) for kept in sets]
+        if any(max(values) > HIGHEST for values, _ in sets):
             return None
         frames.append(Frame(number, place, sets))
         atom = production.atoms[place]
         may = atom.argument if atom and atom.kind == 1 else None
-    return State(given[:4], echo != 0, count, rooted != 0, closing, frames)
+    return State(given[:ATTRIBUTES], echo != 0, count, rooted != 0, closing, frames)
 
 
 # ---------------------------------------------------------------------------------------------------------------------
@@ -431,7 +448,7 @@ def take(rules, state, kind, what):
 def call(sheet, given, part, ended, room):
     """One call: number, taken, output, visits, and the state's bytes then; None for these where they are untouched."""
     number, rules = checked(sheet)
-    count = struct.unpack('<Q', (given + bytes(13))[5:13])[0]
+    count = count_in(given)
     if number:
         return number, 0, b'', count, None
     state = state_in(given, rules)
@@ -525,7 +542,7 @@ class Calls:
         if after is not None:
             HELD['state'] = after
             head = bytearray(after[:FIRST_FRAME])
-            head[13] = head[13] if head[15] == 0 else 2
+            head[ROOTED] = head[ROOTED] if head[OPENED] == 0 else 2
             head = ' ' + head.hex()
         begins = place_of(part, 'stream', 't')
         written = place_of(output, 'output', 'o') if output else 0
@@ -671,6 +688,13 @@ def slips():
                        {('production', 0, 'first'): SET(0, 1), ('production', 1, 'first'): SET(0, 2), ('production', 1, 'second'): SET(1, 3),
                         ('production', 0, 'second'): RECALL(2, 0) + IF(EQUAL(NOW(2), VALUE(1)), OPEN(0)) + IF(AND(EQUAL(NOW(0), VALUE(2)), EQUAL(NOW(1), VALUE(3))), CLOSE(0))})
     case('statement 3, and current values that children changed', sheet, '<r><a/></r>', 0, '<r></r>')
+    for a in range(ATTRIBUTES):
+        for part, text in (('production', 'n1'), ('node', 'n1'), ('node', 'n1*')):
+            other = (a + 1) % ATTRIBUTES
+            sheet = programmed(['r', 'a'], [(0, 0, text), (1, 1, '')],
+                               {(part, 0, 'first'): SET(a, HIGHEST - a), ('production', 1, 'first'): SET(a, a) + COPY(other, a) + IF(EQUAL(NOW(other), VALUE(a)), OPEN(1)),
+                                (part, 0, 'second'): RECALL(other, a) + IF(AND(EQUAL(NOW(other), VALUE(HIGHEST - a)), EQUAL(NOW(a), VALUE(a))), CLOSE(1))})
+            case('attribute %d is kept and recalled, %s of %s' % (a, part, text), sheet, '<r><a/></r>', 0, '<a></a>')
     case('a star with two rounds: each round has its own', programmed(
         ['r', 'a'], [(0, 0, 'n1*'), (1, 1, '')], {('node', 1, 'first'): IF(EQUAL(NOW(0), VALUE(0)), SET(0, 1), SET(0, 2)),
         ('node', 1, 'second'): IF(EQUAL(THEN(0), VALUE(1)), OPEN(0), CLOSE(0)), ('production', 1, 'first'): SET(1, 1)}), '<r><a/><a/><a/></r>', 0, '<r></r></r>')
@@ -716,7 +740,7 @@ def counted(count, frames=(), **more):
 
 def tall(depth):
     """`deep` with so many open a, by a state's bytes: each at the atom of the next but the last, which has not begun its content."""
-    node = ((0, 0, 0, 0), False)
+    node = (ZEROS, False)
     frames = [Frame(0, 1, [node] * 4) for _ in range(depth - 1)] + [Frame(0, 0, [node])] * (depth > 0)
     return State(count=4 * depth, frames=frames)
 
@@ -762,7 +786,7 @@ def limits():
     case('<a> from 2^62 - 1', smallest(), '<a>', 16, '', LIMIT, 3, ended=False, state=counted(LIMIT - 1))
     case('white space with the count at the limit', smallest(), '  <a> \n', 30, '', LIMIT, 2, state=counted(LIMIT))
     case('white space alone with the count at the limit', smallest(), ' \t\r\n', 16, '', LIMIT, 4, ended=False, state=counted(LIMIT))
-    once = [Frame(0, 0, [((0, 0, 0, 0), True)])]
+    once = [Frame(0, 0, [(ZEROS, True)])]
     for left, number, taken in ((0, 30, 0), (1, 30, 0), (2, 30, 1), (3, 30, 1), (4, 16, 2)):
         case('two characters, %d visits left' % left, echoing(), 'ab', number, taken=taken, ended=False, state=counted(LIMIT - left, once, echo=True))
     for left in range(4):
@@ -803,18 +827,18 @@ def order():
     case('26 before 17', two(), '<b/>', 26, room=0, state=counted(9, rooted=True))
     case('22 before 23: the element cannot end yet, and the end is another\'s', ab, '<a></b>', 22, taken=3)
     case('22 before 25', two(second=REJECT), '<a><b></a>', 22, '<b>', taken=6)
-    case('22 before 30', two(), '</b>', 22, state=counted(LIMIT, [Frame(0, 0, [((0, 0, 0, 0), False)])]))
+    case('22 before 30', two(), '</b>', 22, state=counted(LIMIT, [Frame(0, 0, [(ZEROS, False)])]))
     case('22 with no room', two(), '<a></b>', 22, room=0, taken=3)
     case('23 before 24', deep(), 32 * '<a>' + '<c>', 23, taken=96)
     case('23 before 24: an unknown name', deep(), 32 * '<a>' + '<d/>', 23, taken=96)
     case('23 before 25', programmed(['a', 'b'], [(0, 0, ''), (1, 1, '')], {('production', 1, 'first'): REJECT}), '<a><b/>', 23, taken=3)
     case('23 before 25: the brackets would reject', programmed(['a', 'b'], [(0, 0, 'n1'), (1, 1, '')], {('node', 0, 'second'): REJECT}), '<a><b/><b/>', 23, taken=7)
-    case('23 before 30', two(), '<a>', 23, state=counted(LIMIT, [Frame(0, 0, [((0, 0, 0, 0), False)])]))
+    case('23 before 30', two(), '<a>', 23, state=counted(LIMIT, [Frame(0, 0, [(ZEROS, False)])]))
     case('23 with no room', two(), '<a><a>', 23, room=0, taken=3)
     case('24 before 25: the start rejects', deep(), 32 * '<a>' + '<b>', 24, taken=96)
     case('24 before 25: an empty tag', deep(), 32 * '<a>' + '<b/>', 24, taken=96)
     star = programmed(['a'], [(0, 0, 'n0*')], {('node', 0, 'first'): REJECT})
-    node = ((0, 0, 0, 0), False)
+    node = (ZEROS, False)
     frames = [Frame(0, 1, [node] * 3)] * 31 + [Frame(0, 0, [node])]
     case('24 before 25: a bracket rejects', star, '<a>', 24, taken=0, state=counted(500, frames))
     case('the same one element lower: 25', star, '<a>', 25, taken=0, state=counted(500, frames[1:]))
@@ -1037,7 +1061,7 @@ def closed():
             assert again == (number or 28, 0, b'', answer[3]), (what, again)
         said('%d, %s, and again' % (number, what), begins)
     for number in (0, 20, 21, 22, 23, 24, 25, 26, 27, 30):
-        for frames in ((), [Frame(0, 0, [((1, 2, 3, 15), True)])]):
+        for frames in ((), [Frame(0, 0, [(filled((1, 2, 3, HIGHEST)), True)])]):
             case('a state given as closed by %d, %d open' % (number, len(frames)), echoing(), '</t>', number or 28, '', 7, 0,
                  state=State((1, 2, 3, 4), True, 7, not frames, number, frames).bytes())
     end_group('closed')
@@ -1052,10 +1076,6 @@ def reached(sheet, stream):
 
 def changed(given, at, *values):
     return given[:at] + bytes(values) + given[at + len(values):]
-
-
-ATTRIBUTES, ECHO_FLAG, COUNT, ROOTED, CLOSING, OPENED = 0, 4, 5, 13, 14, 15
-PRODUCTION, PLACE, SETS, FIRST_SET = 0, 1, 2, 3  # in a frame
 
 
 def frame_at(k, field=0):
@@ -1076,7 +1096,7 @@ def states():
         case(what, sheet, part, number, state=given)
 
     def unfit(what, given, part=rest):
-        count = struct.unpack('<Q', (given + bytes(13))[5:13])[0]
+        count = count_in(given)
         for part, ended, room in ((part, True, None), (b'', False, 0)):
             case(what, sheet, part, 29, '', count, 0, ended=ended, room=room, state=given)
 
@@ -1086,26 +1106,29 @@ def states():
     fits('as reached, root closed', done, b' ', 0)
     fits('fresh', FRESH, b'<r/>', 0)
 
-    for length in (0, 1, 14, 15, 22, 23, 2198, 2200, 4096):
-        unfit('%d bytes' % length, (base + bytes(4096))[:length])
-    unfit('2,198 bytes of a fresh one', FRESH[:-1], b'<r/>')
-    unfit('2,200 bytes of a fresh one', FRESH + b'\0', b'<r/>')
+    four = 4 + 19 + DEPTH * (3 + SETS_KEPT * 5)  # what a state was with four attributes
+    for length in (0, 1, CLOSING, OPENED, FIRST_FRAME - 1, FIRST_FRAME, four, STATE_BYTES - 1, STATE_BYTES + 1, 4096):
+        unfit('%d bytes' % length, (base + bytes(STATE_BYTES))[:length])
+    unfit('one byte less of a fresh one', FRESH[:-1], b'<r/>')
+    unfit('one byte more of a fresh one', FRESH + b'\0', b'<r/>')
+    unfit('a fresh one with four attributes', bytes(14) + b'\xff' + bytes(four - 15), b'<r/>')
 
-    for at in range(4):
-        for value in (1, 14, 15):
-            fits('attribute %d is %d' % (at, value), changed(base, ATTRIBUTES + at, value))
-        for value in (16, 17, 255):
-            unfit('attribute %d is %d' % (at, value), changed(base, ATTRIBUTES + at, value))
-    unfit('attribute 3 is 16, no element open', changed(FRESH, 3, 16), b'<r/>')
+    over = HIGHEST + 1
+    for at in range(ATTRIBUTES):
+        for value in (1, 15, 16, HIGHEST - 1, HIGHEST):
+            fits('attribute %d is %d' % (at, value), changed(base, at, value))
+        for value in (over, over + 1, 255):
+            unfit('attribute %d is %d' % (at, value), changed(base, at, value))
+    unfit('attribute %d is %d, no element open' % (ATTRIBUTES - 1, over), changed(FRESH, ATTRIBUTES - 1, over), b'<r/>')
     for value in (0, 1, 2, 255):
         fits('echo %d' % value, changed(base, ECHO_FLAG, value))
         fits('echo %d, no element open' % value, changed(FRESH, ECHO_FLAG, value), b'<r><p>x</p></r>')
         fits('root closed %d, elements open' % value, changed(base, ROOTED, value))
         fits('root closed %d, none open: white space' % value, changed(FRESH, ROOTED, value), b' ', 27 if value == 0 else 0)
         fits('root closed %d, none open: a root' % value, changed(FRESH, ROOTED, value), b'<r/>', 0 if value == 0 else 26)
-        fits('echo %d in a set in use' % value, changed(base, frame_at(1, FIRST_SET + 4), value))
-        fits('echo %d in a set above those in use' % value, changed(base, frame_at(1, FIRST_SET + 5 * 4 + 4), value))
-        fits('echo %d in a frame above the top' % value, changed(base, frame_at(2, FIRST_SET + 4), value))
+        fits('echo %d in a set in use' % value, changed(base, frame_at(1, FIRST_SET + ATTRIBUTES), value))
+        fits('echo %d in a set above those in use' % value, changed(base, frame_at(1, FIRST_SET + SET_BYTES * 4 + ATTRIBUTES), value))
+        fits('echo %d in a frame above the top' % value, changed(base, frame_at(2, FIRST_SET + ATTRIBUTES), value))
 
     number = lambda n: struct.pack('<Q', n)
     for count in (0, 1, LIMIT - 100, LIMIT - 2, LIMIT - 1, LIMIT):
@@ -1121,7 +1144,7 @@ def states():
     for closing in (0, 20, 21, 22, 23, 24, 25, 26, 27, 30):
         fits('closing number %d' % closing, changed(base, CLOSING, closing), number=closing or 28)
     fits('closing number 255: open', changed(base, CLOSING, 255), number=0)
-    unfit('closed by 0, and an attribute over 15', changed(changed(base, CLOSING, 0), 2, 16))
+    unfit('closed by 0, and an attribute over %d' % HIGHEST, changed(changed(base, CLOSING, 0), 2, over))
     unfit('closed by 23, and a count over the limit', changed(changed(base, CLOSING, 23), COUNT, *number(LIMIT + 1)))
     unfit('closed by 27, and a place that is not there', changed(changed(base, CLOSING, 27), frame_at(1, PLACE), 3))
 
@@ -1136,8 +1159,8 @@ def states():
     high = tall(32).bytes()
     case('32 open', deep(), '</a>', 16, state=high, ended=False)
     case('33 open', deep(), '</a>', 29, state=changed(high, OPENED, 33))
-    case('32 open, the last has a value of 16', deep(), '</a>', 29, state=changed(high, frame_at(31, FIRST_SET), 16))
-    case('31 open, the one above has', deep(), '</a>', 16, ended=False, state=changed(changed(high, frame_at(31, FIRST_SET), 16), OPENED, 31))
+    case('32 open, the last has a value of %d' % over, deep(), '</a>', 29, state=changed(high, frame_at(31, FIRST_SET), over))
+    case('31 open, the one above has', deep(), '</a>', 16, ended=False, state=changed(changed(high, frame_at(31, FIRST_SET), over), OPENED, 31))
 
     for production in (1, 2, 3, 64, 255):
         unfit('the root is production %d' % production, changed(lone, frame_at(0), production), b'</r>')
@@ -1158,16 +1181,16 @@ def states():
     fits('p at its start, with one set', changed(changed(base, frame_at(1, PLACE), 0), frame_at(1, SETS), 1), number=0)
     for k, given in ((0, base), (1, base), (0, lone), (1, inner), (3, inner)):
         right = given[frame_at(k, SETS)]
-        for sets in sorted({0, 1, right - 1, right + 1, 12, 13, 14, 255} - {right}):
+        for sets in sorted({0, 1, right - 1, right + 1, SETS_KEPT - 1, SETS_KEPT, SETS_KEPT + 1, 255} - {right}):
             unfit('frame %d has %d sets, not %d' % (k, sets, right), changed(given, frame_at(k, SETS), sets))
     unfit('q at its second atom, whose node lies deeper by one, with the sets of the first', changed(changed(inner, frame_at(1, PLACE), 2), OPENED, 2))
 
     for k, used in ((0, 4), (1, 4)):
-        for j in range(13):
-            for a in (0, 3):
-                at = frame_at(k, FIRST_SET + 5 * j + a)
-                (unfit if j < used else fits)('frame %d, set %d of %d in use, attribute %d is 16' % (k, j, used, a), changed(base, at, 16))
-        fits('frame %d, all values of set 1 are 15' % k, changed(base, frame_at(k, FIRST_SET + 5), 15, 15, 15, 15))
+        for j in range(SETS_KEPT):
+            for a in (0, 3, 4, ATTRIBUTES - 1):
+                at = frame_at(k, FIRST_SET + SET_BYTES * j + a)
+                (unfit if j < used else fits)('frame %d, set %d of %d in use, attribute %d is %d' % (k, j, used, a, over), changed(base, at, over))
+        fits('frame %d, all values of set 1 are %d' % (k, HIGHEST), changed(base, frame_at(k, FIRST_SET + SET_BYTES), *ATTRIBUTES * [HIGHEST]))
     for k in (2, 31):
         fits('frame %d, above the top, is all 255' % k, changed(base, frame_at(k), *[255] * FRAME_BYTES), number=0)
     fits('every frame above the top is all 255', base[:frame_at(2)] + (STATE_BYTES - frame_at(2)) * b'\xff', number=0)
@@ -1183,8 +1206,8 @@ def states():
     bad += [(n, sheets.DAMAGE[n](Sheet(['r', 'a'], [(0, 0, 'n1.n2'), (1, 1, 'n1*'), (2, 1, ''), (3, 0, '')]))) for n in range(2, 10)]
     bad += [(8, Sheet(['a', 'b'], [(0, 0, ''), (1, 1, ''), (1, 1, '')])), (9, sheets.over_ab('(n1*)*'))]
     for number, other in bad:
-        for what, given in (('fresh', FRESH), ('unfit', changed(FRESH, 0, 16)), ('closed', changed(base, CLOSING, 22)), ('no state', b''), ('a long one', base + b'\1')):
-            case('a sheet of %d, a state that is %s' % (number, what), other, '<a/>', number, '', struct.unpack('<Q', (given + bytes(13))[5:13])[0], 0, state=given)
+        for what, given in (('fresh', FRESH), ('unfit', changed(FRESH, 0, HIGHEST + 1)), ('closed', changed(base, CLOSING, 22)), ('no state', b''), ('a long one', base + b'\1')):
+            case('a sheet of %d, a state that is %s' % (number, what), other, '<a/>', number, '', count_in(given), 0, state=given)
     end_group('states')
 
 

@@ -19,7 +19,7 @@ use Rattle.runs.specs.Options.{bind}
 use Rattle.runs.specs.Execute.{Effect}
 use Rattle.runs.specs.Visits.{programsOf, performed, tagName, whileOn, Env as Running, Saved as Kept, saved, visited, echoed, returned}
 use Rattle.runs.specs.Acts.{letter-read, Store, innermost, without-node, without-element, act}
-use Rattle.runs.specs.Machine.{Open, inside, outer, at-start, Configuration as Run}
+use Rattle.runs.specs.Machine.{Open, inside, outer, at-start, most, Configuration as Run}
 use Rattle.calls.specs.Limits.{silent}
 use Rattle.state.specs.Changes.{topOf, started, pushed, popped, Restored, restored, withEnv}
 use Rattle.state.specs.Meaning.{meaningOf, opensOf, Fits, Shaped}
@@ -72,7 +72,7 @@ unfolding meaningOf
 out-empty z x o p d r P = P
 
 -- ---- a start tag
-entered-means : (z : State) (x : Effect) (q : ℕ) (o : Piece) → Shaped z → z .depth < 32 →
+entered-means : (z : State) (x : Effect) (q : ℕ) (o : Piece) → Shaped z → z .depth < most →
     meaningOf (pushed (after z x) (started q (record { values = x .values; echo = z .echo })) .state) ≡
     silent (record {
       control = inside (at-start q) (opensOf (meaningOf z .control));
@@ -107,7 +107,7 @@ module _ (s : List ℕ) (q : ℕ) (kept : List ℕ) (z : State) (p : Pen) (v : A
         few : r .state .count ≤ z .count + 1
         few = omega (arith, same-count, G .count)
 
-        done : (a : Sheet) → IsSheet s a → Shaped z → z .depth < 32 → (x : Effect) → v .state .values ≡ x .values → v .state .echo ≡ x .echo → PutAs (p .write) (p .lent) (p .at) (render (x .printed)) d (v .at) →
+        done : (a : Sheet) → IsSheet s a → Shaped z → z .depth < most → (x : Effect) → v .state .values ≡ x .values → v .state .echo ≡ x .echo → PutAs (p .write) (p .lent) (p .at) (render (x .printed)) d (v .at) →
             Done (inside (at-start q) (opensOf (meaningOf z .control))) (record { kept = (saved (meaningOf z .store .env) (echoed (start (tagName a q)) (visited (meaningOf z .store .env) x)) ∷ []) ∷ meaningOf z .store .kept; env = echoed (start (tagName a q)) (visited (meaningOf z .store .env) x) }) z p r d₂
         done a y h deep x e f P =
             let k : Saved = record { values = x .values; echo = z .echo } in
@@ -123,7 +123,7 @@ module _ (s : List ℕ) (q : ℕ) (kept : List ℕ) (z : State) (p : Pen) (v : A
               written = out-empty z x (whileOn (x .echo) (start (tagName a q))) p d₂ (r .at) (put-both p x (whileOn (x .echo) (start (tagName a q))) d d₂ (v .at) (r .at) P (subst (λ (b : Bool). PutAs (p .write) d (v .at) (render (whileOn b (start (tagName a q)))) d₂ (r .at)) f (E .right a y)));
             }
 
-        go : (a : Sheet) → IsSheet s a → Shaped z → z .depth < 32 → (o : Option Effect) → Came o p (v .ok) (v .at) (record { values = v .state .values; echo = v .state .echo }) d →
+        go : (a : Sheet) → IsSheet s a → Shaped z → z .depth < most → (o : Option Effect) → Came o p (v .ok) (v .at) (record { values = v .state .values; echo = v .state .echo }) d →
             Comes (bind (bind (bind o (λ x. some (visited (meaningOf z .store .env) x))) (λ w. some (echoed (start (tagName a q)) w))) (λ w. some (record { kept = (saved (meaningOf z .store .env) w ∷ []) ∷ meaningOf z .store .kept; env = w })))
             (inside (at-start q) (opensOf (meaningOf z .control))) z p r d₂
         go a y h deep none c = absurd (true≢false (sym on ∙ c))

@@ -27,6 +27,7 @@ use Rattle.runs.specs.Machine.{Open, Control, inside, Configuration as Run}
 use Rattle.runs.specs.Nodes.{only-if, through-nodes}
 use Rattle.runs.proofs.Frame.{acts-frame}
 use Rattle.calls.specs.Limits.{silent}
+use Rattle.state.specs.Bounds.{mostSets}
 use Rattle.state.specs.Changes.{bareFrame, lastOf, putLast, keeping, topOf, withTop, saving, restored, withEnv}
 use Rattle.state.specs.Meaning.{meaningOf, Shaped}
 use Rattle.state.specs.declared.Saved.{Saved}
@@ -45,7 +46,7 @@ use Rattle.acts.specs.Visited.{VisitedAs, Room, setsAfter, NodeAs, Brack
 use Rattle.acts.proofs.Acting.{after, state-after, back, back-env, back-shaped, recalls}
 
 -- ---- an opening bracket
-opened-means : (z : State) (x : Effect) (o : Open) (os : List Open) → Shaped z → meaningOf z .control ≡ inside o os → topOf z .«open» < 13 →
+opened-means : (z : State) (x : Effect) (o : Open) (os : List Open) → Shaped z → meaningOf z .control ≡ inside o os → topOf z .«open» < mostSets →
     meaningOf (saving (after z x) (record { values = x .values; echo = z .echo })) ≡
     silent (record {
       control = meaningOf z .control;
@@ -62,11 +63,11 @@ top-put z f h deep = by (z .depth) deep (omega arith)
     by zero p k = absurd (omega arith)
     by (suc n) p k = getD-set-same (z .frames) n f bareFrame (omega arith)
 
-sets-kept : (f : Frame) (k : Saved) → f .«open» < 13 → keeping f k .«open» ≡ f .«open» + 1
+sets-kept : (f : Frame) (k : Saved) → f .«open» < mostSets → keeping f k .«open» ≡ f .«open» + 1
 unfolding keeping
-sets-kept f k p = rw (lt-ltb (f .«open») 13 p)
+sets-kept f k p = rw (lt-ltb (f .«open») mostSets p)
 
-saved-sets : (z : State) (k : Saved) → Shaped z → 0 < z .depth → topOf z .«open» < 13 → topOf (saving z k) .«open» ≡ topOf z .«open» + 1
+saved-sets : (z : State) (k : Saved) → Shaped z → 0 < z .depth → topOf z .«open» < mostSets → topOf (saving z k) .«open» ≡ topOf z .«open» + 1
 saved-sets z k h deep n = ap (λ (f : Frame). f .«open») (top-put z (keeping (topOf z) k) h deep) ∙ sets-kept (topOf z) k n
 
 restored-sets : (z : State) → Shaped z → 0 < z .depth → topOf (restored z .state) .«open» ≡ topOf z .«open» - 1
@@ -104,13 +105,13 @@ module _ (s : List ℕ) (q i : ℕ) (kept : List ℕ) (z : State) (p : Pen) (v :
         right = λ a y h o os e n. go h o os e n (performed a [] (programsOf (a .rules) q i .first-visit) (z .values) (z .echo)) (G .right a y);
       }
     where
-      sets-are : Shaped z → 0 < z .depth → topOf z .«open» < 13 → topOf st .«open» ≡ topOf z .«open» + 1
+      sets-are : Shaped z → 0 < z .depth → topOf z .«open» < mostSets → topOf st .«open» ≡ topOf z .«open» + 1
       sets-are h deep n =
           let k : Saved = record { values = v .state .values; echo = z .echo } in
           ap (λ (u : State). topOf u .«open») (is ∙ ap (λ (u : State). saving u k) (G .state-is))
           ∙ saved-sets (withEnv z (v .state .values) (v .state .echo) (suc (z .count))) k (shaped-env z (v .state .values) (v .state .echo) (suc (z .count)) h) deep n
 
-      done : Shaped z → (o : Open) (os : List Open) → meaningOf z .control ≡ inside o os → topOf z .«open» < 13 → (x : Effect) → v .state .values ≡ x .values → v .state .echo ≡ x .echo →
+      done : Shaped z → (o : Open) (os : List Open) → meaningOf z .control ≡ inside o os → topOf z .«open» < mostSets → (x : Effect) → v .state .values ≡ x .values → v .state .echo ≡ x .echo →
           PutAs (p .write) (p .lent) (p .at) (render (x .printed)) d (v .at) → Comes (opening-comes (some x)) (meaningOf z .control) z p (record { ok = true; at = v .at; state = st }) d
       done h o os e n x vs echo-is P =
           let k : Saved = record { values = x .values; echo = z .echo } in
@@ -123,7 +124,7 @@ module _ (s : List ℕ) (q i : ℕ) (kept : List ℕ) (z : State) (p : Pen) (v :
             written = P;
           }
 
-      go : Shaped z → (o : Open) (os : List Open) → meaningOf z .control ≡ inside o os → topOf z .«open» < 13 → (t : Option Effect) → Came t p (v .ok) (v .at) (record { values = v .state .values; echo = v .state .echo }) d →
+      go : Shaped z → (o : Open) (os : List Open) → meaningOf z .control ≡ inside o os → topOf z .«open» < mostSets → (t : Option Effect) → Came t p (v .ok) (v .at) (record { values = v .state .values; echo = v .state .echo }) d →
           Comes (opening-comes t) (meaningOf z .control) z p (record { ok = true; at = v .at; state = st }) d
       go h o os e n none c = absurd (true≢false (sym on ∙ c))
       go h o os e n (some x) c = done h o os e n x (c .1) (c .2) (c .3)

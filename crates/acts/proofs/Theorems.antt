@@ -13,7 +13,7 @@ use Rattle.sheet.specs.Sheet.{Sheet, IsSheet}
 use Rattle.output.specs.Escape.{render}
 use Rattle.output.proofs.Writing.{put-one-outcome}
 use Rattle.runs.specs.Acts.{start-tag, end-tag, letter-read, bracket-acts, Store, act, acts}
-use Rattle.runs.specs.Machine.{Open, Control, inside, outer, at-start}
+use Rattle.runs.specs.Machine.{Open, Control, inside, outer, at-start, most}
 use Rattle.runs.specs.Nodes.{through-nodes}
 use Rattle.state.specs.Changes.{topOf}
 use Rattle.state.specs.Meaning.{meaningOf, opensOf, Shaped}
@@ -45,7 +45,7 @@ module _ (z : State) (p : Pen) (r t : Acted) (d e : List ℕ) where
       record { ok = x .ok ∙ sym (y .ok); at = λ u. w .1; means = λ u. x .means ∙ sym (y .means); closed = λ u. x .closed ∙ sym (y .closed); memory = λ u. w .0 }
 
   module _ (s : List ℕ) (q : ℕ) (a : Sheet) (y : IsSheet s a) (h : Shaped z) where
-    pub one-answer-enter : EntersAs s q z p r d → EntersAs s q z p t e → z .depth < 32 → Agree p r t d e
+    pub one-answer-enter : EntersAs s q z p r d → EntersAs s q z p t e → z .depth < most → Agree p r t d e
     one-answer-enter R T deep = one-outcome (act a (start-tag q) (meaningOf z .store)) (inside (at-start q) (opensOf (meaningOf z .control))) (R .dry) (T .dry) (R .right a y h deep) (T .right a y h deep)
 
     module _ (o : Open) (os : List Open) (k : meaningOf z .control ≡ inside o os) where

@@ -15,7 +15,7 @@ use Rattle.visits.specs.Ran.{mostPrinted}
 use Rattle.ways.specs.Held.{codes}
 use Rattle.few.specs.Strings.{mostBrackets}
 use Rattle.runs.specs.Acts.{start-tag, end-tag, letter-read, bracket-acts, Store, act, acts}
-use Rattle.runs.specs.Machine.{Open, Control, inside, outer, at-start}
+use Rattle.runs.specs.Machine.{Open, Control, inside, outer, at-start, most}
 use Rattle.runs.specs.Nodes.{through-nodes}
 use Rattle.calls.specs.Limits.{silent}
 use Rattle.state.specs.Changes.{topOf}
@@ -55,7 +55,7 @@ pub record EntersAs (s : List ℕ) (q : ℕ) (z : State) (p : Pen) (r : Acted) (
   pub reach : r .at ≤ p .at + visitReach
   pub count : r .state .count ≤ z .count + 1
   pub dry : p .write ≡ false → d ≡ p .lent
-  pub right : (a : Sheet) → IsSheet s a → Shaped z → z .depth < 32 →
+  pub right : (a : Sheet) → IsSheet s a → Shaped z → z .depth < most →
       Comes (act a (start-tag q) (meaningOf z .store)) (inside (at-start q) (opensOf (meaningOf z .control))) z p r d
 
 -- an end tag of production q, of which a set is kept

@@ -19,6 +19,7 @@ use Rattle.ways.specs.Held.{codeOf}
 use Rattle.runs.specs.Visits.{programsOf, performed, tagName, whileOn}
 use Rattle.runs.specs.Acts.{bracket-act, act}
 use Rattle.runs.specs.Machine.{Open, inside}
+use Rattle.state.specs.Bounds.{mostSets}
 use Rattle.state.specs.Changes.{topOf, withEnv}
 use Rattle.state.specs.Meaning.{meaningOf, Shaped}
 use Rattle.state.specs.declared.State.{State}
@@ -64,7 +65,7 @@ pub record EchoedAs (s : List ℕ) (q : ℕ) (ending on : Bool) (p : Pen) (r : �
 
 -- a bracket needs room for a set, or a set; and how many sets are in use after it
 abbrev pub Room : Bracket → ℕ → Type 0
-Room (opening i) n = n < 13
+Room (opening i) n = n < mostSets
 Room (closing i) n = 0 < n
 
 abbrev pub setsAfter : Bracket → ℕ → ℕ

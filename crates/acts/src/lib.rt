@@ -7,6 +7,8 @@ ghost use Rattle.text.specs.Chars.{Char};
 ghost use Rattle.expressions.specs.Words.{opening, closing};
 ghost use Rattle.layout.specs.LaidOut.{LaidOut};
 ghost use Rattle.sheet.specs.Defect.{WellFormed};
+ghost use Rattle.runs.specs.Machine.{most};
+ghost use Rattle.state.specs.Bounds.{stackWidth};
 ghost use Rattle.live.specs.Live.{full, SameBelow};
 ghost use Rattle.few.specs.Strings.{mostBrackets};
 ghost use Rattle.acts.specs.Seen.{seen};
@@ -16,6 +18,7 @@ use layout::Layout;
 use live::Live;
 use state::Frame;
 use state::Saved;
+use state::State;
 
 // A field that names no program.
 const NONE: usize = 65535;
@@ -57,7 +60,7 @@ fn visit(
     q: usize,
     i: usize,
     again: bool,
-    kept: [u8; 4],
+    kept: [u8; State::ATTRIBUTES],
     z: Live,
     out: &mut [u8],
     at: usize,
@@ -126,13 +129,13 @@ pub fn enter(
     requires { ⌜ at ≤ 2 ^ 59 ⌝ }
     requires { ⌜ z .count ≤ 2 ^ 63 ⌝ }
     requires { ⌜ WellFormed (now s) ⌝ }
-    requires { ⌜ z .depth < 32 ⌝ }
-    requires { ⌜ 2176 ≤ length (now stack) ⌝ }
+    requires { ⌜ z .depth < most ⌝ }
+    requires { ⌜ stackWidth ≤ length (now stack) ⌝ }
     ensures { λ r. ⌜ EntersAs (now (s .entry)) q (full z (now (stack .entry))) (record { write = write; lent = now (out .entry); at = at }) (seen r (now (stack .exit))) (now (out .exit)) ⌝ }
     ensures { λ _. ⌜ SameBelow z (now (stack .entry)) (now (stack .exit)) ⌝ }
     ensures { λ _. ⌜ length (now (stack .exit)) ≡ length (now (stack .entry)) ⌝ }
 {
-    let nothing = [0u8; 4];
+    let nothing = [0u8; State::ATTRIBUTES];
     let visited = visit(s, l, q, 0, false, nothing, z, out, at, write);
     if !visited.ok {
         return visited;
@@ -169,7 +172,7 @@ pub fn leave(
     requires { ⌜ at ≤ 2 ^ 59 ⌝ }
     requires { ⌜ z .count ≤ 2 ^ 63 ⌝ }
     requires { ⌜ WellFormed (now s) ⌝ }
-    requires { ⌜ z .depth ≤ 32 ⌝ }
+    requires { ⌜ z .depth ≤ most ⌝ }
     ensures { λ r. ⌜ LeavesAs (now (s .entry)) q (full z (now (stack .entry))) (record { write = write; lent = now (out .entry); at = at }) (seen r (now (stack .entry))) (now (out .exit)) ⌝ }
 {
     let taken = z.restore();
@@ -229,7 +232,7 @@ fn open_node(
     requires { ⌜ WellFormed (now s) ⌝ }
     ensures { λ r. ⌜ ((b : List ℕ) → NodeAs (now (s .entry)) q (opening i) (full z b) (record { write = write; lent = now (out .entry); at = at }) (seen r b) (now (out .exit))) ⌝ }
 {
-    let nothing = [0u8; 4];
+    let nothing = [0u8; State::ATTRIBUTES];
     let visited = visit(s, l, q, i, false, nothing, z, out, at, write);
     if !visited.ok {
         return visited;

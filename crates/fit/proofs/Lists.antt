@@ -6,6 +6,7 @@ use Prim.Native.Nat.{ℕ, zero, suc, _+_, _<_, _≤_}
 use native.Mathlib.Omega.{arith}
 use lib.ListN.{length, getD, take, drop}
 use lib.Seq.{getD-take}
+use Rattle.programs.specs.Bounds.{bounds}
 use Rattle.programs.specs.Limits.{Value}
 use Rattle.state.specs.Meaning.{Every, none, more}
 use Rattle.state.proofs.Laws.{all-more}
@@ -24,10 +25,10 @@ pub all-first : {X : Type 0} {P : X → Type 0} (n : ℕ) (l : List X) (i : ℕ)
 all-first {P = P} n l i d h b a = subst P (getD-take n l i d h) (all-at (take n l) i d (omega (arith, length-first n l b)) a)
 
 -- a value over the highest, and one that is not
-pub value-over : (l : List ℕ) (i d : ℕ) → i < length l → 15 < getD l i d → Every Value l → ⊥
+pub value-over : (l : List ℕ) (i d : ℕ) → i < length l → bounds .highest-value < getD l i d → Every Value l → ⊥
 value-over l i d h o a = omega (arith, o, all-at l i d h a)
 
-pub value-more : (l : List ℕ) (i d : ℕ) → i < length l → Every Value (take i l) → getD l i d ≤ 15 → Every Value (take (i + 1) l)
+pub value-more : (l : List ℕ) (i d : ℕ) → i < length l → Every Value (take i l) → Value (getD l i d) → Every Value (take (i + 1) l)
 value-more l i d h a v = all-more Value l i d h a v
 
 pub drop-past : {X : Type 0} (i : ℕ) (l : List X) → length l ≤ i → drop i l ≡ []

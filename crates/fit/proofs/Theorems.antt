@@ -22,11 +22,13 @@ use Rattle.runs.specs.Lookup.{produces}
 use Rattle.runs.specs.Nodes.{openNodes}
 use Rattle.runs.proofs.Nodes.{open-few}
 use Rattle.runs.specs.Machine.{most}
+use Rattle.runs.specs.Visits.{attributes}
 use Rattle.state.specs.Bounds.{mostSets, frameWidth, headWidth}
 use Rattle.state.specs.Changes.{freshState}
 use Rattle.state.specs.Meaning.{Every, none, more, Fits, Shaped}
 use Rattle.state.specs.Bytes.{frameAt, stateFrom, SizedFrame, Sized}
 use Rattle.state.proofs.Gathered.{length-gathered}
+use Rattle.state.proofs.Tidy.{all-alike}
 use Rattle.state.proofs.Widths.{all-read, frame-read}
 use Rattle.state.specs.declared.Frame.{Frame}
 use Rattle.state.specs.declared.State.{State}
@@ -75,7 +77,7 @@ fresh-fit g n =
       few = omega arith;
       closing = inl refl;
       count = omega arith;
-      values = more {x = 0} (omega arith) (more {x = 0} (omega arith) (more {x = 0} (omega arith) (more {x = 0} (omega arith) none)));
+      values = all-alike attributes 0 (omega arith);
       frames = tt;
     }
 

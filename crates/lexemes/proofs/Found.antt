@@ -9,6 +9,7 @@ use native.Mathlib.Decide.{decLe, ℕ-discrete}
 use lib.ListN.{length, take, drop, getD, take-append-drop}
 use lib.Seq.{take-take}
 use Rattle.text.specs.Names.{nameByte}
+use Rattle.programs.specs.Bounds.{bounds, attributesIn, valuesIn}
 use Rattle.notation.specs.Tokens.{Mark, plain, left, right, Token, nonterminal, value, attribute, name, start-tag, end-tag, empty-tag, string, word, Word, CHAR, ECHO, ECHO-OFF, REJECT, PRINT, IF, THEN, ELSE, BEGIN, END, AND, OR, NOT, sign, Sign, DEFINED, ASSIGNED, OPEN, CLOSE, BRACE, UNBRACE, DOT, BAR, STAR, SEMICOLON, EQUALS, decimal, all-in-quotes, bytesOf, TagName}
 use Rattle.notation.specs.Spelled.{wordByte, joins, MayFollow}
 use Rattle.lexing.specs.declared.Tried.{Tried}
@@ -223,9 +224,9 @@ nonterminal-only (string cs) h = absurd (omega (arith, h .kind))
 nonterminal-only (word w) h = absurd (omega (arith, h .kind, word-range w))
 nonterminal-only (sign s) h = absurd (omega (arith, h .kind, sign-range s))
 
-value-only : (t : Token) → OfKind 1 t → As value (λ n. n < 16) t
+value-only : (t : Token) → OfKind 1 t → As value (λ n. n < valuesIn bounds) t
 value-only (nonterminal n) h = absurd (omega (arith, h .kind))
-value-only (value v) h = (v, h .fit, refl)
+value-only (value v) h = (v, omega (arith, h .fit), refl)
 value-only (attribute m a) h = absurd (omega (arith, h .kind, mark-range m))
 value-only (name n) h = absurd (omega (arith, h .kind))
 value-only (start-tag n) h = absurd (omega (arith, h .kind))
@@ -235,10 +236,10 @@ value-only (string cs) h = absurd (omega (arith, h .kind))
 value-only (word w) h = absurd (omega (arith, h .kind, word-range w))
 value-only (sign s) h = absurd (omega (arith, h .kind, sign-range s))
 
-attribute-only : (l : Mark) (t : Token) → OfKind (markNumber l) t → As (attribute l) (λ n. n < 4) t
+attribute-only : (l : Mark) (t : Token) → OfKind (markNumber l) t → As (attribute l) (λ n. n < attributesIn bounds) t
 attribute-only l (nonterminal n) h = absurd (omega (arith, h .kind, mark-range l))
 attribute-only l (value v) h = absurd (omega (arith, h .kind, mark-range l))
-attribute-only l (attribute m a) h = (a, h .fit, ap (λ z. attribute z a) (one-mark m l (h .kind)))
+attribute-only l (attribute m a) h = (a, omega (arith, h .fit), ap (λ z. attribute z a) (one-mark m l (h .kind)))
 attribute-only l (name n) h = absurd (omega (arith, h .kind, mark-range l))
 attribute-only l (start-tag n) h = absurd (omega (arith, h .kind, mark-range l))
 attribute-only l (end-tag n) h = absurd (omega (arith, h .kind, mark-range l))
@@ -320,13 +321,13 @@ pub nonterminal-read : (k : ℕ) (x : List ℕ) (r : Tried) → k ≡ 0 → Read
 nonterminal-read k x r e h = subst (λ z. TriedIs (OfKind z) x r) (sym e) (read-token (OfKind 0) (Numbered (110 ∷ []) 64) (stopsAt true)
     (number-sort 0 64 (110 ∷ []) nonterminal nonterminal-only (λ n l. record { kind = refl; fit = l }) (λ n. refl) (λ n. refl) (λ n b. refl)) x r h)
 
-pub value-read : (k : ℕ) (x : List ℕ) (r : Tried) → k ≡ 1 → ReadIs (Numbered [] 16) (stopsAt true) x r → TriedIs (OfKind k) x r
-value-read k x r e h = subst (λ z. TriedIs (OfKind z) x r) (sym e) (read-token (OfKind 1) (Numbered [] 16) (stopsAt true)
-    (number-sort 1 16 [] value value-only (λ n l. record { kind = refl; fit = l }) (λ n. refl) (λ n. refl) (λ n b. refl)) x r h)
+pub value-read : (k : ℕ) (x : List ℕ) (r : Tried) → k ≡ 1 → ReadIs (Numbered [] (valuesIn bounds)) (stopsAt true) x r → TriedIs (OfKind k) x r
+value-read k x r e h = subst (λ z. TriedIs (OfKind z) x r) (sym e) (read-token (OfKind 1) (Numbered [] (valuesIn bounds)) (stopsAt true)
+    (number-sort 1 (valuesIn bounds) [] value value-only (λ n l. record { kind = refl; fit = omega (arith, l) }) (λ n. refl) (λ n. refl) (λ n b. refl)) x r h)
 
-pub attribute-read : (m : Mark) (a : List ℕ) (k : ℕ) (x : List ℕ) (r : Tried) → k ≡ markNumber m → ((n : ℕ) → bytesOf (attribute m n) ≡ a ++ decimal n) → ReadIs (Numbered a 4) (stopsAt true) x r → TriedIs (OfKind k) x r
-attribute-read m a k x r e bytes h = subst (λ z. TriedIs (OfKind z) x r) (sym e) (read-token (OfKind (markNumber m)) (Numbered a 4) (stopsAt true)
-    (number-sort (markNumber m) 4 a (attribute m) (attribute-only m) (λ n l. record { kind = refl; fit = l }) bytes (λ n. refl) (λ n b. refl)) x r h)
+pub attribute-read : (m : Mark) (a : List ℕ) (k : ℕ) (x : List ℕ) (r : Tried) → k ≡ markNumber m → ((n : ℕ) → bytesOf (attribute m n) ≡ a ++ decimal n) → ReadIs (Numbered a (attributesIn bounds)) (stopsAt true) x r → TriedIs (OfKind k) x r
+attribute-read m a k x r e bytes h = subst (λ z. TriedIs (OfKind z) x r) (sym e) (read-token (OfKind (markNumber m)) (Numbered a (attributesIn bounds)) (stopsAt true)
+    (number-sort (markNumber m) (attributesIn bounds) a (attribute m) (attribute-only m) (λ n l. record { kind = refl; fit = omega (arith, l) }) bytes (λ n. refl) (λ n b. refl)) x r h)
 
 pub name-read : (k : ℕ) (x : List ℕ) (r : Tried) → k ≡ 5 → ReadIs NameSpelling nameByte x r → TriedIs (OfKind k) x r
 name-read k x r e h = subst (λ z. TriedIs (OfKind z) x r) (sym e) (read-token (OfKind 5) NameSpelling nameByte (record {

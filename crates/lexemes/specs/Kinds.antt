@@ -5,6 +5,7 @@ use mathlib.Core.List.{List}
 use Prim.Native.Nat.{ℕ, _+_, _<_}
 use lib.ListN.{length, getD}
 use Rattle.text.specs.Characters.{utf8s}
+use Rattle.programs.specs.Limits.{Attribute, Value}
 use Rattle.notation.specs.Tokens.{Mark, plain, left, right, Token, nonterminal, value, attribute, name, start-tag, end-tag, empty-tag, string, word, Word, CHAR, ECHO, ECHO-OFF, REJECT, PRINT, IF, THEN, ELSE, BEGIN, END, AND, OR, NOT, sign, Sign, DEFINED, ASSIGNED, OPEN, CLOSE, BRACE, UNBRACE, DOT, BAR, STAR, SEMICOLON, EQUALS, bytesOf, TagName, StringOf}
 use Rattle.lexing.specs.declared.Tried.{Tried}
 use Rattle.lexemes.specs.declared.Lexeme.{Lexeme}
@@ -74,8 +75,8 @@ numberOf (sign s) = 0
 -- numbers, names and strings that a text may have
 abbrev pub TokenFits : Token → Type 0
 TokenFits (nonterminal n) = n < 64
-TokenFits (value v) = v < 16
-TokenFits (attribute m a) = a < 4
+TokenFits (value v) = Value v
+TokenFits (attribute m a) = Attribute a
 TokenFits (name n) = TagName n
 TokenFits (start-tag n) = TagName n
 TokenFits (end-tag n) = TagName n

@@ -12,10 +12,10 @@ fn varied(x: &[u8], k: usize) -> lexing::Tried
 {
     match k {
         0 => lexing::numbered(x, b"n", 64),
-        1 => lexing::numbered(x, b"", 16),
-        2 => lexing::numbered(x, b"$.a", 4),
-        3 => lexing::numbered(x, b"$[.a", 4),
-        4 => lexing::numbered(x, b"$].a", 4),
+        1 => lexing::numbered(x, b"", programs::VALUES),
+        2 => lexing::numbered(x, b"$.a", programs::ATTRIBUTES),
+        3 => lexing::numbered(x, b"$[.a", programs::ATTRIBUTES),
+        4 => lexing::numbered(x, b"$].a", programs::ATTRIBUTES),
         5 => lexing::name(x),
         6 => lexing::tag(x, b"<", b">"),
         7 => lexing::tag(x, b"</", b">"),

@@ -10,7 +10,8 @@ use native.Mathlib.Nat.{add-assoc, eq-or-lt-of-le}
 use lib.ListN.{length, getD, drop}
 use Rattle.text.specs.Chars.{Starts}
 use Rattle.programs.specs.Program.{Operand, constant, current, recalled, operandBytes, Condition, equal, negated, both, either, conditionBytes, Statement, become, copy, recall, reject, print-start, print-end, print-text, echo, branch, echoByte, statementBytes, Program, done, step, programBytes}
-use Rattle.programs.specs.Limits.{OperandFits, ConditionFits, StatementFits, StatementsFit, Printable, Visit, first, second, operandAllowed, conditionAllowed, statementAllowed, allowed, conditionNesting, statementNesting, nesting}
+use Rattle.programs.specs.Bounds.{bounds}
+use Rattle.programs.specs.Limits.{Attribute, Value, OperandFits, ConditionFits, StatementFits, StatementsFit, Printable, Visit, first, second, operandAllowed, conditionAllowed, statementAllowed, allowed, conditionNesting, statementNesting, nesting}
 use Rattle.programs.specs.Parsed.{ReadAs, whole, none, OperandAt, ConditionAt, StatementAt, PlainAt, ListAt, ConditionWithin, StatementWithin, ListWithin}
 use Rattle.programs.specs.declared.Parsed.{Parsed}
 use Rattle.programs.specs.declared.Parsed.the-variants.{Whole, Bad}
@@ -33,7 +34,7 @@ lists tags strings room = record { Thing = Program; bytes = programBytes; Good =
 module _ (s : List ℕ) (i : ℕ) where
   -- what the bytes of an operand that fits are
   abbrev pub OperandBytes : Type 0
-  OperandBytes = (i + 1 < length s) × (getD s i 0 ≤ 2) × (getD s i 0 ≡ 0 → getD s (i + 1) 0 ≤ 15) × ((getD s i 0 ≡ 0 → ⊥) → getD s (i + 1) 0 ≤ 3)
+  OperandBytes = (i + 1 < length s) × (getD s i 0 ≤ 2) × (getD s i 0 ≡ 0 → Value (getD s (i + 1) 0)) × ((getD s i 0 ≡ 0 → ⊥) → Attribute (getD s (i + 1) 0))
 
   operand-bytes : (x : Operand) → OperandFits x → Starts (drop i s) (operandBytes x) → OperandBytes
   operand-bytes (constant v) g st =
@@ -193,13 +194,13 @@ module _ (s : List ℕ) (i : ℕ) (h : i < length s) (tags : ℕ) (strings : Lis
       let q = byte-of s i (k ∷ a ∷ b ∷ []) st 2 (omega arith) in
       (q .0, omega arith, omega arith)
 
-  pub no-become : getD s i 0 ≡ 1 → (Two 3 15 s i → ⊥) → PlainAt tags strings s i Bad
+  pub no-become : getD s i 0 ≡ 1 → (Two (bounds .highest-attribute) (bounds .highest-value) s i → ⊥) → PlainAt tags strings s i Bad
   no-become e f = no-such (λ t g st. let w = statement-of t st e in let h = rw (w .2) at g in f (two-of 1 (w .0) (w .1) (rw (w .2) at st) (h .0) (h .1)))
 
-  pub no-copy : getD s i 0 ≡ 2 → (Two 3 3 s i → ⊥) → PlainAt tags strings s i Bad
+  pub no-copy : getD s i 0 ≡ 2 → (Two (bounds .highest-attribute) (bounds .highest-attribute) s i → ⊥) → PlainAt tags strings s i Bad
   no-copy e f = no-such (λ t g st. let w = statement-of t st e in let h = rw (w .2) at g in f (two-of 2 (w .0) (w .1) (rw (w .2) at st) (h .0) (h .1)))
 
-  pub no-recall : getD s i 0 ≡ 3 → (Two 3 3 s i → ⊥) → PlainAt tags strings s i Bad
+  pub no-recall : getD s i 0 ≡ 3 → (Two (bounds .highest-attribute) (bounds .highest-attribute) s i → ⊥) → PlainAt tags strings s i Bad
   no-recall e f = no-such (λ t g st. let w = statement-of t st e in let h = rw (w .2) at g in f (two-of 3 (w .0) (w .1) (rw (w .2) at st) (h .0) (h .1)))
 
   tag-of : (k n : ℕ) → Starts (drop i s) (k ∷ n ∷ []) → n < tags → (i + 1 < length s) × (getD s (i + 1) 0 < tags)

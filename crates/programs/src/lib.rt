@@ -12,10 +12,16 @@ ghost use Rattle.programs.specs.Parsed.{OperandAt, ConditionAt, PlainAt,
 const LONGEST: usize = 256;
 
 const DEEPEST: usize = 8;
-// The highest attribute and value.
-const ATTRIBUTE: u8 = 3;
 
-const VALUE: u8 = 15;
+// The highest attribute and value, and how many there are of each.
+pub const HIGHEST_ATTRIBUTE: u8 = 7;
+
+pub const HIGHEST_VALUE: u8 = 63;
+
+pub const ATTRIBUTES: usize = HIGHEST_ATTRIBUTE as usize + 1;
+
+pub const VALUES: usize = HIGHEST_VALUE as usize + 1;
+
 // A field that names no program.
 const NONE: usize = 65535;
 
@@ -51,21 +57,21 @@ fn operand(s: &[u8], i: usize) -> Parsed
     let v = s[i + 1];
     match k {
         0 => {
-            if v <= VALUE {
+            if v <= HIGHEST_VALUE {
                 Parsed::Whole(i + 2, true, true)
             } else {
                 Parsed::Bad
             }
         }
         1 => {
-            if v <= ATTRIBUTE {
+            if v <= HIGHEST_ATTRIBUTE {
                 Parsed::Whole(i + 2, true, true)
             } else {
                 Parsed::Bad
             }
         }
         2 => {
-            if v <= ATTRIBUTE {
+            if v <= HIGHEST_ATTRIBUTE {
                 Parsed::Whole(i + 2, false, true)
             } else {
                 Parsed::Bad
@@ -201,21 +207,21 @@ fn assignment(s: &[u8], i: usize, tags: usize, strings: &[u8]) -> Parsed
     let k = s[i];
     match k {
         1 => {
-            if two_numbers(s, i, ATTRIBUTE, VALUE) {
+            if two_numbers(s, i, HIGHEST_ATTRIBUTE, HIGHEST_VALUE) {
                 Parsed::Whole(i + 3, true, true)
             } else {
                 Parsed::Bad
             }
         }
         2 => {
-            if two_numbers(s, i, ATTRIBUTE, ATTRIBUTE) {
+            if two_numbers(s, i, HIGHEST_ATTRIBUTE, HIGHEST_ATTRIBUTE) {
                 Parsed::Whole(i + 3, true, true)
             } else {
                 Parsed::Bad
             }
         }
         3 => {
-            if two_numbers(s, i, ATTRIBUTE, ATTRIBUTE) {
+            if two_numbers(s, i, HIGHEST_ATTRIBUTE, HIGHEST_ATTRIBUTE) {
                 Parsed::Whole(i + 3, false, true)
             } else {
                 Parsed::Bad

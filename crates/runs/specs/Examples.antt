@@ -2,16 +2,16 @@
 -- Assumes nothing.
 use mathlib.Core.Path.{_≡_}
 use mathlib.Core.Bool.{true, false}
-use mathlib.Core.List.{List, [], _∷_}
+use mathlib.Core.List.{List, [], _∷_, _++_}
 use mathlib.Core.Option.{none, some}
-use Prim.Native.Nat.{ℕ, zero, suc}
-use lib.ListN.{replicate}
+use Prim.Native.Nat.{ℕ, zero, suc, _-_}
+use lib.ListN.{length, replicate}
 use Rattle.expressions.specs.Expr.{Exp, atom, cat, star, nonterminal, anychar, Content, nothing, tree, nodesOf}
 use Rattle.programs.specs.Program.{constant, current, recalled, Condition, equal, negated, both, either, Statement, become, copy, recall, print-start, print-text, echo, branch, Program, done, step}
 use Rattle.sheet.specs.Fields.{Visits}
 use Rattle.sheet.specs.Sheet.{Rule, Sheet}
 use Rattle.output.specs.Escape.{Piece, start, end, character}
-use Rattle.runs.specs.Visits.{Env, no-programs}
+use Rattle.runs.specs.Visits.{Env, attributes, no-programs}
 use Rattle.runs.specs.Events.{Event, starts, ends, letter}
 use Rattle.runs.specs.Acts.{Store}
 use Rattle.runs.specs.Machine.{Configuration, fresh-configuration}
@@ -75,11 +75,9 @@ close-tag t = end-token (some t)
 abbrev pub empty-tag : ℕ → Token
 empty-tag t = empty-token (some t)
 
+-- the first attributes are vs, the others 0
 abbrev pub ended : List ℕ → List Piece → ℕ → Env
-ended vs o n = record { values = vs; echo = false; out = o; count = n }
-
-abbrev pub zeros : List ℕ
-zeros = 0 ∷ 0 ∷ 0 ∷ 0 ∷ []
+ended vs o n = record { values = vs ++ replicate (attributes - length vs) 0; echo = false; out = o; count = n }
 
 -- attribute 0 is v
 abbrev pub current-is : ℕ → Condition
@@ -127,13 +125,13 @@ printing = record {
 abbrev pub examples : List Run
 examples =
     -- white space around the root and inside it is no event
-    accepts recalling (literal 32 ∷ open-tag 0 ∷ literal 9 ∷ empty-tag 1 ∷ close-tag 0 ∷ literal 10 ∷ []) (ended (2 ∷ 1 ∷ 2 ∷ 0 ∷ []) (start a ∷ []) 6)
+    accepts recalling (literal 32 ∷ open-tag 0 ∷ literal 9 ∷ empty-tag 1 ∷ close-tag 0 ∷ literal 10 ∷ []) (ended (2 ∷ 1 ∷ 2 ∷ []) (start a ∷ []) 6)
     -- also in an element that only happens to be empty; in one whose production has no nodes it is refused
-    ∷ accepts books (open-tag 0 ∷ literal 32 ∷ close-tag 0 ∷ []) (ended zeros (start a ∷ end a ∷ []) 4)
+    ∷ accepts books (open-tag 0 ∷ literal 32 ∷ close-tag 0 ∷ []) (ended [] (start a ∷ end a ∷ []) 4)
     ∷ halts books (open-tag 0 ∷ open-tag 1 ∷ literal 32 ∷ close-tag 1 ∷ []) 23 (start a ∷ start book ∷ []) (literal 32 ∷ close-tag 1 ∷ [])
     -- beside text it is a character
-    ∷ accepts echoing (open-tag 0 ∷ literal 32 ∷ empty-tag 1 ∷ close-tag 0 ∷ []) (ended zeros (start a ∷ character 32 ∷ end a ∷ []) 14)
-    ∷ accepts printing (empty-tag 0 ∷ []) (ended zeros (character 65 ∷ character 0x2264 ∷ []) 2)
+    ∷ accepts echoing (open-tag 0 ∷ literal 32 ∷ empty-tag 1 ∷ close-tag 0 ∷ []) (ended [] (start a ∷ character 32 ∷ end a ∷ []) 14)
+    ∷ accepts printing (empty-tag 0 ∷ []) (ended [] (character 65 ∷ character 0x2264 ∷ []) 2)
     -- the 33rd open element
     ∷ refuses endless (starts-of-a 33) 24 [] (starts (some 0) ∷ [])
     -- an element that cannot end yet

@@ -181,7 +181,7 @@ each-frame none = none
 each-frame (more h a) = more (frame-back _ h) (each-frame a)
 
 -- where each part of a state's bytes stands: after so many bytes
-module _ (v c d stack : List ℕ) (e r n : ℕ) (four : length v ≡ attributes) (eight : length c ≡ 8) (eight′ : length d ≡ 8) where
+module _ (v c d stack : List ℕ) (e r n : ℕ) (of-attributes : length v ≡ attributes) (eight : length c ≡ 8) (eight′ : length d ≡ 8) where
   abbrev whole : List ℕ
   whole = v ++ e ∷ (c ++ r ∷ n ∷ (d ++ stack))
 
@@ -210,7 +210,7 @@ module _ (v c d stack : List ℕ) (e r n : ℕ) (four : length v ≡ attributes)
   at-stack = at-depth ∙ sym (append-assoc to-depth d stack) ∙ ap (λ (l : List ℕ). to-stack ++ l) (sym (append-nil stack))
 
   long-count : length to-count ≡ countAt
-  long-count = longer v (e ∷ []) attributes 1 four refl
+  long-count = longer v (e ∷ []) attributes 1 of-attributes refl
 
   long-flag : length to-flag ≡ rootedAt
   long-flag = longer to-count c countAt 8 long-count eight
@@ -222,10 +222,10 @@ module _ (v c d stack : List ℕ) (e r n : ℕ) (four : length v ≡ attributes)
   long-stack = longer to-depth d depthAt 8 long-depth eight′
 
   values-back : bytesAt whole 0 attributes ≡ v
-  values-back = bytes-back v [] (e ∷ (c ++ r ∷ n ∷ (d ++ stack))) 0 attributes refl four
+  values-back = bytes-back v [] (e ∷ (c ++ r ∷ n ∷ (d ++ stack))) 0 attributes refl of-attributes
 
   echo-back : byteAt whole attributes ≡ e
-  echo-back = byte-first v (e ∷ (c ++ r ∷ n ∷ (d ++ stack))) attributes four
+  echo-back = byte-first v (e ∷ (c ++ r ∷ n ∷ (d ++ stack))) attributes of-attributes
 
   count-back : bytesAt whole countAt 8 ≡ c
   count-back = rw at-count (bytes-back c to-count (r ∷ n ∷ (d ++ stack)) countAt 8 long-count eight)

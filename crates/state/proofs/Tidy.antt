@@ -207,7 +207,7 @@ unfolding stateFor
 closing-for m c n = refl
 
 -- a fresh state's arrays are as long as their types say
-all-alike : {X : Type 0} {P : X → Type 0} (n : ℕ) (x : X) → P x → Every P (replicate n x)
+pub all-alike : {X : Type 0} {P : X → Type 0} (n : ℕ) (x : X) → P x → Every P (replicate n x)
 all-alike zero x p = none
 all-alike (suc n) x p = more p (all-alike n x p)
 

@@ -1,16 +1,16 @@
--- The form of a state as bytes: 2,199 of them, numbers little-endian, a flag 1 for on and 0 for off (read back: on unless 0).
+-- The form of a state as bytes: 3,867 of them, numbers little-endian, a flag 1 for on and 0 for off (read back: on unless 0).
 --
 -- | Bytes | Content |
 -- |---|---|
--- | 0 to 3 | the four attributes |
--- | 4 | echo |
--- | 5 to 12 | the count of visits |
--- | 13 | whether the root has been closed |
--- | 14 | the closing number, or 255 |
--- | 15 to 22 | how many elements are open |
--- | 23 to 2,198 | 32 frames of 68 bytes, the root's first, those not in use too |
+-- | 0 to 7 | the eight attributes |
+-- | 8 | echo |
+-- | 9 to 16 | the count of visits |
+-- | 17 | whether the root has been closed |
+-- | 18 | the closing number, or 255 |
+-- | 19 to 26 | how many elements are open |
+-- | 27 to 3,866 | 32 frames of 120 bytes, the root's first, those not in use too |
 --
--- A frame: production, place, how many sets are in use, then 13 sets of 5 bytes: the four attributes just after the first visit, and echo before
+-- A frame: production, place, how many sets are in use, then 13 sets of 9 bytes: the eight attributes just after the first visit, and echo before
 -- it. The production's set comes first, then those of the open nodes, outermost first.
 -- Assumes nothing.
 use mathlib.Core.Bool.{Bool, true, cond, not}

@@ -16,15 +16,6 @@ ghost use Rattle.state.specs.Bytes.{flag, numberBytes, savedBytes, eachB
 ghost use Rattle.layout.specs.Layout.{byteAt};
 ghost use Rattle.state.specs.Bytes.{onAt, bytesAt, longAt, savedAt, frameAt, usedAt, gathered, stateFrom};
 
-// Where the parts of a state's head stand: echo follows the attributes.
-const COUNT: usize = State::ATTRIBUTES + 1;
-
-const ROOTED: usize = COUNT + 8;
-
-const CLOSED: usize = ROOTED + 1;
-
-const OPENED: usize = CLOSED + 1;
-
 fn put_one(memory: &mut [u8], at: usize, b: u8) -> usize
     requires { ⌜ at + 1 < 2 ^ 64 ⌝ }
     ensures { λ r. ⌜ Wrote 1 (now (memory .entry)) at (b ∷ []) (now (memory .exit)) r ⌝ }
@@ -302,10 +293,10 @@ pub fn from_bytes(bytes: &[u8]) -> State
     State {
         values: values,
         echo: on_at(bytes, State::ATTRIBUTES),
-        count: number_at(bytes, COUNT),
-        rooted: on_at(bytes, ROOTED),
-        closed: byte_at(bytes, CLOSED),
-        depth: number_at(bytes, OPENED) as usize,
+        count: number_at(bytes, State::COUNT_AT),
+        rooted: on_at(bytes, State::ROOTED_AT),
+        closed: byte_at(bytes, State::CLOSED_AT),
+        depth: number_at(bytes, State::DEPTH_AT) as usize,
         frames: frames,
     }
 }

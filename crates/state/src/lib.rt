@@ -160,9 +160,9 @@ impl State {
     // The most elements that may be open, the number of attributes, and the highest value of one.
     pub const DEPTH: usize = 32;
 
-    pub const ATTRIBUTES: usize = 4;
+    pub const ATTRIBUTES: usize = programs::ATTRIBUTES;
 
-    pub const HIGHEST: u8 = 15;
+    pub const HIGHEST: u8 = programs::HIGHEST_VALUE;
 
     // The highest count of visits: 2^62.
     pub const MOST_VISITS: u64 = 0x4000000000000000;
@@ -170,8 +170,16 @@ impl State {
     // The closing number of a state that is not closed: none of 0, 20 to 27 and 30.
     pub const OPEN: u8 = 255;
 
-    // As bytes: what stands before the frames, all frames, and the whole.
-    pub const HEAD: usize = Self::ATTRIBUTES + 19;
+    // As bytes: where the parts of the head stand, echo behind the attributes; what stands before the frames, all frames, and the whole.
+    pub const COUNT_AT: usize = Self::ATTRIBUTES + 1;
+
+    pub const ROOTED_AT: usize = Self::COUNT_AT + 8;
+
+    pub const CLOSED_AT: usize = Self::ROOTED_AT + 1;
+
+    pub const DEPTH_AT: usize = Self::CLOSED_AT + 1;
+
+    pub const HEAD: usize = Self::DEPTH_AT + 8;
 
     pub const STACK: usize = Frame::BYTES * Self::DEPTH;
 

@@ -74,7 +74,7 @@ abbrev opens : State → ℕ → List Open → Found → Bool → Turn
 opens z q os v b = opening-up b (bracket-acts (topOf z .production) (v .string) ++ start-tag q ∷ []) (inside (at-start q) (at-place (openOf (topOf z)) (v .place) ∷ os))
 
 depth-turn : (a : Sheet) (z : State) (t q : ℕ) (w : Way) → t ≤ 255 → (L : Leads a z (tag t) w) → find (grammar a) (w .argument) t ≡ some q →
-    (b : Bool) → leb (suc (suc (length (L .os)))) 32 ≡ b → step a (meaningOf z) (starts (tagIn t)) ≡ turned a (meaningOf z .store) (opens z q (L .os) (L .way) b)
+    (b : Bool) → leb (suc (suc (length (L .os)))) most ≡ b → step a (meaningOf z) (starts (tagIn t)) ≡ turned a (meaningOf z .store) (opens z q (L .os) (L .way) b)
 depth-turn a z t q w g L e b k =
     start-turn a z t w g L ∙ ap (λ (y : Option ℕ). turned a (meaningOf z .store) (start-at most (openOf (topOf z)) (L .os) (L .way) y)) e
     ∙ ap (λ (y : Bool). turned a (meaningOf z .store) (opens z q (L .os) (L .way) y)) k
@@ -133,13 +133,13 @@ module _ {s : List ℕ} {z : State} {p : Pen} {r : Stepped} {d : List ℕ} where
             start-turn a z t w g L ∙ ap (λ (y : Option ℕ). turned a (meaningOf z .store) (start-at most (openOf (topOf z)) (L .os) (L .way) y)) (no-production i P m))
 
         module _ (real : q ≡ 256 → ⊥) where
-          pub too-deep : r ≡ refusedAt 24 z p → d ≡ p .lent → 32 ≤ z .depth → SteppedAs s (starts (tagIn t)) z p r d
+          pub too-deep : r ≡ refusedAt 24 z p → d ≡ p .lent → most ≤ z .depth → SteppedAs s (starts (tagIn t)) z p r d
           too-deep e k m =
               refusal 24 e k (λ a i h f.
               let L = way-leads i h f o W there in
-              depth-turn a z t q w g L (production-found i P real) false (lt-leb (suc (suc (length (L .os)))) 32 (omega (arith, L .deep, m))))
+              depth-turn a z t q w g L (production-found i P real) false (lt-leb (suc (suc (length (L .os)))) most (omega (arith, L .deep, m))))
 
-          module _ (room : z .depth < 32) {u : Acted} {mid : List ℕ} (F : FollowsAs s (w .place) (take (w .line .length) (w .line .bytes)) z p u mid) where
+          module _ (room : z .depth < most) {u : Acted} {mid : List ℕ} (F : FollowsAs s (w .place) (take (w .line .length) (w .line .bytes)) z p u mid) where
             pub start-rejected : d ≡ mid → u .ok ≡ false → r ≡ answering u → SteppedAs s (starts (tagIn t)) z p r d
             start-rejected same bad e =
                 subst (λ (y : List ℕ). SteppedAs s (starts (tagIn t)) z p r y) (sym same)
@@ -148,7 +148,7 @@ module _ {s : List ℕ} {z : State} {p : Pen} {r : Stepped} {d : List ℕ} where
                 let L = way-leads i h f o W there in
                 rejected-first a z p u mid (bracket-acts (topOf z .production) (L .way .string)) (start-tag q) (inside (at-place (openOf (topOf z)) (L .way .place)) (L .os))
                 (inside (at-start q) (at-place (openOf (topOf z)) (L .way .place) ∷ L .os)) (starts (tagIn t))
-                (depth-turn a z t q w g L (production-found i P real) true (le-leb (suc (suc (length (L .os)))) 32 (omega (arith, L .deep, room))))
+                (depth-turn a z t q w g L (production-found i P real) true (le-leb (suc (suc (length (L .os)))) most (omega (arith, L .deep, room))))
                 (F .right a i h f (L .os) (L .stands) (tag t) (L .way) (L .is-way) (L .held .place-is) (L .bytes)) bad))
 
             pub start-done : u .ok ≡ true → (e : Acted) → EntersAs s q (u .state) (onPen p mid (u .at)) e d → r ≡ answering e → SteppedAs s (starts (tagIn t)) z p r d
@@ -161,7 +161,7 @@ module _ {s : List ℕ} {z : State} {p : Pen} {r : Stepped} {d : List ℕ} where
                     let L = way-leads i h f o W there in
                     let to : Control = inside (at-place (openOf (topOf z)) (L .way .place)) (L .os) in
                     both-done a z p u mid (bracket-acts (topOf z .production) (L .way .string)) (start-tag q) to (inside (at-start q) (at-place (openOf (topOf z)) (L .way .place) ∷ L .os)) (starts (tagIn t))
-                    (depth-turn a z t q w g L (production-found i P real) true (le-leb (suc (suc (length (L .os)))) 32 (omega (arith, L .deep, room))))
+                    (depth-turn a z t q w g L (production-found i P real) true (le-leb (suc (suc (length (L .os)))) most (omega (arith, L .deep, room))))
                     (F .right a i h f (L .os) (L .stands) (tag t) (L .way) (L .is-way) (L .held .place-is) (L .bytes)) good e d
                     (λ m D.
                     let at : meaningOf (u .state) .control ≡ to = ap (λ (y : Standing). y .control) (D .means) in

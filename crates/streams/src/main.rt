@@ -21,9 +21,9 @@ const LENT: u8 = 0xAA;
 // The length of a state's bytes, where in them the flag "root closed" and the closing number stand, and the closing number of an open state.
 const STATE: usize = State::BYTES;
 
-const ROOTED: usize = State::ATTRIBUTES + 9;
+const ROOTED: usize = State::ROOTED_AT;
 
-const CLOSING: usize = ROOTED + 1;
+const CLOSING: usize = State::CLOSED_AT;
 
 const OPEN: u8 = State::OPEN;
 
@@ -161,7 +161,7 @@ fn is_state(line: &[u8], at: usize, state: &[u8], before: &[u8]) -> bool {
     if at >= line.len() {
         return is_same(state, state.len(), before, 0);
     }
-    let mut head = [0u8; 23];
+    let mut head = [0u8; HEAD];
     let n = read_bytes(line, at, &mut head, 0);
     n == HEAD && state.len() == STATE && is_head(state, &head)
 }

@@ -9,6 +9,7 @@ use native.Mathlib.Omega.{arith}
 use lib.ListN.{length, getD, set, drop, length-drop}
 use Rattle.text.specs.Chars.{Starts}
 use Rattle.programs.specs.Program.{Statement, become, copy, recall, reject, print-start, print-end, print-text, echo, branch, statementBytes, conditionBytes, programBytes}
+use Rattle.programs.specs.Limits.{Attribute}
 use Rattle.programs.proofs.Reading.{byte-of, first-byte, starts-length}
 use Rattle.output.specs.Escape.{Piece}
 use Rattle.runs.specs.Execute.{Effect}
@@ -71,7 +72,7 @@ module _ (s : List ℕ) (i : ℕ) where
 
   -- the attribute that the statement names is one
   abbrev pub Within : Type 0
-  Within = getD s (i + 1) 0 ≤ 3
+  Within = Attribute (getD s (i + 1) 0)
 
   -- of any other nothing changes
   pub stays : (kept : List ℕ) (e : Env) → (First 1 → Within → ⊥) → (First 2 → Within → ⊥) → (First 3 → Within → ⊥) → (First 8 → ⊥) → (First 9 → ⊥) → (First 10 → ⊥) → SettledAs s i kept e e

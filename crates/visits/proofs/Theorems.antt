@@ -47,7 +47,7 @@ module _ (s : List ℕ) (field : ℕ) (kept : List ℕ) (e : Env) (p : Pen) (r :
   first-visit-recalls-nothing k (some q) (names n q₁ S w) =
       subst (λ (o : Option Effect). Comes o p (r .ok) (r .at) (r .env) d) (recalls-nothing a kept k q w (e .values) (e .echo)) (R .right a z first (some q) (names n q S w))
 
-  -- values stay at most 15
+  -- values stay in bounds
   pub values-stay : (v : Visit) (m : Option Program) → Names v m → AllValues kept → AllValues (e .values) → AllValues (r .env .values)
   values-stay v m f k-fits fits = go (performed a kept m (e .values) (e .echo)) (fine m f) (R .right a z v m f)
     where

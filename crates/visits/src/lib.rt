@@ -22,7 +22,7 @@ pub struct Env {
 
 impl Env {
     // The number of attributes.
-    pub const ATTRIBUTES: usize = 4;
+    pub const ATTRIBUTES: usize = programs::ATTRIBUTES;
 }
 
 // What a condition came to, and the byte after it.

@@ -2,10 +2,10 @@
 -- Assumes nothing.
 use mathlib.Core.Path.{refl}
 use native.Mathlib.Omega.{arith}
-use Rattle.programs.specs.Bounds.{Bounds}
+use Rattle.programs.specs.Bounds.{Bounds, bounds}
 use Rattle.runs.proofs.SheetFits.{programs-fit-in}
 use Rattle.widening.specs.CallByCall.{fresh-in}
-use Rattle.widening.specs.AsBefore.{Wider, AsBefore, four-to-15, eight-to-63, FourAsBefore, FreshIsToday}
+use Rattle.widening.specs.AsBefore.{Wider, AsBefore, oldBounds, OldAsBefore, FreshIsToday}
 use Rattle.widening.proofs.Calls.{calls-alike, fresh-alike}
 use Rattle.widening.proofs.Sheets.{sheet-wider, one-sheet, one-number}
 
@@ -24,8 +24,8 @@ as-before b b′ w = record {
   ));
 }
 
-pub four-as-before : FourAsBefore
-four-as-before = as-before four-to-15 eight-to-63 (record { of-attributes = omega arith; of-values = omega arith })
+pub old-as-before : OldAsBefore
+old-as-before = as-before oldBounds bounds (record { of-attributes = omega arith; of-values = omega arith })
 
 pub fresh-is-today : FreshIsToday
 fresh-is-today = refl

@@ -14,12 +14,9 @@ use Rattle.runs.specs.Taken.{Passed}
 use Rattle.calls.specs.Held.{fresh-held}
 use Rattle.widening.specs.CallByCall.{Asked, Heard, CallByCall, fresh-in}
 
--- four attributes with values 0 to 15, and eight with values 0 to 63
-abbrev pub four-to-15 : Bounds
-four-to-15 = record { highest-attribute = 3; highest-value = 15 }
-
-abbrev pub eight-to-63 : Bounds
-eight-to-63 = record { highest-attribute = 7; highest-value = 63 }
+-- the old bounds: four attributes, with values 0 to 15
+abbrev pub oldBounds : Bounds
+oldBounds = record { highest-attribute = 3; highest-value = 15 }
 
 -- b′ allows all that b does
 pub record Wider (b b′ : Bounds) : Type 0 where
@@ -46,8 +43,9 @@ pub record AsBefore (b b′ : Bounds) : Type 0 where
   pub same-calls : (s : List ℕ) (a : Sheet) → IsSheetIn b s a → (qs : List Asked) (hs : List Heard) →
       CallByCall a (fresh-in b) qs hs ↔ CallByCall a (fresh-in b′) qs hs
 
-abbrev pub FourAsBefore : Type 0
-FourAsBefore = AsBefore four-to-15 eight-to-63
+-- so it is of the old bounds and those that hold today
+abbrev pub OldAsBefore : Type 0
+OldAsBefore = AsBefore oldBounds bounds
 
 -- the fresh state of the bounds that hold today is the one that a run starts in
 abbrev pub FreshIsToday : Type 0

@@ -82,7 +82,7 @@ fn say_of_call(number: usize) {
             b"The schedule had already come to its end. Begin the next one with a fresh state.",
         ),
         29 => say(
-            b"The state does not fit the sheet: it is damaged, another sheet's, or not 2199 bytes long. Begin again with a fresh state.",
+            b"The state does not fit the sheet: it is damaged, another sheet's, or not of a state's length. Begin again with a fresh state.",
         ),
         _ => say(b"The count of visits would pass 2 to the 62nd. Begin again with a fresh state."),
     }

@@ -5,7 +5,7 @@
 use crate::gen::{sheets, streams};
 use crate::model::run::run;
 use crate::model::sheet::{Body, Node, Sheet, NONE};
-use crate::model::state::State;
+use crate::model::state::{State, ATTRIBUTES};
 use crate::random::Random;
 
 struct Walk<'a> {
@@ -15,7 +15,7 @@ struct Walk<'a> {
     heights: [usize; 64],
     stream: Vec<u8>,
     output: Vec<u8>,
-    attributes: [u8; 4],
+    attributes: [u8; ATTRIBUTES],
     echo: bool,
     visits: u64,
     /// After a reject the walk only goes on writing the stream.
@@ -41,7 +41,7 @@ fn runs_are_walks_over_trees() {
             heights,
             stream: Vec::new(),
             output: Vec::new(),
-            attributes: [0; 4],
+            attributes: [0; ATTRIBUTES],
             echo: false,
             visits: 0,
             rejected: false,
@@ -134,7 +134,7 @@ impl Walk<'_> {
     }
 
     /// One visit, with or without a program; gives the attributes after it.
-    fn visit(&mut self, program: u16, after_first: Option<[u8; 4]>) -> [u8; 4] {
+    fn visit(&mut self, program: u16, after_first: Option<[u8; ATTRIBUTES]>) -> [u8; ATTRIBUTES] {
         self.visits += 1;
         if program != NONE && !self.rejected {
             self.list(program as usize, after_first, true);
@@ -149,7 +149,7 @@ impl Walk<'_> {
     }
 
     /// Runs the list at an offset, or only goes past it; gives the offset behind its closing 0.
-    fn list(&mut self, mut at: usize, after_first: Option<[u8; 4]>, runs: bool) -> usize {
+    fn list(&mut self, mut at: usize, after_first: Option<[u8; ATTRIBUTES]>, runs: bool) -> usize {
         loop {
             let [a, b] = [1, 2].map(|i| self.programs.get(at + i).copied().unwrap_or(0));
             let length = match self.programs[at] {
@@ -193,7 +193,7 @@ impl Walk<'_> {
         }
     }
 
-    fn condition(&self, at: usize, after_first: Option<[u8; 4]>) -> (bool, usize) {
+    fn condition(&self, at: usize, after_first: Option<[u8; ATTRIBUTES]>) -> (bool, usize) {
         let operand = |at: usize| match (self.programs[at], self.programs[at + 1]) {
             (0, value) => value,
             (1, attribute) => self.attributes[attribute as usize],

@@ -4,7 +4,7 @@ use crate::compare::{Compare, Lent};
 use crate::gen::corners::Case;
 use crate::gen::{damage, sheets, streams};
 use crate::model::sheet::Sheet;
-use crate::model::state::{State, LENGTH};
+use crate::model::state::{State, FRAMES, LENGTH};
 use crate::random::Random;
 
 const MOST_CALLS: usize = 24;
@@ -28,7 +28,7 @@ pub fn check(random: &mut Random, compare: &mut Compare) -> Result<(), String> {
 }
 
 pub fn fresh(random: &mut Random, compare: &mut Compare) -> Result<(), String> {
-    let room = *random.pick(&[0, 1, 22, 23, LENGTH - 1, LENGTH, LENGTH + 1, 4000]);
+    let room = *random.pick(&[0, 1, FRAMES - 1, FRAMES, LENGTH - 1, LENGTH, LENGTH + 1, 4000]);
     compare.fresh(random, room).map(|_| ())
 }
 

@@ -315,12 +315,13 @@ fn states_that_do_not_fit() {
         state[at] = byte;
         run(&sheet, &state, b"", false, 0).number
     };
-    let (root, book, author) = (23, 91, 159); // the frames of <bib>, <book> and <author>
+    let (root, book, author) = (27, 147, 267); // the frames of <bib>, <book> and <author>
     for (at, byte, expected) in [
-        (0, 15, 16), (3, 16, 29), (4, 7, 16), (12, 0x3F, 16), (12, 0x40, 29), (13, 9, 16), (14, 0, 28), (14, 1, 29), (14, 20, 20), (14, 27, 27),
-        (14, 28, 29), (14, 30, 30), (14, 254, 29), (15, 2, 16), (15, 33, 29), (16, 1, 29), (22, 128, 29), (root, 1, 29), (root, 5, 29),
+        (0, 63, 16), (3, 64, 29), (7, 63, 16), (7, 64, 29), (8, 7, 16), (16, 0x3F, 16), (16, 0x40, 29), (17, 9, 16), (18, 0, 28), (18, 1, 29), (18, 20, 20),
+        (18, 27, 27), (18, 28, 29), (18, 30, 30), (18, 254, 29), (19, 2, 16), (19, 33, 29), (20, 1, 29), (26, 128, 29), (root, 1, 29), (root, 5, 29),
         (root + 1, 0, 29), (root + 1, 2, 29), (root + 2, 2, 29), (root + 2, 14, 29), (book, 2, 29), (book + 1, 1, 29), (author, 2, 29),
-        (author + 1, 0, 29), (author + 1, 2, 29), (author + 3, 15, 16), (author + 3, 16, 29), (author + 3 + 5 * 3, 16, 16), (author + 68, 99, 16),
+        (author + 1, 0, 29), (author + 1, 2, 29), (author + 3, 63, 16), (author + 3, 64, 29), (author + 10, 64, 29),
+        (author + 3 + 9 * 3, 64, 16), (author + 120, 99, 16),
     ] {
         assert_eq!(number(at, byte), expected, "byte {at} is {byte}");
     }

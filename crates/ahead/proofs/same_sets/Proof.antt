@@ -4,6 +4,7 @@ use native.Mathlib.Omega.{arith}
 use lib.ListN.{length, take}
 use borrow.Author.Needs.{needs}
 use borrow.Author.Tests.{not-true, not-false}
+use Rattle.state.specs.Bounds.{mostSets}
 use Rattle.state.proofs.Laws.{length-mapped}
 use Rattle.ahead.proofs.Going.{not-told, take-more}
 use Rattle.ahead.proofs.same_sets.Statement.{statement}
@@ -27,8 +28,8 @@ returns c = not-told
 loop-again : tie.Need-loop-again Inv-loop μ-loop
 loop-again c =
     let w = c .before .before .before .before .before .before in
-    let k : length (w .args .t1) ≡ 13 = search (length-mapped, needs) in
-    let k2 : length (w .args .t2) ≡ 13 = search (length-mapped, needs) in
+    let k : length (w .args .t1) ≡ mostSets = search (length-mapped, needs) in
+    let k2 : length (w .args .t2) ≡ mostSets = search (length-mapped, needs) in
     (omega arith, take-more (w .args .t1) (w .args .t2) (c .before .before .before .before .before .loop .i) _ (omega arith) (omega arith) (c .before .before .before .before .before .loop .inv .1) (c .before .same-set .ensures (not-false _ (c .if1 .left))))
 
 returns-2 : tie.Need-returns-2 Inv-loop μ-loop

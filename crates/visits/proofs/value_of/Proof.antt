@@ -1,4 +1,4 @@
--- Past the four attributes getD answers its default.
+-- Past the attributes getD answers its default.
 use borrow.Author.Needs.{needs}
 use mathlib.Core.Path.{sym}
 use lib.ListN.{List·getD-eq-default}

@@ -2,7 +2,7 @@
 
 use super::streams;
 use crate::model::run::run;
-use crate::model::state::{State, MOST_VISITS};
+use crate::model::state::{State, FRAME, FRAMES, MOST_VISITS};
 use crate::model::tokens::{self, Answer};
 use crate::plan::*;
 
@@ -90,7 +90,7 @@ fn empty_tags() -> Vec<Case> {
         for part in ["<s/>", "<t/>", "<u/>", "<s>", "<s></s>", "<u></u>", "<s><t/></s>", "</r>", "</r> <", "</r> x"] {
             for room in [0, 3, 7, 20] {
                 let mut state = after(&sheet, "<r>");
-                state.attributes = [bits & 1, bits >> 1 & 1, bits >> 2 & 1, 0];
+                state.attributes[..3].copy_from_slice(&[bits & 1, bits >> 1 & 1, bits >> 2 & 1]);
                 let (sheet, part) = (sheet.clone(), part.as_bytes().to_vec());
                 cases.push(Case { sheet, state: state.write(), part, ended: true, room });
             }
@@ -161,12 +161,12 @@ fn states() -> Vec<Case> {
         Case { sheet: sheet.clone(), state, part: b"<a/></b>z</a></r>".to_vec(), ended: true, room: 100 }
     };
     let mut cases = Vec::new();
-    for at in 0..23 + 3 * 68 {
-        for value in [0, 1, 2, 3, 4, 13, 14, 15, 16, 19, 20, 27, 28, 30, 31, 32, 33, 64, 128, 255] {
+    for at in 0..FRAMES + 3 * FRAME {
+        for value in [0, 1, 2, 3, 4, 13, 14, 15, 16, 19, 20, 27, 28, 30, 31, 32, 33, 63, 64, 128, 255] {
             cases.push(changed(at, &[value]));
         }
     }
-    for frame in [23, 23 + 68, 23 + 2 * 68] {
+    for frame in [FRAMES, FRAMES + FRAME, FRAMES + 2 * FRAME] {
         for (production, place) in (0..4).flat_map(|production| (0..5).map(move |place| (production, place))) {
             cases.extend((1..6).map(|sets| changed(frame, &[production, place, sets])));
         }

@@ -2,7 +2,7 @@
 
 use super::streams::stray;
 use crate::model::sheet::Sheet;
-use crate::model::state::{LENGTH, MOST_VISITS};
+use crate::model::state::{ATTRIBUTES, CLOSING, COUNT, DEPTH, FRAME, FRAMES, HIGHEST, LENGTH, MOST_VISITS, ROOTED, SET, SETS};
 use crate::random::Random;
 
 /// Changes some bytes anywhere, or the length.
@@ -123,26 +123,26 @@ pub fn state(random: &mut Random, state: &mut Vec<u8>) {
     if state.len() != LENGTH {
         return;
     }
-    let depth = (state[15] as usize).min(32);
-    let frame = 23 + 68 * random.below(depth.max(1));
+    let depth = (state[DEPTH] as usize).min(32);
+    let frame = FRAMES + FRAME * random.below(depth.max(1));
     match random.below(14) {
-        0 => state[random.below(4)] = *random.pick(&[0, 1, 15, 16, 255]),
-        1 => state[4] = *random.pick(&[0, 1, 2, 255]),
+        0 => state[random.below(ATTRIBUTES)] = *random.pick(&[0, 1, 15, HIGHEST, HIGHEST + 1, 255]),
+        1 => state[ATTRIBUTES] = *random.pick(&[0, 1, 2, 255]),
         2 | 3 => {
             let near = (MOST_VISITS + 3).wrapping_sub(random.below(60) as u64);
             let count = *random.pick(&[near, near, MOST_VISITS, MOST_VISITS + 1, u64::MAX, 1 << 63]);
-            state[5..13].copy_from_slice(&count.to_le_bytes());
+            state[COUNT..ROOTED].copy_from_slice(&count.to_le_bytes());
         }
-        4 => state[13] = *random.pick(&[0, 1, 2, 255]),
-        5 => state[14] = *random.pick(&[0, 1, 15, 16, 17, 19, 20, 21, 22, 23, 24, 25, 26, 27, 28, 29, 30, 31, 254, 255]),
-        6 => state[15] = *random.pick(&[0, 1, 2, 31, 32, 33, 255]),
-        7 => state[16 + random.below(7)] = *random.pick(&[1, 128]),
+        4 => state[ROOTED] = *random.pick(&[0, 1, 2, 255]),
+        5 => state[CLOSING] = *random.pick(&[0, 1, 15, 16, 17, 19, 20, 21, 22, 23, 24, 25, 26, 27, 28, 29, 30, 31, 254, 255]),
+        6 => state[DEPTH] = *random.pick(&[0, 1, 2, 31, 32, 33, 255]),
+        7 => state[DEPTH + 1 + random.below(7)] = *random.pick(&[1, 128]),
         8 => state[frame] = state[frame].wrapping_add(*random.pick(&[1, 255, 64])),
         9 => state[frame + 1] = state[frame + 1].wrapping_add(*random.pick(&[1, 255, 2])),
         10 => state[frame + 2] = *random.pick(&[0, 1, 2, 3, 12, 13, 14, 255]),
         11 => {
-            let in_use = (state[frame + 2] as usize).clamp(1, 13);
-            state[frame + 3 + random.below(5 * in_use)] = *random.pick(&[0, 1, 15, 16, 255]);
+            let in_use = (state[frame + 2] as usize).clamp(1, SETS);
+            state[frame + 3 + random.below(SET * in_use)] = *random.pick(&[0, 1, 15, HIGHEST, HIGHEST + 1, 255]);
         }
         12 => unused(random, state, depth),
         13 if random.once_in(4) => state.iter_mut().for_each(|byte| *byte = random.byte()),
@@ -153,8 +153,8 @@ pub fn state(random: &mut Random, state: &mut Vec<u8>) {
 /// Changes everything that is not in use: no answer may depend on it.
 fn unused(random: &mut Random, state: &mut [u8], depth: usize) {
     for frame in 0..32 {
-        let start = 23 + 68 * frame;
-        let in_use = if frame < depth { 3 + 5 * (state[start + 2] as usize).min(13) } else { 0 };
-        state[start + in_use..start + 68].iter_mut().for_each(|byte| *byte = random.byte());
+        let start = FRAMES + FRAME * frame;
+        let in_use = if frame < depth { 3 + SET * (state[start + 2] as usize).min(SETS) } else { 0 };
+        state[start + in_use..start + FRAME].iter_mut().for_each(|byte| *byte = random.byte());
     }
 }

@@ -1,5 +1,6 @@
 //! Every limit of the sheet, met and missed by one.
 
+use crate::model::state::{ATTRIBUTES, HIGHEST};
 use crate::plan::*;
 
 fn rule(expression: Option<Expression>) -> Rule {
@@ -42,7 +43,7 @@ pub fn nodes(count: usize) -> Expression {
 
 /// The fullest sheet: 27,928 bytes, with 64 programs of 256 bytes and 64 productions of 4 nodes.
 pub fn fullest() -> Plan {
-    let mut program = [1, 3, 15].repeat(85);
+    let mut program = [1, ATTRIBUTES as u8 - 1, HIGHEST].repeat(85);
     program.push(0);
     let strings = "\u{10FFFF}".repeat(2048).into_bytes();
     let mut plan = Plan { tags: tags(64, 15), programs: vec![program; 64], strings, ..Plan::default() };
@@ -156,8 +157,8 @@ fn programs() -> Vec<Vec<u8>> {
 fn statements() -> Vec<Vec<u8>> {
     let mut sheets = Vec::new();
     for kind in 0..=12 {
-        for a in [0, 3, 4] {
-            for v in [0, 3, 4, 15, 16] {
+        for a in [0, 3, 4, 7, 8] {
+            for v in [0, 3, 4, 7, 8, 15, 16, 63, 64] {
                 let plain = [vec![kind, a, v, 0], vec![kind, a, 0], vec![kind, 0]];
                 let branching = [vec![10, 0, kind, v, 1, a, 0, 0, 0], vec![10, kind, 0, a, 0, v, 0, 0, 0]];
                 for program in plain.into_iter().chain(branching) {

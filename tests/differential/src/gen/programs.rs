@@ -1,6 +1,7 @@
 //! Random programs, well-formed ones, and the strings they print.
 
 use super::streams;
+use crate::model::state::{ATTRIBUTES, HIGHEST};
 use crate::random::Random;
 
 /// Which visits a program may serve.
@@ -58,13 +59,13 @@ impl Writer<'_> {
     }
 
     fn attribute(&mut self) {
-        let attribute = self.random.below(4);
+        let attribute = self.random.below(ATTRIBUTES);
         self.put(attribute);
     }
 
     /// Small values meet each other, and the highest one is met too.
     fn value(&mut self) {
-        let value = *self.random.pick(&[0, 1, 1, 2, 3, 15]);
+        let value = *self.random.pick(&[0, 1, 1, 2, 3, HIGHEST as usize]);
         self.put(value);
     }
 

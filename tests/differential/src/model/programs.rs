@@ -1,5 +1,6 @@
 //! Programs: reading a section of them (the part of number 6 that does not speak of fields), and what they hold.
 
+use super::state::{ATTRIBUTES, HIGHEST};
 use super::tokens;
 use std::collections::BTreeMap;
 
@@ -66,11 +67,11 @@ impl Reader<'_> {
     }
 
     fn attribute(&mut self) -> Option<u8> {
-        self.at_most(3)
+        self.at_most(ATTRIBUTES as u8 - 1)
     }
 
     fn value(&mut self) -> Option<u8> {
-        self.at_most(15)
+        self.at_most(HIGHEST)
     }
 
     fn tag(&mut self) -> Option<u8> {

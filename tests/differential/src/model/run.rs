@@ -2,7 +2,7 @@
 
 use super::programs::{Condition, Operand, Statement};
 use super::sheet::{Body, Node, Production, Sheet, NONE};
-use super::state::{Frame, Set, State, DEEPEST, MOST_VISITS, OPEN};
+use super::state::{Frame, Set, State, ATTRIBUTES, DEEPEST, MOST_VISITS, OPEN};
 use super::tokens::{self, is_white_space, Answer, Event};
 use super::words::{place, Symbol, Words};
 use super::faults;
@@ -232,12 +232,12 @@ impl Run<'_> {
         Ok(set)
     }
 
-    fn program(&mut self, offset: u16, after_first: Option<&[u8; 4]>) -> Result<(), u8> {
+    fn program(&mut self, offset: u16, after_first: Option<&[u8; ATTRIBUTES]>) -> Result<(), u8> {
         let sheet = self.sheet;
         if offset == NONE { Ok(()) } else { self.statements(&sheet.programs[&(offset as usize)], after_first) }
     }
 
-    fn statements(&mut self, list: &[Statement], after_first: Option<&[u8; 4]>) -> Result<(), u8> {
+    fn statements(&mut self, list: &[Statement], after_first: Option<&[u8; ATTRIBUTES]>) -> Result<(), u8> {
         for statement in list {
             match statement {
                 Statement::Constant { attribute, value } => self.state.attributes[*attribute as usize] = *value,
@@ -265,7 +265,7 @@ impl Run<'_> {
         Ok(())
     }
 
-    fn holds(&self, condition: &Condition, after_first: Option<&[u8; 4]>) -> bool {
+    fn holds(&self, condition: &Condition, after_first: Option<&[u8; ATTRIBUTES]>) -> bool {
         let value = |operand: &Operand| match operand {
             Operand::Constant(value) => *value,
             Operand::Current(attribute) => self.state.attributes[*attribute as usize],

@@ -2,20 +2,27 @@
 
 use super::sheet::{Body, Node, Sheet};
 
-pub const LENGTH: usize = 2199;
+pub const ATTRIBUTES: usize = 8;
+pub const HIGHEST: u8 = 63;
 pub const DEEPEST: usize = 32;
 pub const MOST_VISITS: u64 = 1 << 62;
 /// The closing number of a state that is not closed.
 pub const OPEN: u8 = 255;
 
-const FRAMES: usize = 23;
-const FRAME: usize = 68;
-const SET: usize = 5;
-const SETS: usize = 13;
+// Where the parts of the bytes stand. The attributes come first, then echo.
+pub const COUNT: usize = ATTRIBUTES + 1;
+pub const ROOTED: usize = COUNT + 8;
+pub const CLOSING: usize = ROOTED + 1;
+pub const DEPTH: usize = CLOSING + 1;
+pub const FRAMES: usize = DEPTH + 8;
+pub const SET: usize = ATTRIBUTES + 1;
+pub const SETS: usize = 13;
+pub const FRAME: usize = 3 + SETS * SET;
+pub const LENGTH: usize = FRAMES + DEEPEST * FRAME;
 
 #[derive(Clone, Debug, PartialEq)]
 pub struct State {
-    pub attributes: [u8; 4],
+    pub attributes: [u8; ATTRIBUTES],
     pub echo: bool,
     pub visits: u64,
     /// Looked at only with no element open.
@@ -36,14 +43,14 @@ pub struct Frame {
 #[derive(Clone, Debug, PartialEq)]
 pub struct Set {
     /// The attributes just after the first visit.
-    pub attributes: [u8; 4],
+    pub attributes: [u8; ATTRIBUTES],
     /// Echo as it was before the first visit.
     pub echo: bool,
 }
 
 impl State {
     pub fn fresh() -> State {
-        State { attributes: [0; 4], echo: false, visits: 0, rooted: false, closing: OPEN, stack: Vec::new() }
+        State { attributes: [0; ATTRIBUTES], echo: false, visits: 0, rooted: false, closing: OPEN, stack: Vec::new() }
     }
 
     /// Reads the bytes if they can be a state at all: the length, the depth and each frame's sets must be within the layout.
@@ -52,17 +59,17 @@ impl State {
             return None;
         }
         let number = |at: usize| u64::from_le_bytes(bytes[at..at + 8].try_into().unwrap());
-        let depth = number(15);
+        let depth = number(DEPTH);
         if depth > DEEPEST as u64 {
             return None;
         }
         let stack: Option<Vec<Frame>> = bytes[FRAMES..].chunks(FRAME).take(depth as usize).map(Frame::read).collect();
         Some(State {
-            attributes: bytes[..4].try_into().unwrap(),
-            echo: bytes[4] != 0,
-            visits: number(5),
-            rooted: bytes[13] != 0,
-            closing: bytes[14],
+            attributes: bytes[..ATTRIBUTES].try_into().unwrap(),
+            echo: bytes[ATTRIBUTES] != 0,
+            visits: number(COUNT),
+            rooted: bytes[ROOTED] != 0,
+            closing: bytes[CLOSING],
             stack: stack?,
         })
     }
@@ -105,7 +112,7 @@ impl State {
             may_be = if frame.place == 0 { None } else { atoms[frame.place as usize - 1] };
         }
         let saved = self.stack.iter().flat_map(|frame| &frame.sets).flat_map(|set| set.attributes);
-        let values_fit = self.attributes.into_iter().chain(saved).all(|value| value <= 15);
+        let values_fit = self.attributes.into_iter().chain(saved).all(|value| value <= HIGHEST);
         let closing_fits = matches!(self.closing, 0 | 20..=27 | 30 | OPEN);
         values_fit && closing_fits && self.visits <= MOST_VISITS
     }
@@ -118,7 +125,7 @@ impl Frame {
             return None; // no place has over 12 open nodes
         }
         let sets = bytes[3..].chunks(SET).take(in_use);
-        let sets = sets.map(|set| Set { attributes: set[..4].try_into().unwrap(), echo: set[4] != 0 }).collect();
+        let sets = sets.map(|set| Set { attributes: set[..ATTRIBUTES].try_into().unwrap(), echo: set[ATTRIBUTES] != 0 }).collect();
         Some(Frame { production: bytes[0], place: bytes[1], sets })
     }
 }
