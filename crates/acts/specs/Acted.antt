@@ -6,6 +6,7 @@ use mathlib.Core.List.{List}
 use mathlib.Core.Option.{Option, none, some}
 use Prim.Native.Nat.{ℕ, suc, _+_, _*_, _≤_, _<_}
 use lib.ListN.{length}
+use Rattle.limits.specs.Limits.{deepestTree}
 use Rattle.lent.specs.Put.{PutAs}
 use Rattle.output.specs.Escape.{render}
 use Rattle.expressions.specs.Words.{Bracket}
@@ -47,7 +48,7 @@ pub record BracketsAs (s : List ℕ) (q : ℕ) (line : List ℕ) (z : State) (p 
   pub deep : r .state .depth ≡ z .depth
   pub dry : p .write ≡ false → d ≡ p .lent
   pub right : (a : Sheet) → IsSheet s a → (α : List Bracket) → line ≡ codes α → Shaped z → (o : Open) (os : List Open) → meaningOf z .control ≡ inside o os →
-      (ns ns′ : List ℕ) → through-nodes 12 α ns ≡ some ns′ → topOf z .«open» ≡ suc (length ns) →
+      (ns ns′ : List ℕ) → through-nodes deepestTree α ns ≡ some ns′ → topOf z .«open» ≡ suc (length ns) →
       Comes (acts a (bracket-acts q α) (meaningOf z .store)) (meaningOf z .control) z p r d
 
 -- a start tag of production q

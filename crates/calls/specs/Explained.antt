@@ -6,6 +6,7 @@ use mathlib.Core.List.{List, [], _∷_, _++_}
 use mathlib.Core.Logic.{_↔_}
 use Prim.Native.Nat.{ℕ, _≤_, _<_}
 use lib.ListN.{length}
+use Rattle.limits.specs.Limits.{longestToken}
 use Rattle.tokens.specs.declared.Answer.the-variants.{Begun, Bad, Long}
 use Rattle.tokens.specs.Tokens.{Tok, Good, bytes}
 use Rattle.tokens.specs.Stream.{ReadAs, flat, AllGood, AllShort, Followed, AllWhole}
@@ -22,7 +23,7 @@ use Rattle.calls.specs.Call.{Result, Called}
 -- t is the next token of the bytes that are left, and `rest` comes after it
 pub record NextToken (more : Bool) (left : List ℕ) (t : Tok) (rest : List ℕ) : Type 0 where
   pub good : Good t
-  pub short : length (bytes t) ≤ 32
+  pub short : length (bytes t) ≤ longestToken
   pub whole : Followed more t rest
   pub are-bytes : left ≡ bytes t ++ rest
 

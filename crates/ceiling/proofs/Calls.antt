@@ -25,7 +25,7 @@ use Rattle.tokens.specs.Stream.{Reads}
 use Rattle.calls.specs.Call.{Result, CalledBy}
 use Rattle.calls.specs.Limits.{silent}
 use Rattle.calls.proofs.Steps.{tokensOf, Steps, run-does}
-use Rattle.few.specs.Strings.{nodesAtMost}
+use Rattle.limits.specs.Limits.{nodesAtMost}
 use Rattle.ceiling.specs.Visits.{FewNodes, SheetsHaveFew, ceiling, forToken, countIn, StepVisits, TokenVisits, CallVisits, CeilingKept}
 use Rattle.ceiling.proofs.Moves.{event-visits, run-visits}
 

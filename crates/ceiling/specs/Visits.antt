@@ -20,7 +20,7 @@ use Rattle.calls.specs.Held.{Held}
 use Rattle.tokens.specs.Stream.{Reads}
 use Rattle.calls.specs.Call.{Result, Called}
 use Rattle.few.specs.Once.{Once}
-use Rattle.few.specs.Strings.{nodesAtMost}
+use Rattle.limits.specs.Limits.{nodesAtMost}
 
 abbrev pub FewNodes : List Production → Type 0
 FewNodes g = (q : ℕ) → nodesOf (contentOf g q) ≤ nodesAtMost

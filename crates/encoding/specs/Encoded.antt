@@ -3,6 +3,7 @@ use mathlib.Core.List.{List, [], _∷_}
 use mathlib.Core.Option.{Option, none, some}
 use Prim.Native.Nat.{ℕ, _≤_}
 use lib.ListN.{length}
+use Rattle.limits.specs.Limits.{mostTags, mostProgramBytes, mostStringBytes}
 use Rattle.programs.specs.Program.{Program as SheetProgram, programBytes}
 use Rattle.sheet.specs.Fields.{Visits as SheetVisits}
 use Rattle.sheet.specs.Sheet.{Rule as SheetRule, Sheet}
@@ -31,9 +32,9 @@ programsOf r = distinct (bytesOfEach r (programsIn (inRules (r .productions))))
 
 -- number 41 is given exactly where a rule text has rules without room
 pub record Room (r : Rules) : Type 0 where
-  pub few-tags : length (tagsOf r) ≤ 64
-  pub short-programs : length (run-together (programsOf r)) ≤ 16384
-  pub short-strings : length (run-together (stringsOf r)) ≤ 8192
+  pub few-tags : length (tagsOf r) ≤ mostTags
+  pub short-programs : length (run-together (programsOf r)) ≤ mostProgramBytes
+  pub short-strings : length (run-together (stringsOf r)) ≤ mostStringBytes
 
 abbrev pub maybe : Rules → Option Program → Option SheetProgram
 maybe r none = none

@@ -5,6 +5,7 @@ use mathlib.Core.List.{List, [], _∷_}
 use mathlib.Core.Option.{Option, none, some}
 use Prim.Native.Nat.{ℕ, _≤_, _<_}
 use lib.ListN.{length}
+use Rattle.limits.specs.Limits.{nodesAtMost, deepestTree}
 use Rattle.expressions.specs.Expr.{nodesOf}
 use Rattle.expressions.specs.Grammar.{nonterminals}
 use Rattle.programs.specs.Program.{Program}
@@ -34,8 +35,8 @@ pub record RuleKeeps (s : Sheet) (r : Rule) : Type 0 where
   pub nonterminal : r .production .nonterm < nonterminals
   pub tag : r .production .tagno < length (s .names)
   pub each-node : length (r .of-nodes) ≡ nodesOf (r .production .content)
-  pub few-nodes : nodesOf (r .production .content) ≤ 32
-  pub shallow : depthOf (r .production .content) ≤ 12
+  pub few-nodes : nodesOf (r .production .content) ≤ nodesAtMost
+  pub shallow : depthOf (r .production .content) ≤ deepestTree
   pub own : VisitsKeep s (r .own)
   pub nodes : AllKeep s (r .of-nodes)
 

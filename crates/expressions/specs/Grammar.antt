@@ -5,6 +5,7 @@ use mathlib.Core.Bool.{Bool, true, false, _||_}
 use mathlib.Core.List.{List, [], _∷_, _++_}
 use Prim.Native.Nat.{ℕ, zero, suc, _+_, _≤_, _<_}
 use lib.Dec.{eqb}
+use Rattle.limits.specs.Limits.{mostTags}
 use Rattle.expressions.specs.Expr.{Atom, nonterminal, anychar, Content, nothing, nodesOf}
 
 pub record Production : Type 0 where
@@ -41,7 +42,7 @@ Numbered n [] = Unit {0}
 Numbered n (d ∷ ds) = (d .nonterm < nonterminals) × (d .tagno < n) × Numbered n ds
 
 pub record Small (n : ℕ) (g : List Production) : Type 0 where
-  pub few-tags : n ≤ 64
+  pub few-tags : n ≤ mostTags
   pub numbered : Numbered n g
 
 -- the nodes of all productions

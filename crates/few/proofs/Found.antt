@@ -18,7 +18,8 @@ use Rattle.runs.specs.Options.{bind}
 use Rattle.runs.specs.Way.{Way, atomWay, endWay, into, across, through, out-of, led}
 use Rattle.runs.proofs.Rules.{no-S}
 use Rattle.runs.proofs.Ways.{end-found, atom-found, found-atom}
-use Rattle.few.specs.Strings.{nodesAtMost, mostBrackets, FewBrackets, StringsFew, stringTo, WaysFew}
+use Rattle.limits.specs.Limits.{nodesAtMost}
+use Rattle.few.specs.Strings.{mostBrackets, FewBrackets, StringsFew, stringTo, WaysFew}
 use Rattle.few.proofs.Weighed.{Few, few-add-right, Fine, Most, MostWay, weigh, total, through-fine, into-fine, out-fine, round, across-fine}
 use Rattle.few.proofs.Counting.{one-each, weigh-length, total-nodes, only, total-once, weighed-once}
 

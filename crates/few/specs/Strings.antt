@@ -6,6 +6,7 @@ use mathlib.Core.List.{List}
 use mathlib.Core.Option.{Option, some}
 use Prim.Native.Nat.{ℕ, _*_, _≤_}
 use lib.ListN.{length}
+use Rattle.limits.specs.Limits.{nodesAtMost}
 use Rattle.expressions.specs.Expr.{Content, nodesOf}
 use Rattle.expressions.specs.Words.{Bracket, Sym}
 use Rattle.expressions.specs.Grammar.{Next, tag, character, end}
@@ -15,9 +16,6 @@ use Rattle.runs.specs.Way.{atomWay, endWay}
 use Rattle.few.specs.Once.{Once}
 
 -- an expression of a sheet has at most 32 nodes, so a string at most 64 brackets
-abbrev pub nodesAtMost : ℕ
-nodesAtMost = 32
-
 abbrev pub mostBrackets : ℕ
 mostBrackets = 2 * nodesAtMost
 

@@ -6,6 +6,7 @@ use mathlib.Core.List.{List}
 use mathlib.Core.Option.{Option, none, some}
 use Prim.Native.Nat.{ℕ, suc, _+_, _≤_, _<_}
 use lib.ListN.{length}
+use Rattle.limits.specs.Limits.{deepestTree}
 use Rattle.expressions.specs.Expr.{Exp, nodes, atoms}
 use Rattle.expressions.specs.Grammar.{Production, contentOf}
 use Rattle.tells.specs.Tells.{Tells}
@@ -40,7 +41,7 @@ pub record WalkedAs (s : List ℕ) (p at j : ℕ) (r : Walked) : Type 0 where
 
 -- what is at the place p of production q
 pub record SpotIs (s : List ℕ) (q p : ℕ) (r : Spot) : Type 0 where
-  pub few : r .there ≡ true → r .«open» ≤ 12
+  pub few : r .there ≡ true → r .«open» ≤ deepestTree
   pub is : (g : List Production) → GrammarIs s g → SpotOf r (openNodes (contentOf g q) p) (childAt (contentOf g q) p)
 
 -- whether an open element fits where the child numbered `may` can be; and the child that its own place can have

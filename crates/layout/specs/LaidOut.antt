@@ -3,6 +3,7 @@ use mathlib.Core.Path.{_≡_}
 use mathlib.Core.List.{List}
 use Prim.Native.Nat.{ℕ, _+_, _*_, _≤_, _<_}
 use lib.ListN.{length}
+use Rattle.limits.specs.Limits.{largestSheet, mostTags, mostProductions, mostNodes, mostProgramBytes, mostStringBytes}
 use Rattle.layout.specs.Layout.{tagOffset, tagCount, productionOffset, productionCount, nodeOffset, nodeCount, programOffset, programLength, stringOffset, stringLength, start, mark, Size, Sections}
 use Rattle.layout.specs.declared.Layout.{Layout}
 
@@ -40,12 +41,12 @@ pub record LaidOut (s : List ℕ) (l : Layout) : Type 0 where
   pub nodes-before : l .«nodes_at» + 6 * l .nodes ≤ l .«programs_at»
   pub programs-before : l .«programs_at» + l .programs ≤ l .«strings_at»
   pub strings-before : l .«strings_at» + l .strings ≤ length s
-  pub small : length s ≤ 27928
-  pub few-tags : l .tags ≤ 64
-  pub few-productions : l .productions ≤ 64
-  pub few-nodes : l .nodes ≤ 256
-  pub short-programs : l .programs ≤ 16384
-  pub short-strings : l .strings ≤ 8192
+  pub small : length s ≤ largestSheet
+  pub few-tags : l .tags ≤ mostTags
+  pub few-productions : l .productions ≤ mostProductions
+  pub few-nodes : l .nodes ≤ mostNodes
+  pub short-programs : l .programs ≤ mostProgramBytes
+  pub short-strings : l .strings ≤ mostStringBytes
   pub layout-is : LayoutIs s l
   pub size : Size s
   pub sections : Sections s

@@ -3,6 +3,7 @@ use mathlib.Core.Path.{_≡_}
 use mathlib.Core.List.{List}
 use Prim.Native.Nat.{ℕ, suc, _+_, _-_, _*_, _≤_}
 use lib.ListN.{length, getD, take, drop}
+use Rattle.limits.specs.Limits.{largestSheet, mostTags, mostProductions, mostNodes, mostProgramBytes, mostStringBytes}
 
 abbrev pub byteAt : List ℕ → ℕ → ℕ
 byteAt s i = getD s i 0
@@ -54,23 +55,23 @@ mark s = trailerWord s 11
 -- number 1: at least the trailer, at most what the sections may hold with it
 pub record Size (s : List ℕ) : Type 0 where
   pub least : 24 ≤ length s
-  pub most : length s ≤ 27928
+  pub most : length s ≤ largestSheet
 
 -- number 2: the mark, bytes 58 53; sections back to back from byte 0, each within its count; the trailer follows at once
 pub record Sections (s : List ℕ) : Type 0 where
   pub marked : mark s ≡ 0x5358
   pub tags-at : tagOffset s ≡ 0
   pub some-tags : 1 ≤ tagCount s
-  pub few-tags : tagCount s ≤ 64
+  pub few-tags : tagCount s ≤ mostTags
   pub productions-at : productionOffset s ≡ tagOffset s + 16 * tagCount s
   pub some-productions : 1 ≤ productionCount s
-  pub few-productions : productionCount s ≤ 64
+  pub few-productions : productionCount s ≤ mostProductions
   pub nodes-at : nodeOffset s ≡ productionOffset s + 12 * productionCount s
-  pub few-nodes : nodeCount s ≤ 256
+  pub few-nodes : nodeCount s ≤ mostNodes
   pub programs-at : programOffset s ≡ nodeOffset s + 6 * nodeCount s
-  pub short-programs : programLength s ≤ 16384
+  pub short-programs : programLength s ≤ mostProgramBytes
   pub strings-at : stringOffset s ≡ programOffset s + programLength s
-  pub short-strings : stringLength s ≤ 8192
+  pub short-strings : stringLength s ≤ mostStringBytes
   pub trailer-at : length s ≡ stringOffset s + stringLength s + 24
 
 -- the sections of programs and of strings

@@ -5,6 +5,7 @@ use mathlib.Core.List.{List, [], _∷_, _++_}
 use Prim.Native.Nat.{ℕ, zero, suc, _≤_, _<_}
 use lib.Dec.{ltb, eqb}
 use lib.ListN.{length, take, getD}
+use Rattle.limits.specs.Limits.{longestName}
 use Rattle.text.specs.Names.{nameFirst, nameByte, Name}
 use Rattle.text.specs.Chars.{Char, utf8}
 use Rattle.text.specs.Characters.{utf8s}
@@ -71,10 +72,10 @@ pub record Numbered (a : List ℕ) (count : ℕ) (v : List ℕ) (n : ℕ) : Type
 -- the first n bytes are a name; of at most 15, and of no more
 pub record NameRun (x : List ℕ) (n : ℕ) : Type 0 where
   pub reached : n ≤ length x
-  pub short : n ≤ 15
+  pub short : n ≤ longestName
   pub named : 1 ≤ n → Name (take n x)
   pub none : n ≡ 0 → n < length x → nameFirst (getD x n 0) ≡ false
-  pub no-more : 1 ≤ n → n < 15 → n < length x → nameByte (getD x n 0) ≡ false
+  pub no-more : 1 ≤ n → n < longestName → n < length x → nameByte (getD x n 0) ≡ false
 
 -- a name, whose number is its length
 pub record NameSpelling (v : List ℕ) (n : ℕ) : Type 0 where

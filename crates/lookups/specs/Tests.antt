@@ -5,8 +5,9 @@ use mathlib.Core.Bool.{Bool}
 use mathlib.Core.List.{List}
 use Prim.Native.Nat.{ℕ, _≤_}
 use lib.ListN.{length}
+use Rattle.limits.specs.Limits.{longestName}
 use Rattle.sheet.specs.Tags.{tagRecord}
 use Rattle.calls.specs.Names.{sameName}
 
 pub record NameTold (b name : List ℕ) (r : Bool) : Type 0 where
-  pub is : (n : List ℕ) → length n ≤ 15 → b ≡ tagRecord n → r ≡ sameName n name
+  pub is : (n : List ℕ) → length n ≤ longestName → b ≡ tagRecord n → r ≡ sameName n name

@@ -4,6 +4,7 @@ use mathlib.Core.List.{List, [], _∷_}
 use mathlib.Core.Option.{Option, none, some}
 use Prim.Native.Nat.{ℕ, _+_, _≤_}
 use lib.ListN.{length}
+use Rattle.limits.specs.Limits.{mostProductions, mostNodes, nodesAtMost, deepestTree, longestProgram, deepestProgram}
 use Rattle.expressions.specs.Expr.{depth, Content, nothing, tree, nodesOf}
 use Rattle.programs.specs.Program.{programBytes}
 use Rattle.programs.specs.Limits.{nesting}
@@ -18,8 +19,8 @@ abbrev pub nestingOf : Program → ℕ
 nestingOf p = nesting (programIn (λ n. 0) (λ s. 0) p)
 
 pub record ProgramWithin (p : Program) : Type 0 where
-  pub short : sizeOf p ≤ 256
-  pub shallow : nestingOf p ≤ 8
+  pub short : sizeOf p ≤ longestProgram
+  pub shallow : nestingOf p ≤ deepestProgram
 
 abbrev pub OptionWithin : Option Program → Type 0
 OptionWithin none = Unit {0}
@@ -37,8 +38,8 @@ depthOf nothing = 0
 depthOf (tree e) = depth e
 
 pub record ContentWithin (e : Option Tree) : Type 0 where
-  pub few-nodes : nodesOf (contentOf e) ≤ 32
-  pub shallow : depthOf (contentOf e) ≤ 12
+  pub few-nodes : nodesOf (contentOf e) ≤ nodesAtMost
+  pub shallow : depthOf (contentOf e) ≤ deepestTree
   pub programs : AllWithin (visitsIn e)
 
 pub record RuleWithin (r : Rule) : Type 0 where
@@ -54,6 +55,6 @@ nodesInAll [] = 0
 nodesInAll (r ∷ rs) = nodesOf (contentOf (r .inside)) + nodesInAll rs
 
 pub record Within (r : Rules) : Type 0 where
-  pub few-productions : length (r .productions) ≤ 64
-  pub few-nodes : nodesInAll (r .productions) ≤ 256
+  pub few-productions : length (r .productions) ≤ mostProductions
+  pub few-nodes : nodesInAll (r .productions) ≤ mostNodes
   pub each : EachWithin (r .productions)

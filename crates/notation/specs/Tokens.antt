@@ -3,6 +3,7 @@ use mathlib.Core.List.{List, [], _∷_, _++_}
 use Prim.Native.Nat.{ℕ, _+_, _/_, _%_, _≤_}
 use lib.Dec.{ltb, eqb}
 use lib.ListN.{length}
+use Rattle.limits.specs.Limits.{longestName}
 use Rattle.text.specs.Chars.{pick, utf8}
 use Rattle.text.specs.Characters.{AllChar, utf8s}
 use Rattle.text.specs.Names.{Name}
@@ -96,7 +97,7 @@ bytesOf (sign s) = signBytes s
 -- a tag's name: at most 15 bytes
 pub record TagName (n : List ℕ) : Type 0 where
   pub a-name : Name n
-  pub short : length n ≤ 15
+  pub short : length n ≤ longestName
 
 -- a string's characters: at most 255 bytes
 pub record StringOf (cs : List ℕ) : Type 0 where

@@ -5,6 +5,7 @@ use mathlib.Core.Bool.{Bool, true, false, _&&_}
 use mathlib.Core.List.{List, [], _∷_, _++_}
 use Prim.Native.Nat.{ℕ, suc, _+_, _≤_, _<_, max}
 use lib.ListN.{length, take, drop}
+use Rattle.limits.specs.Limits.{longestProgram, deepestProgram}
 use Rattle.text.specs.Characters.{WholeCharacters}
 use Rattle.programs.specs.Bounds.{Bounds, bounds, AttributeIn, ValueIn}
 use Rattle.programs.specs.Program.{Operand, constant, current, recalled, Condition, equal, negated, both, either, Statement, become, copy, recall, reject, print-start, print-end, print-text, echo, branch, Program, done, step, programBytes}
@@ -87,8 +88,8 @@ abbrev mutual
 
 -- a program of a sheet: at most 256 bytes with its closing 0, nested at most 8 deep
 pub record IsProgramIn (b : Bounds) (tags : ℕ) (strings : List ℕ) (p : Program) : Type 0 where
-  pub short : length (programBytes p) ≤ 256
-  pub shallow : nesting p ≤ 8
+  pub short : length (programBytes p) ≤ longestProgram
+  pub shallow : nesting p ≤ deepestProgram
   pub fits : StatementsFitIn b tags strings p
 
 abbrev pub IsProgram : ℕ → List ℕ → Program → Type 0

@@ -7,6 +7,7 @@ use Prim.Native.Nat.{ℕ, _≤_}
 use native.Mathlib.Decide.{decLe, ℕ-discrete}
 use native.Mathlib.Omega.{arith}
 use lib.ListN.{length}
+use Rattle.limits.specs.Limits.{longestName}
 use Rattle.text.specs.Chars.{In, Char}
 use Rattle.text.specs.Characters.{AllChar, utf8s}
 use Rattle.text.specs.Names.{All, Name, nameByte, nameFirst}
@@ -39,9 +40,9 @@ name? [] = no (λ h. h)
 name? (x ∷ n) = both? (true? (nameFirst x)) (all? nameByte n)
 
 pub tagName? : (n : List ℕ) → Dec (TagName n)
-tagName? n = told (name? n) (decLe (length n) 15)
+tagName? n = told (name? n) (decLe (length n) longestName)
   where
-    told : Dec (Name n) → Dec (length n ≤ 15) → Dec (TagName n)
+    told : Dec (Name n) → Dec (length n ≤ longestName) → Dec (TagName n)
     told (yes a) (yes s) = yes (record { a-name = a; short = s })
     told (yes a) (no s) = no (λ h. s (h .short))
     told (no a) d = no (λ h. a (h .a-name))

@@ -6,6 +6,7 @@ use mathlib.Core.List.{List, [], _∷_}
 use mathlib.Core.Option.{Option, none, some}
 use Prim.Native.Nat.{ℕ, _≤_, _<_}
 use lib.ListN.{length}
+use Rattle.limits.specs.Limits.{longestName}
 use Rattle.text.specs.Chars.{Char}
 use Rattle.text.specs.Names.{Name}
 use Rattle.programs.specs.Program.{Program}
@@ -20,7 +21,7 @@ use Rattle.runs.specs.Acts.{Act, node-first, node-second, start-tag, end
 
 abbrev pub NamesFit : List (List ℕ) → Type 0
 NamesFit [] = Unit {0}
-NamesFit (n ∷ ns) = (Name n × (length n ≤ 15)) × NamesFit ns
+NamesFit (n ∷ ns) = (Name n × (length n ≤ longestName)) × NamesFit ns
 
 -- with the bounds b
 abbrev pub ProgramFitsIn : Bounds → Sheet → Visit → Option Program → Type 0

@@ -2,6 +2,7 @@
 use mathlib.Core.Path.{_≡_}
 use mathlib.Core.List.{List}
 use Prim.Native.Nat.{ℕ, _+_, _≤_, _<_}
+use Rattle.limits.specs.Limits.{nodesAtMost}
 use Rattle.expressions.specs.Grammar.{lastNonterminal}
 use Rattle.layout.specs.Layout.{byteAt, tagCount, productionCount, nodeCount, start}
 use Rattle.layout.specs.Records.{productionAt, nonterminalOf, tagNumberOf, firstNodeOf, nodeCountOf, nodesBefore}
@@ -10,7 +11,7 @@ pub record ProductionFits (s : List ℕ) (q : ℕ) : Type 0 where
   pub nonterminal : nonterminalOf s q ≤ lastNonterminal
   pub tag : tagNumberOf s q < tagCount s
   pub follows : firstNodeOf s q ≡ nodesBefore s q
-  pub few-nodes : nodeCountOf s q ≤ 32
+  pub few-nodes : nodeCountOf s q ≤ nodesAtMost
   pub zero-5 : byteAt s (productionAt s q + 5) ≡ 0
   pub zero-10 : byteAt s (productionAt s q + 10) ≡ 0
   pub zero-11 : byteAt s (productionAt s q + 11) ≡ 0

@@ -3,12 +3,13 @@ use mathlib.Core.Path.{_≡_}
 use mathlib.Core.List.{List, _∷_, _++_}
 use Prim.Native.Nat.{ℕ, _+_, _-_, _*_, _≤_, _<_}
 use lib.ListN.{length, take, drop, replicate}
+use Rattle.limits.specs.Limits.{longestName}
 use Rattle.text.specs.Names.{Name}
 use Rattle.layout.specs.Layout.{tagOffset, tagCount}
 
 -- a tag's 16 bytes: the length, the name, zero fill
 abbrev pub tagRecord : List ℕ → List ℕ
-tagRecord n = length n ∷ (n ++ replicate (15 - length n) 0)
+tagRecord n = length n ∷ (n ++ replicate (longestName - length n) 0)
 
 -- the bytes of tag number t
 abbrev pub tagBytes : List ℕ → ℕ → List ℕ
@@ -17,7 +18,7 @@ tagBytes s t = take 16 (drop (tagOffset s + 16 * t) s)
 -- tag number t has the name n: a name, of at most 15 bytes (a name has at least one)
 pub record TagAt (s : List ℕ) (t : ℕ) (n : List ℕ) : Type 0 where
   pub a-name : Name n
-  pub short : length n ≤ 15
+  pub short : length n ≤ longestName
   pub spelled : tagBytes s t ≡ tagRecord n
 
 -- number 3: each tag has a name, and all are different

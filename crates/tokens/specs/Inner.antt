@@ -6,6 +6,7 @@ use mathlib.Core.Bool.{Bool, true, false}
 use mathlib.Core.List.{List, [], _∷_, _++_}
 use lib.ListN.{length, getD, drop}
 use lib.Dec.{ltb}
+use Rattle.limits.specs.Limits.{longestToken}
 use Rattle.text.specs.Chars.{Char, Starts, Begins, Apart}
 use Rattle.text.specs.Names.{All}
 use Rattle.text.specs.Numerals.{Base, decimal, radix, digitBelow, valueFrom}
@@ -17,7 +18,7 @@ use Rattle.tokens.specs.declared.Answer.the-variants.{Long}
 
 -- f is a front at `at`: 32 bytes at most, and no place in it is past what a number can hold
 pub record Front (f : List ℕ) (at : ℕ) : Type 0 where
-  pub short : length f ≤ 32
+  pub short : length f ≤ longestToken
   pub fits : at + length f < 2 ^ 64
 
 -- the first byte, if there is one, does not pass
@@ -46,7 +47,7 @@ pickAnswer false a b = b
 
 -- what a front is that a token was cut off from, where the shortest such token has n bytes and one more
 abbrev pub cutAt : ℕ → Answer
-cutAt n = pickAnswer (ltb n 32) Answer.Begun Long
+cutAt n = pickAnswer (ltb n longestToken) Answer.Begun Long
 
 -- f starts with what opens a reference by number, its digits are of the base r, and they come next, from `from` on
 pub record Opened (f : List ℕ) (from r : ℕ) : Type 0 where

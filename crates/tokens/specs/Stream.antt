@@ -5,6 +5,7 @@ use mathlib.Core.Path.{_≡_}
 use mathlib.Core.Bool.{Bool, true, false}
 use mathlib.Core.List.{List, [], _∷_, _++_}
 use lib.ListN.{length, take, drop}
+use Rattle.limits.specs.Limits.{longestToken}
 use Rattle.text.specs.Names.{blank, All, Name}
 use Rattle.tokens.specs.declared.Event.{Event}
 use Rattle.tokens.specs.declared.Event.the-variants.{Start, End, Empty, Character}
@@ -43,7 +44,7 @@ AllGood (t ∷ ts) = Good t × AllGood ts
 -- each has at most 32 bytes
 abbrev pub AllShort : List Tok → Type 0
 AllShort [] = Unit {0}
-AllShort (t ∷ ts) = (length (bytes t) ≤ 32) × AllShort ts
+AllShort (t ∷ ts) = (length (bytes t) ≤ longestToken) × AllShort ts
 
 -- t is the token where these bytes follow it: behind a CR alone comes a byte other than LF, or nothing, now or later
 abbrev pub Followed : (moreToCome : Bool) → Tok → List ℕ → Type 0

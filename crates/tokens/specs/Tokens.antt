@@ -5,6 +5,7 @@ use mathlib.Core.Path.{_≡_}
 use mathlib.Core.Bool.{true, false}
 use mathlib.Core.List.{List, [], _∷_, _++_}
 use lib.ListN.{length, take, drop}
+use Rattle.limits.specs.Limits.{longestToken}
 use Rattle.text.specs.Chars.{Char, utf8, Starts, Begins}
 use Rattle.text.specs.Names.{blank, All, Name}
 use Rattle.text.specs.Numerals.{Base, decimal, hex, Digits, valueOf}
@@ -105,7 +106,7 @@ eventOf at (char c) = Character c true
 
 -- the front of a stream at a position: the next bytes, 32 at most
 abbrev pub front : List ℕ → ℕ → List ℕ
-front s at = take 32 (drop at s)
+front s at = take longestToken (drop at s)
 
 -- f starts with a token and with none that is longer (CR LF starts with CR too); it stands at `at`, its event is e and it ends at next
 pub record Longest (f : List ℕ) (at : ℕ) (e : Event) (next : Cursor) : Type 0 where
@@ -133,6 +134,6 @@ BeginsOne f = (t : Tok) × Good t × Begins f (bytes t)
 abbrev pub Means : List ℕ → ℕ → Answer → Type 0
 Means f at (Token e next) = Longest f at e next × (BeginsOne f → ⊥)
 Means f at (Waiting e next) = Longest f at e next × BeginsOne f
-Means f at Begun = StartsNone f × ((t : Tok) × Good t × Begins f (bytes t) × (length (bytes t) ≤ 32))
+Means f at Begun = StartsNone f × ((t : Tok) × Good t × Begins f (bytes t) × (length (bytes t) ≤ longestToken))
 Means f at Bad = StartsNone f × (BeginsOne f → ⊥)
-Means f at Long = StartsNone f × BeginsOne f × ((t : Tok) → Good t → Begins f (bytes t) → 32 < length (bytes t))
+Means f at Long = StartsNone f × BeginsOne f × ((t : Tok) → Good t → Begins f (bytes t) → longestToken < length (bytes t))

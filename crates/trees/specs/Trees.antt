@@ -2,6 +2,7 @@
 use mathlib.Core.Path.{_≡_}
 use mathlib.Core.List.{List}
 use Prim.Native.Nat.{ℕ, suc, _+_, _≤_, _<_}
+use Rattle.limits.specs.Limits.{deepestTree}
 use Rattle.expressions.specs.Expr.{nonterminal, anychar, Exp, atom, cat, alt, star, empty, nodes, depth, Content, nothing, tree}
 use Rattle.expressions.specs.Grammar.{lastNonterminal}
 use Rattle.layout.specs.Layout.{productionCount}
@@ -19,7 +20,7 @@ TreeAt s i empty = (kindOf s i ≡ 6) × (argumentOf s i ≡ 0)
 -- production q's expression: none where it has no nodes, else its nodes are one whole tree, at most 12 deep
 abbrev pub ContentAt : List ℕ → ℕ → Content → Type 0
 ContentAt s q nothing = nodeCountOf s q ≡ 0
-ContentAt s q (tree e) = TreeAt s (firstNodeOf s q) e × (nodes e ≡ nodeCountOf s q) × (depth e ≤ 12)
+ContentAt s q (tree e) = TreeAt s (firstNodeOf s q) e × (nodes e ≡ nodeCountOf s q) × (depth e ≤ deepestTree)
 
 -- number 5: each production has its expression
 pub record Trees (s : List ℕ) : Type 0 where

@@ -6,6 +6,7 @@ use mathlib.Core.List.{List, _∷_}
 use mathlib.Core.Option.{some}
 use Prim.Native.Nat.{ℕ, _+_, _*_, _≤_, _<_}
 use lib.ListN.{length, take, drop}
+use Rattle.limits.specs.Limits.{longestName}
 use Rattle.lent.specs.Put.{PutAs}
 use Rattle.text.specs.Chars.{Starts}
 use Rattle.text.specs.Characters.{WholeCharacters}
@@ -44,7 +45,7 @@ tagText true n = endTag n
 
 -- the record of tag t, 16 bytes after 16 bytes, starts with the length of the name n and n
 pub record NameAt (tags : List ℕ) (t : ℕ) (n : List ℕ) : Type 0 where
-  pub short : length n ≤ 15
+  pub short : length n ≤ longestName
   pub spelled : Starts (drop (16 * t) tags) (length n ∷ n)
 
 abbrev pub TagOf : List ℕ → ℕ → Bool → List ℕ → Type 0

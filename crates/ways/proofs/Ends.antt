@@ -14,7 +14,8 @@ use Rattle.layout.specs.declared.Layout.{Layout}
 use Rattle.layout.specs.LaidOut.{LaidOut}
 use Rattle.layout.specs.Layout.{productionCount, nodeCount}
 use Rattle.layout.specs.Records.{firstNodeOf, nodeCountOf}
-use Rattle.few.specs.Strings.{nodesAtMost, mostBrackets}
+use Rattle.limits.specs.Limits.{nodesAtMost}
+use Rattle.few.specs.Strings.{mostBrackets}
 use Rattle.few.proofs.Found.{atom-way-64, end-way-64}
 use Rattle.runs.specs.Way.{Way as Found, joined, led, through, into, out-of, across, endWay, atomWay}
 use Rattle.trees.specs.declared.Symbol.{Symbol}

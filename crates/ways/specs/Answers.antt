@@ -8,7 +8,8 @@ use lib.ListN.{length, drop}
 use Rattle.expressions.specs.Grammar.{Production, Nth, tagsOf}
 use Rattle.expressions.specs.FaultList.{KeepsS}
 use Rattle.runs.specs.Way.{endWay, atomWay}
-use Rattle.few.specs.Strings.{nodesAtMost, mostBrackets}
+use Rattle.limits.specs.Limits.{nodesAtMost}
+use Rattle.few.specs.Strings.{mostBrackets}
 use Rattle.trees.specs.declared.Symbol.{Symbol}
 use Rattle.trees.specs.declared.Symbol.the-variants.{Tag, Character, End}
 use Rattle.trees.specs.GrammarAt.{GrammarIs}

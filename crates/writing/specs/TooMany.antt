@@ -3,6 +3,7 @@ use mathlib.Core.Path.{_≡_}
 use mathlib.Core.List.{List, [], _∷_, _++_}
 use Prim.Native.Nat.{ℕ, zero, suc, _+_, _-_, _≤_}
 use lib.ListN.{length, take}
+use Rattle.limits.specs.Limits.{mostTags, mostProgramBytes, mostStringBytes}
 use Rattle.notation.specs.Rules.{Rules}
 use Rattle.notation.specs.Tokens.{Token, nonterminal, value, attribute, name, start-tag, end-tag, empty-tag, string, word, sign, Sign, DEFINED, ASSIGNED, OPEN, CLOSE, BRACE, UNBRACE, DOT, BAR, STAR, SEMICOLON, EQUALS, all-in-quotes, bytesOf}
 use Rattle.notation.specs.Gaps.{Gap, Ending}
@@ -71,9 +72,9 @@ upTo (t ∷ ts) = counted t (upTo ts)
 
 -- the first so many of the tags, strings and programs of rules have room
 pub record RoomFor (r : Rules) (n : Count) : Type 0 where
-  pub few-tags : length (distinct (take (n .tags) (tagsIn (inRules (r .productions))))) ≤ 64
-  pub short-programs : length (run-together (distinct (take (n .programs) (bytesOfEach r (programsIn (inRules (r .productions))))))) ≤ 16384
-  pub short-strings : length (run-together (distinct (take (n .strings) (stringsIn (inRules (r .productions)))))) ≤ 8192
+  pub few-tags : length (distinct (take (n .tags) (tagsIn (inRules (r .productions))))) ≤ mostTags
+  pub short-programs : length (run-together (distinct (take (n .programs) (bytesOfEach r (programsIn (inRules (r .productions))))))) ≤ mostProgramBytes
+  pub short-strings : length (run-together (distinct (take (n .strings) (stringsIn (inRules (r .productions)))))) ≤ mostStringBytes
 
 -- k is the element of that number
 abbrev pub Nth : List ℕ → ℕ → ℕ → Type 0
