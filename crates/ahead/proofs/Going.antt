@@ -13,7 +13,7 @@ use lib.ListN.{length, take, drop, getD, take-append-drop}
 use lib.Seq.{take-suc}
 use borrow.Author.Tests.{eqb-true}
 use Rattle.text.specs.Chars.{Char, utf8}
-use Rattle.output.specs.Escape.{escaped}
+use Rattle.output.specs.Escape.{escapedAs}
 use Rattle.sheet.specs.Sheet.{Sheet, IsSheet}
 use Rattle.visits.specs.Written.{Pen}
 use Rattle.runs.specs.Visits.{grammar, mostVisits, Env, Saved as Kept}
@@ -71,7 +71,7 @@ take-more {X = X} l m i z h k e f =
     rw (add-one, take-suc l i z h, take-suc m i z k) (ap₂ (λ (u : List X) (x : X). u ++ (x ∷ [])) e f)
 
 pub wide-on : (on : Bool) → on ≡ true → 1 ≡ length (shown on 120)
-unfolding escaped utf8
+unfolding escapedAs utf8
 wide-on on e = rw e
 
 pub wide-off : (on : Bool) → on ≡ false → 0 ≡ length (shown on 120)

@@ -10,7 +10,8 @@ use native.Mathlib.Numerals.{add-one}
 use lib.Dec.{leb, ltb}
 use lib.ListN.{length, getD, length-append}
 use borrow.Author.Tests.{le-leb, lt-leb, lt-ltb, ltb-true, ltb-false, not-false}
-use Rattle.expressions.specs.Grammar.{Production, contentOf, onlyIf, tagsOf, tag, character}
+use Rattle.limits.specs.Limits.{mostTags}
+use Rattle.expressions.specs.Grammar.{Production, nonterminals, contentOf, onlyIf, tagsOf, tag, character}
 use Rattle.expressions.specs.Expr.{places, atomsOf}
 use Rattle.expressions.specs.Count.{Count, none, one, many}
 use Rattle.expressions.specs.Decide.{toAtom, count}
@@ -24,7 +25,7 @@ use Rattle.layout.specs.LaidOut.{LaidOut}
 use Rattle.layout.specs.declared.Layout.{Layout}
 use Rattle.trees.specs.GrammarAt.{GrammarIs}
 use Rattle.trees.specs.Answers.{AtomsIs}
-use Rattle.trees.specs.Sums.{AllAlike, Zeros, raised, symbolOf, CountedFrom}
+use Rattle.trees.specs.Sums.{cellOf, AllAlike, sumCells, Zeros, raised, symbolOf, CountedFrom}
 use Rattle.trees.specs.declared.Number.{Number}
 use Rattle.trees.proofs.Grammars.{length-grammar, nth-there, content-nth, alike-there}
 use Rattle.faults.specs.Part.{SumsAre, PartPut}
@@ -114,7 +115,7 @@ two-told : (k : ℕ) (b : Bool) → ltb 1 k ≡ b → b ≡ leb 2 k
 two-told k true e = sym (le-leb 2 k (ltb-true 1 k e))
 two-told k false e = sym (lt-leb 2 k (omega (arith, ltb-false 1 k e)))
 
-pub alike-told : {s known : List ℕ} {m t : ℕ} → AllAlike s known → m < 64 → t < 64 → (g : List Production) → GrammarIs s g → ltb 1 (getD known (64 * m + t) 0) ≡ leb 2 (alike g m t)
+pub alike-told : {s known : List ℕ} {m t : ℕ} → AllAlike s known → m < nonterminals → t < mostTags → (g : List Production) → GrammarIs s g → ltb 1 (getD known (cellOf m t) 0) ≡ leb 2 (alike g m t)
 alike-told {s} {known} {m} {t} all a b g i =
     ap (ltb 1) (all .is m t (omega arith) (omega arith) ∙ alike-there s m t g i) ∙ two-told (alike g m t) (ltb 1 (alike g m t)) refl
 
@@ -124,16 +125,16 @@ many-told one = refl
 many-told many = refl
 
 module _ {s : List ℕ} {q p : ℕ} {sums : List ℕ} (are : SumsAre s q p sums) (g : List Production) (i : GrammarIs s g) where
-  pub tag-told : {t : ℕ} → t < 64 → ltb 1 (getD sums t 0) ≡ isMany (count (tagsOf g) (contentOf g q) p (tag t))
+  pub tag-told : {t : ℕ} → t < mostTags → ltb 1 (getD sums t 0) ≡ isMany (count (tagsOf g) (contentOf g q) p (tag t))
   tag-told {t} b =
-      ap (ltb 1) (are .is g i t (omega arith) ∙ ap (λ (z : Bool). raised 0 (toAtom (tagsOf g) (contentOf g q) p (cond z (tag t) character))) (lt-ltb t 64 b))
+      ap (ltb 1) (are .is g i t (omega arith) ∙ ap (λ (z : Bool). raised 0 (toAtom (tagsOf g) (contentOf g q) p (cond z (tag t) character))) (lt-ltb t mostTags b))
       ∙ many-told (toAtom (tagsOf g) (contentOf g q) p (tag t))
 
-  pub character-told : ltb 1 (getD sums 64 0) ≡ isMany (count (tagsOf g) (contentOf g q) p character)
-  character-told = ap (ltb 1) (are .is g i 64 (omega arith)) ∙ many-told (toAtom (tagsOf g) (contentOf g q) p character)
+  pub character-told : ltb 1 (getD sums mostTags 0) ≡ isMany (count (tagsOf g) (contentOf g q) p character)
+  character-told = ap (ltb 1) (are .is g i mostTags (omega arith)) ∙ many-told (toAtom (tagsOf g) (contentOf g q) p character)
 
 -- sums that were lent as zeros
-pub counted-sums : {s : List ℕ} {q p : ℕ} {before after : List ℕ} {r : Number} → CountedFrom s q p before after r → Zeros before → length after ≡ 65 → SumsAre s q p after
+pub counted-sums : {s : List ℕ} {q p : ℕ} {before after : List ℕ} {r : Number} → CountedFrom s q p before after r → Zeros before → length after ≡ sumCells → SumsAre s q p after
 counted-sums {s} {q} {p} {before} c z l = record {
   long = l;
   is = λ g i k b. c .sums-are g i .each k b ∙ ap (λ (n : ℕ). raised n (toAtom (tagsOf g) (contentOf g q) p (symbolOf k))) (z .each k);

@@ -2,7 +2,7 @@
 use mathlib.Core.List.{List}
 use mathlib.Core.Bool.{Bool}
 use mathlib.Core.Path.{_≡_}
-use Prim.Native.Nat.{ℕ, _+_, _≤_}
+use Prim.Native.Nat.{ℕ, _+_, _≤_, _<_}
 use lib.ListN.{length, getD}
 use Rattle.expressions.specs.Expr.{Content}
 use Rattle.expressions.specs.Grammar.{Production, contentOf, tagsOf, tag}
@@ -12,7 +12,7 @@ use Rattle.expressions.specs.Listed.{gather, sFaultAt, tFaults, faultList}
 use Rattle.layout.specs.Layout.{tagCount}
 use Rattle.lent.specs.Put.{PutAs}
 use Rattle.trees.specs.GrammarAt.{GrammarIs}
-use Rattle.trees.specs.Sums.{raised, symbolOf}
+use Rattle.trees.specs.Sums.{sumCells, raised, symbolOf}
 use Rattle.faults.specs.declared.Ends.{Ends}
 
 -- the S faults at a place where a tag is next
@@ -21,8 +21,8 @@ sByTag n tags e q p = gather 0 n (λ t. sFaultAt tags e q p (tag t))
 
 -- the sums by next symbol of the place p of production q: 0, 1 or 2 for none, one or many bracket strings to an atom that can be it
 pub record SumsAre (s : List ℕ) (q p : ℕ) (sums : List ℕ) : Type 0 where
-  pub long : length sums ≡ 65
-  pub is : (g : List Production) → GrammarIs s g → (i : ℕ) → i ≤ 64 → getD sums i 0 ≡ raised 0 (toAtom (tagsOf g) (contentOf g q) p (symbolOf i))
+  pub long : length sums ≡ sumCells
+  pub is : (g : List Production) → GrammarIs s g → (i : ℕ) → i < sumCells → getD sums i 0 ≡ raised 0 (toAtom (tagsOf g) (contentOf g q) p (symbolOf i))
 
 -- the part that the sheet's grammar has is put from `at` on, in at most `room` bytes; r is where the next byte goes
 pub record PartPut (s : List ℕ) (part : List Production → List (List ℕ)) (room : ℕ) (write : Bool) (lent : List ℕ) (at : ℕ) (after : List ℕ) (r : ℕ) : Type 0 where

@@ -2,7 +2,7 @@
 ghost use mathlib.Core.Path.{_≡_};
 ghost use mathlib.Core.List.{[], _∷_};
 ghost use Prim.Native.Nat.{_+_, _<_, _≤_, _^_};
-ghost use Rattle.expressions.specs.Grammar.{contentOf, onlyIf, tagsOf};
+ghost use Rattle.expressions.specs.Grammar.{nonterminals, contentOf, onlyIf, tagsOf};
 ghost use Rattle.expressions.specs.FaultList.{listBytes};
 ghost use Rattle.expressions.specs.Listed.{tFaultsOf, tFaults, sFaultsAt, sFaultsOf, sFaultsFrom};
 ghost use Rattle.lent.specs.Put.{PutAs};
@@ -73,7 +73,7 @@ fn t_faults_of(
     requires { ⌜ LaidOut (now s) l ⌝ }
     requires { ⌜ AllAlike (now s) (now known) ⌝ }
     requires { ⌜ at + 256 < 2 ^ 64 ⌝ }
-    requires { ⌜ m < 64 ⌝ }
+    requires { ⌜ m < nonterminals ⌝ }
     ensures { λ r. ⌜ PartPut (now (s .entry)) (λ g. tFaultsOf (tagCount (now (s .entry))) g m) 256 write (now (list .entry)) at (now (list .exit)) r ⌝ }
 {
     let mut n = at;

@@ -17,7 +17,7 @@ use Rattle.tokens.specs.declared.Answer.the-variants.{Token}
 use Rattle.tokens.specs.Tokens.{ref, lt, front, Means}
 use Rattle.tokens.specs.Stream.{Reads}
 use Rattle.tokens.proofs.Streams.{token-at}
-use Rattle.output.specs.Escape.{escaped, Piece, start, end, character, render, characters, AllFit, events, allPieces}
+use Rattle.output.specs.Escape.{escapedAs, escaped, Piece, start, end, character, render, characters, AllFit, events, allPieces}
 use Rattle.output.proofs.ReadBack.{reads-back, pieces-back, characters-fit}
 
 -- title
@@ -62,7 +62,7 @@ quiz = start title ∷ (characters guess ++ (end title ∷ []))
 quiz-text : render quiz
     ≡ 60 ∷ 116 ∷ 105 ∷ 116 ∷ 108 ∷ 101 ∷ 62 ∷ 84 ∷ 104 ∷ 105 ∷ 115 ∷ 38 ∷ 108 ∷ 116 ∷ 59 ∷ 47 ∷ 116 ∷ 105 ∷ 116 ∷ 108 ∷ 101 ∷ 38 ∷ 103 ∷ 116 ∷ 59 ∷ 84 ∷ 104 ∷ 97 ∷ 116
     ∷ 60 ∷ 47 ∷ 116 ∷ 105 ∷ 116 ∷ 108 ∷ 101 ∷ 62 ∷ []
-unfolding quiz title guess escaped utf8
+unfolding quiz title guess escapedAs utf8
 quiz-text = refl
 
 pub quiz-back : (p r : List ℕ)
@@ -79,11 +79,11 @@ empty-title = (refl, refl)
 
 -- The reference &lt; is read as the character <, which is written as &lt; again.
 pub reference-again : Means (front (38 ∷ 108 ∷ 116 ∷ 59 ∷ []) 0) 0 (Token (Character 60 false) (record { at = 4 })) × (escaped 60 ≡ 38 ∷ 108 ∷ 116 ∷ 59 ∷ [])
-unfolding escaped
+unfolding escapedAs
 reference-again = (token-at [] [] (ref lt) tt (omega arith) tt, refl)
 
 -- A CR that a reference names is written as a reference again; the LF after it is another character.
 pub cr-again : (render (character 13 ∷ character 10 ∷ []) ≡ 38 ∷ 35 ∷ 49 ∷ 51 ∷ 59 ∷ 10 ∷ [])
     × (events 0 (character 13 ∷ character 10 ∷ []) ≡ Character 13 false ∷ Character 10 true ∷ [])
-unfolding escaped utf8
+unfolding escapedAs utf8
 cr-again = (refl, refl)

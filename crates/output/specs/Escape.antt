@@ -1,14 +1,15 @@
 -- The text we write: characters escaped, start tags and end tags, and what such a text is read as again. Definitions.
 -- Assumes nothing.
-use Prim.Native.Nat.{ℕ, _+_, _≤_}
-use mathlib.Core.Bool.{Bool, not, _||_}
+use Prim.Native.Nat.{ℕ, _≤_}
+use mathlib.Core.Bool.{cond}
 use mathlib.Core.List.{List, [], _∷_, _++_}
 use lib.ListN.{length, take, drop}
 use lib.Dec.{eqb}
-use Rattle.text.specs.Chars.{Char, utf8, pick}
+use Rattle.text.specs.Chars.{Char}
 use Rattle.text.specs.Names.{Name}
 use Rattle.text.specs.Numerals.{decimal}
-use Rattle.tokens.specs.Tokens.{spelled, amp, lt, gt, Tok, numeric, bytes}
+use Rattle.tokens.specs.Tokens.{Kind, amp, lt, gt, Tok, tag, ref, numeric, char, bytes}
+use Rattle.tokens.specs.Stream.{flat, eventsAt}
 use Rattle.tokens.specs.LineEnds.{NoCR}
 use Rattle.tokens.specs.declared.Event.{Event}
 use Rattle.tokens.specs.declared.Event.the-variants.{Start, End, Empty, Character}
@@ -17,21 +18,9 @@ use Rattle.tokens.specs.declared.Event.the-variants.{Start, End, Empty, Charact
 abbrev pub crByNumber : Tok
 crByNumber = numeric decimal (49 ∷ 51 ∷ [])
 
--- & < > as &amp; &lt; &gt;, CR as &#13; (a CR byte would be read as LF), other characters as they are
-unfoldable pub escaped : ℕ → List ℕ
-escaped c =
-    pick (eqb c 38) (spelled amp) (pick (eqb c 60) (spelled lt) (pick (eqb c 62) (spelled gt) (pick (eqb c 13) (bytes crByNumber) (utf8 c))))
-
--- a character that is written as itself, and so is literal where it is read again
-abbrev pub asItself : ℕ → Bool
-asItself c = not (eqb c 38 || (eqb c 60 || (eqb c 62 || eqb c 13)))
-
--- <name>  </name>
-abbrev pub startTag : List ℕ → List ℕ
-startTag n = 60 ∷ (n ++ (62 ∷ []))
-
-abbrev pub endTag : List ℕ → List ℕ
-endTag n = 60 ∷ 47 ∷ (n ++ (62 ∷ []))
+-- the token that a character is written as: & < > by name, CR by number (a CR byte would be read as LF), any other as it is
+unfoldable pub escapedAs : ℕ → Tok
+escapedAs c = cond (eqb c 38) (ref amp) (cond (eqb c 60) (ref lt) (cond (eqb c 62) (ref gt) (cond (eqb c 13) crByNumber (char c))))
 
 -- what is written at a time: a start tag or an end tag of a name, or a character
 pub data Piece : Type 0 where
@@ -39,15 +28,32 @@ pub data Piece : Type 0 where
   end : List ℕ → Piece
   character : ℕ → Piece
 
-abbrev pub written : Piece → List ℕ
-written (start n) = startTag n
-written (end n) = endTag n
-written (character c) = escaped c
+-- the token that a piece is written as, without white space before its >; and those of pieces, one after the other
+abbrev pub asToken : Piece → Tok
+asToken (start n) = tag Kind.start n []
+asToken (end n) = tag Kind.end n []
+asToken (character c) = escapedAs c
 
--- the bytes of pieces, one after the other
+abbrev pub asTokens : List Piece → List Tok
+asTokens [] = []
+asTokens (p ∷ ps) = asToken p ∷ asTokens ps
+
+-- the bytes of a piece, and of pieces, one after the other
+abbrev pub written : Piece → List ℕ
+written p = bytes (asToken p)
+
 abbrev pub render : List Piece → List ℕ
-render [] = []
-render (p ∷ ps) = written p ++ render ps
+render ps = flat (asTokens ps)
+
+-- <name>  </name>  and a character's bytes
+abbrev pub startTag : List ℕ → List ℕ
+startTag n = written (start n)
+
+abbrev pub endTag : List ℕ → List ℕ
+endTag n = written (end n)
+
+abbrev pub escaped : ℕ → List ℕ
+escaped c = written (character c)
 
 -- characters as text
 abbrev pub characters : List ℕ → List Piece
@@ -67,15 +73,9 @@ abbrev pub AllFit : List Piece → Type 0
 AllFit [] = Unit {0}
 AllFit (p ∷ ps) = PieceFits p × AllFit ps
 
--- the event of a piece that is written at `at`, and those of pieces one after the other from there
-abbrev pub eventAt : ℕ → Piece → Event
-eventAt at (start n) = Start (at + 1) (length n)
-eventAt at (end n) = End (at + 2) (length n)
-eventAt at (character c) = Character c (asItself c)
-
+-- the events of pieces that are written one after the other from `at` on
 abbrev pub events : ℕ → List Piece → List Event
-events at [] = []
-events at (p ∷ ps) = eventAt at p ∷ events (at + length (written p)) ps
+events at ps = eventsAt at (asTokens ps)
 
 -- what an event of the stream s stands for: a tag with the name that it points at, an empty tag being a start and an end; or a character
 abbrev pub pieces : List ℕ → Event → List Piece

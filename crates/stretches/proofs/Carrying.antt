@@ -11,7 +11,7 @@ use Rattle.lent.proofs.Laws.{put-length}
 use Rattle.runs.specs.Visits.{mostVisits}
 use Rattle.steady.specs.Steady.{shown}
 use Rattle.stretches.specs.declared.Stretch.{Stretch}
-use Rattle.stretches.specs.Next.{plain}
+use Rattle.stretches.specs.Literal.{plain}
 use Rattle.stretches.specs.Stretched.{StretchedAs, CarriedAs}
 use Rattle.stretches.proofs.Nexts.{alone-plain, alone-next, as-it-is}
 use Rattle.stretches.proofs.Stretching.{one-more, shown-on, shown-short}

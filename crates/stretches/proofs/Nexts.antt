@@ -26,12 +26,12 @@ use denote.Enum.Declared
 use Rattle.tokens.proofs.Theory.{one-answer}
 use Rattle.tokens.proofs.Streams.{token-moves}
 use Rattle.calls.proofs.Read.{token-means}
-use Rattle.stretches.specs.declared.Next.{Next}
-use Rattle.stretches.specs.declared.Next.the-variants.{Character as Stands, Other}
-use Rattle.output.specs.Escape.{escaped}
+use Rattle.stretches.specs.declared.Literal.{Literal}
+use Rattle.stretches.specs.declared.Literal.the-variants.{Character as Stands, Other}
+use Rattle.output.specs.Escape.{escapedAs, escaped}
 use Rattle.output.specs.Reach.{farthest}
 use Rattle.runs.specs.Visits.{mostVisits}
-use Rattle.stretches.specs.Next.{plain, space, allows, NextIs}
+use Rattle.stretches.specs.Literal.{plain, space, allows, LiteralIs}
 
 -- the event of a token
 abbrev eventIn : Answer → Event
@@ -115,7 +115,7 @@ pub one-byte : (b : ℕ) → Alone b → utf8 b ≡ b ∷ []
 one-byte b a = shape1 b (a .small)
 
 pub as-it-is : (b : ℕ) → Alone b → escaped b ≡ b ∷ []
-unfolding escaped
+unfolding escapedAs
 as-it-is b a = rw (ne-eqb b 38 (a .not-38), ne-eqb b 60 (a .not-60), ne-eqb b 62 (a .not-62), ne-eqb b 13 (a .not-13)) (one-byte b a)
 
 module _ (part : List ℕ) (at : ℕ) where
@@ -128,7 +128,7 @@ module _ (part : List ℕ) (at : ℕ) where
       subst (λ (n : ℕ). Means (front part at) at (Token (Character b true) (record { at = at + n }))) (ap length bytes) read
 
   module _ (x : Answer) (m : Means (front part at) at x) where
-    pub no-token : OneOf (1 ∷ 2 ∷ 3 ∷ 4 ∷ []) (Declared.tagOf answer.the-type x) → NextIs part at Other
+    pub no-token : OneOf (1 ∷ 2 ∷ 3 ∷ 4 ∷ []) (Declared.tagOf answer.the-type x) → LiteralIs part at Other
     no-token h c next n =
         miss (1 ∷ 2 ∷ 3 ∷ 4 ∷ []) 0 tt
         (subst (λ (y : Answer). OneOf (1 ∷ 2 ∷ 3 ∷ 4 ∷ []) (Declared.tagOf answer.the-type y)) (one-answer (front part at) at x (Token (Character c true) next) m n) h)
@@ -137,12 +137,12 @@ module _ (part : List ℕ) (at : ℕ) where
       token : Means (front part at) at (Token e next)
       token = subst (Means (front part at) at) q m
 
-      pub no-character : OneOf (0 ∷ 1 ∷ 2 ∷ []) (Declared.tagOf event.the-type e) → NextIs part at Other
+      pub no-character : OneOf (0 ∷ 1 ∷ 2 ∷ []) (Declared.tagOf event.the-type e) → LiteralIs part at Other
       no-character h c then n =
           miss (0 ∷ 1 ∷ 2 ∷ []) 3 tt
           (subst (λ (y : Event). OneOf (0 ∷ 1 ∷ 2 ∷ []) (Declared.tagOf event.the-type y)) (ap eventIn (one-answer (front part at) at (Token e next) (Token (Character c true) then) token n)) h)
 
-      pub by-reference : (c : ℕ) (l : Bool) → e ≡ Character c l → l ≡ false → NextIs part at Other
+      pub by-reference : (c : ℕ) (l : Bool) → e ≡ Character c l → l ≡ false → LiteralIs part at Other
       by-reference c l f k d then n =
           true≢false (sym (ap (λ (y : Answer). literally (eventIn y)) (one-answer (front part at) at (Token e next) (Token (Character d true) then) token n)) ∙ ap literally f ∙ k)
 
@@ -153,14 +153,14 @@ module _ (part : List ℕ) (at : ℕ) where
         pub reaches : at ≤ next .at
         reaches = omega (arith, token-moves part at (Character c true) next h (there .0) .0)
 
-        pub read-character : NextIs part at (Stands c (next .at - at))
+        pub read-character : LiteralIs part at (Stands c (next .at - at))
         read-character =
             let n : next .at ≡ at + (next .at - at) = omega (arith, reaches) in
             subst (λ (i : ℕ). Means (front part at) at (Token (Character c true) (record { at = i }))) n there
 
   -- what stands there is what the reader says, and takes a byte at least
-  pub stands : (r : Next) → NextIs part at r → (c n : ℕ) → r ≡ Stands c n → Means (front part at) at (Token (Character c true) (record { at = at + n }))
-  stands r m c n q = subst (NextIs part at) q m
+  pub stands : (r : Literal) → LiteralIs part at r → (c n : ℕ) → r ≡ Stands c n → Means (front part at) at (Token (Character c true) (record { at = at + n }))
+  stands r m c n q = subst (LiteralIs part at) q m
 
   pub onward : (c n : ℕ) → at ≤ length part → Means (front part at) at (Token (Character c true) (record { at = at + n })) → (0 < n) × (at + n ≤ length part)
   onward c n h m =

@@ -9,7 +9,7 @@ ghost use Rattle.output.specs.Reach.{farthest};
 ghost use Rattle.runs.specs.Visits.{mostVisits};
 ghost use Rattle.steady.specs.Steady.{shown};
 ghost use Rattle.stretches.specs.Stretched.{StretchedAs, CarriedAs, BlanksAs};
-ghost use Rattle.stretches.specs.Next.{plain, space, tagOrEnd, allows, NextIs};
+ghost use Rattle.stretches.specs.Literal.{plain, space, tagOrEnd, allows, LiteralIs};
 use state::State;
 use tokens::Answer;
 use tokens::Cursor;
@@ -29,7 +29,7 @@ pub struct Stretch {
 }
 
 // What stands at a place of the part: a character itself, no reference, and how many bytes it takes; or no such.
-pub enum Next {
+pub enum Literal {
     Character(u32, usize),
     Other,
 }
@@ -49,22 +49,22 @@ fn is_space(b: u8) -> bool
 }
 
 // What the reader says of the place.
-fn read_next(part: &[u8], at: usize) -> Next
+fn read_literal(part: &[u8], at: usize) -> Literal
     requires { ⌜ at ≤ length (now part) ⌝ }
-    ensures { λ r. ⌜ NextIs (now (part .entry)) at r ⌝ }
+    ensures { λ r. ⌜ LiteralIs (now (part .entry)) at r ⌝ }
 {
     let cursor = Cursor { at: at };
     let answer = cursor.read(part);
     let Answer::Token(event, next) = answer else {
-        return Next::Other;
+        return Literal::Other;
     };
     let Event::Character(c, literal) = event else {
-        return Next::Other;
+        return Literal::Other;
     };
     if !literal {
-        return Next::Other;
+        return Literal::Other;
     }
-    Next::Character(c, next.at - at)
+    Literal::Character(c, next.at - at)
 }
 
 // Whether no character can stand there: a stretch that ends at a tag or with the part asks the reader nothing.
@@ -171,8 +171,8 @@ pub fn characters(
         if tag_or_end(part, far.at) {
             return far;
         }
-        let next = read_next(part, far.at);
-        let Next::Character(c, w) = next else {
+        let next = read_literal(part, far.at);
+        let Literal::Character(c, w) = next else {
             return far;
         };
         if !allowed(k, far.count, out.len() - far.put, far.put) {

@@ -3,3 +3,4 @@ pub mod Decoding
 pub mod Unique
 pub mod NameLaws
 pub mod NumeralLaws
+pub mod Numbers

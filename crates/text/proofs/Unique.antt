@@ -40,16 +40,16 @@ nil-right : (u v : List ℕ) → u ++ v ≡ [] → v ≡ []
 nil-right [] v e = e
 nil-right (x ∷ u) v e = absurd (cons≢[] e)
 
-whole-begun : (f : List ℕ) (c d : ℕ) → Starts f (utf8 c) → Begins f (utf8 d) → ⊥
+pub whole-begun : (f : List ℕ) (c d : ℕ) → Starts f (utf8 c) → Begins f (utf8 d) → ⊥
 whole-begun f c d (v, e) (u, w, n) =
     let k : utf8 c ++ (v ++ u) ≡ utf8 d ++ [] = sym (append-assoc (utf8 c) v u) ∙ ap (λ (l : List ℕ). l ++ u) (sym e) ∙ sym w ∙ sym (append-nil (utf8 d)) in
     let p : c ≡ d = char-one c d (v ++ u) [] k in
     n (nil-right v u (append-cancel-left (utf8 d) (v ++ u) [] (ap (λ (z : ℕ). utf8 z ++ (v ++ u)) (sym p) ∙ k)))
 
-whole-bad : (f : List ℕ) (c : ℕ) → Starts f (utf8 c) → Apart f (utf8 c) → ⊥
+pub whole-bad : (f : List ℕ) (c : ℕ) → Starts f (utf8 c) → Apart f (utf8 c) → ⊥
 whole-bad f c s a = a [] (s .0) (append-nil f ∙ s .1)
 
-begun-bad : (f : List ℕ) (c : ℕ) → Begins f (utf8 c) → Apart f (utf8 c) → ⊥
+pub begun-bad : (f : List ℕ) (c : ℕ) → Begins f (utf8 c) → Apart f (utf8 c) → ⊥
 begun-bad f c b a = a (b .0) [] (sym (b .1) ∙ sym (append-nil (utf8 c)))
 
 pub decoded-one : (f : List ℕ) (r r′ : Decoded) → DecodedIs f r → DecodedIs f r′ → r ≡ r′

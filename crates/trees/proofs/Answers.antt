@@ -9,7 +9,8 @@ use native.Mathlib.Omega.{arith}
 use lib.Dec.{ltb}
 use lib.ListN.{getD}
 use Rattle.expressions.specs.Expr.{Exp, Content, nothing, tree, nonterminal, nodes, atomsOf}
-use Rattle.expressions.specs.Grammar.{Production, tagsOf, canBe}
+use Rattle.limits.specs.Limits.{mostTags}
+use Rattle.expressions.specs.Grammar.{Production, nonterminals, tagsOf, canBe}
 use Rattle.layout.specs.Layout.{productionCount, nodeCount}
 use Rattle.layout.specs.Records.{firstNodeOf, nodeCountOf}
 use Rattle.trees.specs.declared.Number.{Number}
@@ -23,7 +24,7 @@ use Rattle.trees.specs.Parsed.{RunsInside}
 use Rattle.trees.specs.Symbol.{nextOf}
 use Rattle.trees.specs.Tally.{countOf, TreeIn, Tallied}
 use Rattle.trees.specs.Answers.{alikeBefore, AlikeIs, canBeIn, CanBeIs, CharacterIs, AtomsIs}
-use Rattle.trees.specs.Sums.{AllAlike, CountedFrom}
+use Rattle.trees.specs.Sums.{cellOf, AllAlike, sumCells, CountedFrom}
 use Rattle.trees.proofs.Grammars.{nth-is, nth-there, alike-there, member-alike}
 use Rattle.trees.proofs.Tallies.{few-atoms}
 use Rattle.trees.proofs.Unique.{nodes-pos}
@@ -119,11 +120,11 @@ module _ (s : List ℕ) where
     pub one-number-of-atoms : (q : ℕ) → q < productionCount s → (a b : ℕ) → AtomsIs s q a → AtomsIs s q b → a ≡ b
     one-number-of-atoms q l a b h k = let d = nth-there s g γ q l in h .is g γ (d .0) (d .1) ∙ sym (k .is g γ (d .0) (d .1))
 
-  -- the productions alike, cell by cell; and from a place the number of strings to the end, with each of the 65 sums
-  pub one-all-alike : (x y : List ℕ) → AllAlike s x → AllAlike s y → (n u : ℕ) → n ≤ 63 → u ≤ 63 → getD x (64 * n + u) 0 ≡ getD y (64 * n + u) 0
+  -- the productions alike, cell by cell; and from a place the number of strings to the end, with each of the sums
+  pub one-all-alike : (x y : List ℕ) → AllAlike s x → AllAlike s y → (n u : ℕ) → n < nonterminals → u < mostTags → getD x (cellOf n u) 0 ≡ getD y (cellOf n u) 0
   one-all-alike x y h k n u a b = h .is n u a b ∙ sym (k .is n u a b)
 
   pub one-count : (q p : ℕ) (g : List Production) → GrammarIs s g → (before x y : List ℕ) (a b : Number) → CountedFrom s q p before x a → CountedFrom s q p before y b →
-      (a ≡ b) × ((i : ℕ) → i ≤ 64 → getD x i 0 ≡ getD y i 0)
+      (a ≡ b) × ((i : ℕ) → i < sumCells → getD x i 0 ≡ getD y i 0)
   one-count q p g γ before x y a b h k =
       (same-number a b (h .end-is g γ ∙ sym (k .end-is g γ)), λ i l. h .sums-are g γ .each i l ∙ sym (k .sums-are g γ .each i l))

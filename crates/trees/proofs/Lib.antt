@@ -6,3 +6,4 @@ pub mod Answers
 pub mod Counts
 pub mod Alikes
 pub mod Spreads
+pub mod Numbers

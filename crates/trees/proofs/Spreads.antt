@@ -12,7 +12,8 @@ use lib.ListN.{length, getD, set}
 use lib.Seq.{getD-set-same, getD-set-other}
 use borrow.Author.Tests.{ltb-true, ltb-false, ne-eqb}
 use Rattle.expressions.specs.Expr.{Exp, atom, cat, alt, star, empty, nonterminal, anychar, nodes, atoms, Content, nothing, tree}
-use Rattle.expressions.specs.Grammar.{Production, contentOf, tagsOf, Next, tag, character, memb, canBe}
+use Rattle.limits.specs.Limits.{mostTags}
+use Rattle.expressions.specs.Grammar.{Production, nonterminals, contentOf, tagsOf, Next, tag, character, memb, canBe}
 use Rattle.expressions.specs.Count.{Count, none, one, add, mul, rep, bit}
 use Rattle.expressions.specs.Decide.{null, first, last, follow, toEnd, toAtom}
 use Rattle.layout.specs.Layout.{productionCount}
@@ -23,7 +24,7 @@ use Rattle.trees.specs.declared.Tally.{Tally}
 use Rattle.trees.specs.Trees.{TreeAt, ContentAt}
 use Rattle.trees.specs.GrammarAt.{GrammarIs}
 use Rattle.trees.specs.Tally.{countOf, PastOf, Tallied}
-use Rattle.trees.specs.Sums.{AllAlike, raised, symbolOf, Raised, TagsRaised, PassedAs, EitherAs, Spread, CountedFrom}
+use Rattle.trees.specs.Sums.{cellOf, AllAlike, sumCells, raised, symbolOf, Raised, TagsRaised, PassedAs, EitherAs, Spread, CountedFrom}
 use Rattle.trees.proofs.Unique.{nodes-pos, by-kind-1, by-kind-2, by-kind-3, by-kind-4, by-kind-5, by-kind-6}
 use Rattle.trees.proofs.Grammars.{alike-there, member-alike, content-at}
 use Rattle.trees.proofs.Counts.{add-none, mul-none, mul-one, raised-add, through-either, out-of-both, into-both, out-of-star, into-star}
@@ -38,13 +39,13 @@ raised-twice f h before mid after r u = record {
 }
 
 -- a sum is a tag's or a character's
-by-symbol : (f : Next → Count) (before after : List ℕ) → ((t : ℕ) → t < 64 → getD after t 0 ≡ raised (getD before t 0) (f (tag t))) →
-    getD after 64 0 ≡ raised (getD before 64 0) (f character) → Raised f before after
-by-symbol f before after tags last = record { each = λ i l. by i l (ltb i 64) refl }
+by-symbol : (f : Next → Count) (before after : List ℕ) → ((t : ℕ) → t < mostTags → getD after t 0 ≡ raised (getD before t 0) (f (tag t))) →
+    getD after mostTags 0 ≡ raised (getD before mostTags 0) (f character) → Raised f before after
+by-symbol f before after tags last = record { each = λ i l. by i l (ltb i mostTags) refl }
   where
-    by : (i : ℕ) → i ≤ 64 → (b : Bool) → ltb i 64 ≡ b → getD after i 0 ≡ raised (getD before i 0) (f (cond b (tag i) character))
-    by i l true e = tags i (ltb-true i 64 e)
-    by i l false e = let h = ltb-false i 64 e in let z : i ≡ 64 = omega arith in rw z last
+    by : (i : ℕ) → i < sumCells → (b : Bool) → ltb i mostTags ≡ b → getD after i 0 ≡ raised (getD before i 0) (f (cond b (tag i) character))
+    by i l true e = tags i (ltb-true i mostTags e)
+    by i l false e = let h = ltb-false i mostTags e in let z : i ≡ mostTags = omega arith in rw z last
 
 module _ (s : List ℕ) (p at j : ℕ) (n : Count) (before after : List ℕ) (r : Onward) where
   -- the tree that stands there is known by its first node's kind, so the answers for that one are the answers for all
@@ -74,21 +75,21 @@ module _ (s : List ℕ) (p at j : ℕ) (n : Count) (before after : List ℕ) (r 
     misses : (sum : ℕ) → sum ≡ raised sum (add (mul n none) none)
     misses sum = ap (raised sum) (sym (ap (λ (z : Count). add z none) (mul-none n)))
 
-    pub nonterminal-spread : kindOf s at ≡ 1 → (known : List ℕ) → AllAlike s known → (m : ℕ) → m ≡ argumentOf s at → m ≤ 63 → TagsRaised known m n before after → Spread s p at j n before after r
+    pub nonterminal-spread : kindOf s at ≡ 1 → (known : List ℕ) → AllAlike s known → (m : ℕ) → m ≡ argumentOf s at → m < nonterminals → TagsRaised known m n before after → Spread s p at j n before after r
     nonterminal-spread k known all m a low t =
         only-tree (atom (nonterminal m)) (λ e h. by-kind-1 s at k e h .0 ∙ ap (λ (z : ℕ). atom (nonterminal z)) (sym a))
         (record { next-is = q .next-is; atom-is = q .atom-is }) atom-out
         (λ g γ. by-symbol (λ x. add (mul n (bit (canBe (tagsOf g) (nonterminal m) x))) none) before after
-        (λ u b. t .tags u b ∙ hits (ltb 0 (getD known (64 * m + u) 0)) (memb u (tagsOf g m))
+        (λ u b. t .tags u b ∙ hits (ltb 0 (getD known (cellOf m u) 0)) (memb u (tagsOf g m))
         (ap (ltb 0) (all .is m u low (omega arith) ∙ alike-there s m u g γ) ∙ sym (member-alike u m g)) (getD before u 0))
-        (t .character ∙ misses (getD before 64 0)))
+        (t .character ∙ misses (getD before mostTags 0)))
 
-    pub character-spread : kindOf s at ≡ 2 → length before ≡ 65 → (v : ℕ) → v ≡ raised (getD before 64 0) (mul n (bit true)) → after ≡ set before 64 v → Spread s p at j n before after r
+    pub character-spread : kindOf s at ≡ 2 → length before ≡ sumCells → (v : ℕ) → v ≡ raised (getD before mostTags 0) (mul n (bit true)) → after ≡ set before mostTags v → Spread s p at j n before after r
     character-spread k long v e w =
         only-tree (atom anychar) (λ e h. by-kind-2 s at k e h .0) (record { next-is = q .next-is; atom-is = q .atom-is }) atom-out
         (λ g γ. by-symbol (λ x. add (mul n (bit (canBe (tagsOf g) anychar x))) none) before after
-        (λ u b. ap (λ (z : List ℕ). getD z u 0) w ∙ getD-set-other before 64 u v 0 (λ z. omega arith) ∙ misses (getD before u 0))
-        (ap (λ (z : List ℕ). getD z 64 0) w ∙ getD-set-same before 64 v 0 (omega arith) ∙ e ∙ hits true true refl (getD before 64 0)))
+        (λ u b. ap (λ (z : List ℕ). getD z u 0) w ∙ getD-set-other before mostTags u v 0 (λ z. omega arith) ∙ misses (getD before u 0))
+        (ap (λ (z : List ℕ). getD z mostTags 0) w ∙ getD-set-same before mostTags v 0 (omega arith) ∙ e ∙ hits true true refl (getD before mostTags 0)))
 
 module _ (s : List ℕ) (p at j : ℕ) (n : Count) (before : List ℕ) where
   -- a star: what leads to its part comes to it and comes round in it

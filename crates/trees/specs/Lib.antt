@@ -5,3 +5,4 @@ pub mod Parsed
 pub mod Tally
 pub mod Answers
 pub mod Sums
+pub mod Numbers

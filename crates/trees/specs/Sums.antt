@@ -3,11 +3,12 @@
 use mathlib.Core.Path.{_≡_}
 use mathlib.Core.Bool.{Bool, cond, _&&_}
 use mathlib.Core.List.{List}
-use Prim.Native.Nat.{ℕ, _+_, _*_, _≤_, _<_}
+use Prim.Native.Nat.{ℕ, suc, _+_, _*_, _≤_, _<_}
 use lib.Dec.{eqb, ltb}
 use lib.ListN.{length, getD}
 use Rattle.expressions.specs.Expr.{Exp}
-use Rattle.expressions.specs.Grammar.{Production, contentOf, tagsOf, Next, tag, character}
+use Rattle.limits.specs.Limits.{mostTags}
+use Rattle.expressions.specs.Grammar.{Production, nonterminals, contentOf, tagsOf, Next, tag, character}
 use Rattle.expressions.specs.Count.{Count, none, one, many, add, mul, bit}
 use Rattle.expressions.specs.Decide.{null, first, last, follow, toEnd, toAtom}
 use Rattle.layout.specs.Layout.{productionCount}
@@ -25,15 +26,22 @@ pub record Zeros (memory : List ℕ) : Type 0 where
 pub record Room (memory : List ℕ) : Type 0 where
   pub each : (i : ℕ) → getD memory i 0 < 255
 
--- 64 cells for each of 64 nonterminals: one production of nonterminal m and tag t more
+-- a cell for each nonterminal and tag
+abbrev pub cells : ℕ
+cells = nonterminals * mostTags
+
+abbrev pub cellOf : (nonterm tagno : ℕ) → ℕ
+cellOf n t = mostTags * n + t
+
+-- one production of nonterminal m and tag t more
 pub record OneAlike (m t : ℕ) (before after : List ℕ) : Type 0 where
   pub most : (i : ℕ) → getD after i 0 ≤ getD before i 0 + 1
-  pub is : (n u : ℕ) → n ≤ 63 → u ≤ 63 → getD after (64 * n + u) 0 ≡ getD before (64 * n + u) 0 + cond (eqb n m && eqb u t) 1 0
+  pub is : (n u : ℕ) → n < nonterminals → u < mostTags → getD after (cellOf n u) 0 ≡ getD before (cellOf n u) 0 + cond (eqb n m && eqb u t) 1 0
 
 -- each has the number of productions of its nonterminal and its tag
 pub record AllAlike (s known : List ℕ) : Type 0 where
-  pub long : length known ≡ 4096
-  pub is : (n u : ℕ) → n ≤ 63 → u ≤ 63 → getD known (64 * n + u) 0 ≡ alikeBefore s n u (productionCount s)
+  pub long : length known ≡ cells
+  pub is : (n u : ℕ) → n < nonterminals → u < mostTags → getD known (cellOf n u) 0 ≡ alikeBefore s n u (productionCount s)
 
 -- a sum is 0, 1 or 2, for none, one and many; with so many more it is
 abbrev pub raised : ℕ → Count → ℕ
@@ -41,18 +49,21 @@ raised sum none = sum
 raised sum one = cond (eqb sum 0) 1 2
 raised sum many = 2
 
--- the symbols of the 65 sums: the tags 0 to 63, and a character
+-- a sum for each tag, and behind those one for a character: the symbols of the sums
+abbrev pub sumCells : ℕ
+sumCells = suc mostTags
+
 abbrev pub symbolOf : ℕ → Next
-symbolOf i = cond (ltb i 64) (tag i) character
+symbolOf i = cond (ltb i mostTags) (tag i) character
 
 -- each sum is raised by what is told of its symbol
 pub record Raised (more : Next → Count) (before after : List ℕ) : Type 0 where
-  pub each : (i : ℕ) → i ≤ 64 → getD after i 0 ≡ raised (getD before i 0) (more (symbolOf i))
+  pub each : (i : ℕ) → i < sumCells → getD after i 0 ≡ raised (getD before i 0) (more (symbolOf i))
 
 -- the sums of nonterminal m's tags are raised by n
 pub record TagsRaised (known : List ℕ) (m : ℕ) (n : Count) (before after : List ℕ) : Type 0 where
-  pub tags : (t : ℕ) → t < 64 → getD after t 0 ≡ raised (getD before t 0) (mul n (bit (ltb 0 (getD known (64 * m + t) 0))))
-  pub character : getD after 64 0 ≡ getD before 64 0
+  pub tags : (t : ℕ) → t < mostTags → getD after t 0 ≡ raised (getD before t 0) (mul n (bit (ltb 0 (getD known (cellOf m t) 0))))
+  pub character : getD after mostTags 0 ≡ getD before mostTags 0
 
 -- an atom is behind: `here` says whether it is the place
 pub record PassedAs (here : Bool) (next atom-past : ℕ) (r : Onward) : Type 0 where

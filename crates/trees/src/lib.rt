@@ -5,6 +5,7 @@ ghost use Prim.Native.Nat.{_+_, _≤_, _<_};
 ghost use lib.Dec.{ltb};
 ghost use lib.ListN.{length};
 ghost use Rattle.expressions.specs.Expr.{cat as catExp, alt as altExp};
+ghost use Rattle.expressions.specs.Grammar.{nonterminals};
 ghost use Rattle.expressions.specs.Count.{one, add, mul, rep, bit as bitCount};
 ghost use Rattle.expressions.specs.Listed.{isMany};
 ghost use Rattle.tells.specs.Tells.{Tells};
@@ -13,7 +14,7 @@ ghost use Rattle.trees.specs.Trees.{Trees};
 ghost use Rattle.trees.specs.Parsed.{RunsInside, NodeFits, ParsedAt, HasContent};
 ghost use Rattle.trees.specs.Tally.{countOf, LeafOf, EmptyOf, StarOf, JoinOf, TreeIn, Tallied};
 ghost use Rattle.trees.specs.Answers.{AlikeIs, CanBeIs, CharacterIs, AtomsIs};
-ghost use Rattle.trees.specs.Sums.{Zeros, Room, OneAlike, AllAlike, raised, TagsRaised, PassedAs, EitherAs, Spread, CountedFrom};
+ghost use Rattle.trees.specs.Sums.{Zeros, Room, cells, OneAlike, AllAlike, sumCells, raised, TagsRaised, PassedAs, EitherAs, Spread, CountedFrom};
 use layout::Layout;
 use layout::argument_of;
 use layout::first_node_of;
@@ -21,6 +22,11 @@ use layout::kind_of;
 use layout::node_count_of;
 use layout::nonterminal_of;
 use layout::tag_number_of;
+
+// The most tags; and nonterminals are 0 to 63.
+const TAGS: usize = 64;
+
+const NONTERMINALS: usize = 64;
 
 // The deepest that an expression may be.
 const DEEPEST: usize = 12;
@@ -66,7 +72,7 @@ fn node_fits(kind: usize, argument: usize) -> bool
     ensures { λ r. ⌜ Tells (NodeFits kind argument) r ⌝ }
 {
     if kind == 1 {
-        return argument < 64;
+        return argument < NONTERMINALS;
     }
     if kind < 2 {
         return false;
@@ -355,24 +361,24 @@ pub fn walk_tree(s: &[u8], l: Layout, p: usize, at: usize, left: usize, j: usize
 
 // One more production of nonterminal m and tag t. No sheet that fits has other numbers.
 fn one_alike(known: &mut [u8], m: usize, t: usize)
-    requires { ⌜ length (now known) ≡ 4096 ⌝ }
+    requires { ⌜ length (now known) ≡ cells ⌝ }
     requires { ⌜ Room (now known) ⌝ }
     ensures { λ _. ⌜ OneAlike m t (now (known .entry)) (now (known .exit)) ⌝ }
 {
-    if m > 63 {
+    if m >= NONTERMINALS {
         return;
     }
-    if t > 63 {
+    if t >= TAGS {
         return;
     }
-    let i = 64 * m + t;
+    let i = TAGS * m + t;
     known[i] = known[i] + 1;
 }
 
-// For each nonterminal and tag the number of productions of both, into memory that is lent as zeros: nonterminal m's tags from 64 * m on.
+// For each nonterminal and tag the number of productions of both, into memory that is lent as zeros: nonterminal m's tags from TAGS * m on.
 pub fn all_alike(s: &[u8], l: Layout, known: &mut [u8])
     requires { ⌜ LaidOut (now s) l ⌝ }
-    requires { ⌜ length (now known) ≡ 4096 ⌝ }
+    requires { ⌜ length (now known) ≡ cells ⌝ }
     requires { ⌜ Zeros (now known) ⌝ }
     ensures { λ _. ⌜ AllAlike (now (s .entry)) (now (known .exit)) ⌝ }
 {
@@ -400,14 +406,14 @@ fn raise(sum: u8, alike: u8, n: Number) -> u8
 
 // n bracket strings lead to an atom of nonterminal m: the sum of each of its tags is raised.
 fn raise_tags(known: &[u8], sums: &mut [u8], m: usize, n: Number)
-    requires { ⌜ length (now known) ≡ 4096 ⌝ }
-    requires { ⌜ length (now sums) ≡ 65 ⌝ }
-    requires { ⌜ m ≤ 63 ⌝ }
+    requires { ⌜ length (now known) ≡ cells ⌝ }
+    requires { ⌜ length (now sums) ≡ sumCells ⌝ }
+    requires { ⌜ m < nonterminals ⌝ }
     ensures { λ _. ⌜ TagsRaised (now (known .entry)) m (countOf n) (now (sums .entry)) (now (sums .exit)) ⌝ }
 {
-    let from = 64 * m;
+    let from = TAGS * m;
     let mut t = 0;
-    while t < 64 {
+    while t < TAGS {
         sums[t] = raise(sums[t], known[from + t], n);
         t += 1;
     }
@@ -465,7 +471,7 @@ fn spread(
     requires { ⌜ LaidOut (now s) l ⌝ }
     requires { ⌜ Trees (now s) ⌝ }
     requires { ⌜ AllAlike (now s) (now known) ⌝ }
-    requires { ⌜ length (now sums) ≡ 65 ⌝ }
+    requires { ⌜ length (now sums) ≡ sumCells ⌝ }
     requires { ⌜ TreeIn (now s) at left j ⌝ }
     ensures { λ r. ⌜ Spread (now (s .entry)) p at j (countOf n) (now (sums .entry)) (now (sums .exit)) r ⌝ }
 {
@@ -483,7 +489,7 @@ fn spread(
         return passed(p == j, at + 1, j + 1);
     }
     if kind == 2 {
-        sums[64] = raise(sums[64], 1, n);
+        sums[TAGS] = raise(sums[TAGS], 1, n);
         return passed(p == j, at + 1, j + 1);
     }
     if kind == 5 {
@@ -514,7 +520,7 @@ pub fn count_from(s: &[u8], l: Layout, known: &[u8], sums: &mut [u8], q: usize, 
     requires { ⌜ RunsInside (now s) ⌝ }
     requires { ⌜ Trees (now s) ⌝ }
     requires { ⌜ AllAlike (now s) (now known) ⌝ }
-    requires { ⌜ length (now sums) ≡ 65 ⌝ }
+    requires { ⌜ length (now sums) ≡ sumCells ⌝ }
     requires { ⌜ q < l .productions ⌝ }
     ensures { λ r. ⌜ CountedFrom (now (s .entry)) q p (now (sums .entry)) (now (sums .exit)) r ⌝ }
 {

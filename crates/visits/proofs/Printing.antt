@@ -9,19 +9,19 @@ use Prim.Native.Nat.{ℕ, _+_, _-_, _*_, _/_, _%_, _≤_, _<_}
 use native.Mathlib.Omega.{arith}
 use lib.ListN.{length, getD, take, drop, length-append, length-drop, length-take}
 use lib.Seq.{take-append-seam}
-use lib.Dec.{eqb}
 use Rattle.lent.specs.Put.{put, PutAs}
 use Rattle.lent.proofs.Laws.{put-append, put-none, nothing-put, put-dry}
-use Rattle.text.specs.Chars.{pick, utf8, Starts, DecodedIs}
+use Rattle.text.specs.Chars.{utf8, Starts, DecodedIs}
 use Rattle.text.specs.Characters.{utf8s, WholeCharacters}
 use Rattle.text.specs.declared.Decoded.the-variants.{Whole}
 use Rattle.text.proofs.Shapes.{Range, range, shape1, shape2, shape3, shape4}
-use Rattle.tokens.specs.Tokens.{spelled, amp, lt, gt, bytes}
+use Rattle.tokens.specs.Tokens.{Tok, bytes}
 use Rattle.programs.specs.Program.{Statement, become, copy, recall, reject, print-start, print-end, print-text, echo, branch, statementBytes, conditionBytes, programBytes}
 use Rattle.programs.specs.Limits.{Printable}
 use Rattle.programs.proofs.Characters.{tail, step-on}
 use Rattle.programs.proofs.Reading.{behind, byte-of, first-byte, starts-length}
-use Rattle.output.specs.Escape.{crByNumber, escaped, render, text, startTag, endTag}
+use Rattle.output.specs.Escape.{escaped, render, text, startTag, endTag}
+use Rattle.output.proofs.Writing.{each-token}
 use Rattle.runs.specs.Characters.{charactersOf}
 use Rattle.runs.specs.Execute.{Effect, nameOf, executeOne}
 use Rattle.runs.proofs.Characters.{characters-of}
@@ -29,10 +29,6 @@ use Rattle.visits.specs.Written.{Pen, Written, TextOf, RangeOf, tagText,
 use Rattle.visits.specs.Ran.{mostPrinted}
 use Rattle.visits.proofs.Lying.{second-part, statement-of}
 use Rattle.visits.proofs.Settling.{same-effect, no-effect}
-
-pick-short : (b : Bool) (x y : List ℕ) → length x ≤ 5 → length y ≤ 5 → length (pick b x y) ≤ 5
-pick-short true x y h k = h
-pick-short false x y h k = k
 
 utf8-short : (c : ℕ) → length (utf8 c) ≤ 5
 utf8-short c = go (range c)
@@ -44,13 +40,8 @@ utf8-short c = go (range c)
     go (inr (inr (inr h))) = omega (arith, ap length (shape4 c h))
 
 pub escaped-short : (c : ℕ) → length (escaped c) ≤ 5
-unfolding escaped
 escaped-short c =
-    let cr : List ℕ = pick (eqb c 13) (bytes crByNumber) (utf8 c) in
-    pick-short (eqb c 38) (spelled amp) (pick (eqb c 60) (spelled lt) (pick (eqb c 62) (spelled gt) cr)) (omega arith)
-    (pick-short (eqb c 60) (spelled lt) (pick (eqb c 62) (spelled gt) cr) (omega arith)
-    (pick-short (eqb c 62) (spelled gt) cr (omega arith)
-    (pick-short (eqb c 13) (bytes crByNumber) (utf8 c) (omega arith) (utf8-short c))))
+    each-token (λ (t : Tok). length (bytes t) ≤ 5) c (λ h. omega arith) (λ h. omega arith) (λ h. omega arith) (λ h. omega arith) (λ h j k l. utf8-short c)
 
 -- ---- text, one character from the front
 pub one-more : (f : List ℕ) (i c k : ℕ) → DecodedIs (take (length f - i) (drop i f)) (Whole c k) → WholeCharacters (drop i f)

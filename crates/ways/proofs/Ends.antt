@@ -12,7 +12,7 @@ use Rattle.expressions.specs.Words.{Bracket}
 use Rattle.expressions.specs.Grammar.{Production, Nth, contentOf, tagsOf, Next}
 use Rattle.layout.specs.declared.Layout.{Layout}
 use Rattle.layout.specs.LaidOut.{LaidOut}
-use Rattle.layout.specs.Layout.{productionCount, nodeCount}
+use Rattle.layout.specs.Layout.{productionCount}
 use Rattle.layout.specs.Records.{firstNodeOf, nodeCountOf}
 use Rattle.limits.specs.Limits.{nodesAtMost}
 use Rattle.few.specs.Strings.{mostBrackets}
@@ -21,7 +21,6 @@ use Rattle.runs.specs.Way.{Way as Found, joined, led, through, into, out-of, ac
 use Rattle.trees.specs.declared.Symbol.{Symbol}
 use Rattle.trees.specs.Trees.{TreeAt, ContentAt, Trees}
 use Rattle.trees.specs.GrammarAt.{GrammarIs}
-use Rattle.trees.specs.Parsed.{RunsInside}
 use Rattle.trees.specs.Symbol.{nextOf}
 use Rattle.trees.proofs.Grammars.{grammar-is, nth-is, nth-there, content-nth, content-at, nodes-of-content}
 use Rattle.trees.proofs.Unique.{nodes-pos}
@@ -29,7 +28,7 @@ use Rattle.ways.specs.Held.{LineIn as Line}
 use Rattle.ways.specs.Held.{WayIn as Way}
 use Rattle.ways.specs.declared.Spot.{Spot}
 use Rattle.ways.specs.Held.{LineIs, Missing, WayIs, MissingWay}
-use Rattle.ways.specs.Spot.{At, SpotIn}
+use Rattle.ways.specs.Spot.{At}
 use Rattle.ways.specs.Walks.{Through, Into, OutOf, Across}
 use Rattle.ways.specs.Answers.{FollowsS, EndWayIs, AtomWayIs}
 use Rattle.ways.proofs.Strings.{joined-empty, led-empty}
@@ -115,25 +114,6 @@ module _ (s : List ℕ) (q n : ℕ) (nodes-are : n ≡ nodeCountOf s q) (ground 
     atom-none p x w r room z = atom-way ground p x r room (λ g γ d m. atom-of-none p x r (missing-way z) g (d .content) (nth-is s g γ q d m .content-is))
 
   module _ (some-nodes : n ≡ 0 → ⊥) (t : Spot) (node-is : t .node ≡ firstNodeOf s q) (count-is : t .nodes ≡ n) (bracket-1 : t .bracket ≡ 1) (atom-1 : t .atom ≡ 1) where
-    spot-of : (c : Content) → ContentAt s q c → t .node + n ≤ nodeCount s → n ≤ 32 → SpotIn s t
-    spot-of nothing h b small = absurd (some-nodes (nodes-are ∙ h))
-    spot-of (tree e) h b small =
-        record {
-          any = omega (arith, nodes-pos e, h .1);
-          inside = omega arith;
-          few = omega arith;
-          number = omega arith;
-          expression = e;
-          stands = subst (λ (z : ℕ). TreeAt s z e) (sym node-is) (h .0);
-          nodes-are = omega (arith, h .1);
-        }
-
-    -- the production's nodes are a tree for the walks
-    pub spot-there : RunsInside s → SpotIn s t
-    spot-there r =
-        let c = ground .trees .each q (ground .there) in
-        spot-of (c .0) (c .1) (omega (arith, r .inside q (ground .there))) (omega (arith, ground .small))
-
     here : (e : Exp) → ContentAt s q (tree e) → At s t e 1 1
     here e h = record { stands = subst (λ (z : ℕ). TreeAt s z e) (sym node-is) (h .0); bracket-is = bracket-1; atom-is = atom-1 }
 

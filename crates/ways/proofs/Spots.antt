@@ -1,14 +1,15 @@
--- The kind of the first node tells which tree stands at a spot, and where the trees behind that node stand.
+-- The kind of the first node tells which tree stands at a spot, and where the trees behind that node stand; a production's whole tree stands at one.
 -- Assumes nothing.
 use mathlib.Core.Path.{_≡_, refl, sym, _∙_, ap, subst}
 use mathlib.Core.List.{List}
 use Prim.Native.Nat.{ℕ, suc, _+_, _-_, _≤_, _<_}
 use native.Mathlib.Omega.{arith}
 use native.Mathlib.Numerals.{add-one}
-use Rattle.expressions.specs.Expr.{Atom, Exp, atom, cat, alt, star, empty, nonterminal, anychar, nodes, atoms}
-use Rattle.layout.specs.Layout.{nodeCount}
-use Rattle.layout.specs.Records.{kindOf}
-use Rattle.trees.specs.Trees.{TreeAt}
+use Rattle.expressions.specs.Expr.{Atom, Exp, atom, cat, alt, star, empty, nonterminal, anychar, nodes, atoms, Content, nothing, tree}
+use Rattle.layout.specs.Layout.{productionCount, nodeCount}
+use Rattle.layout.specs.Records.{kindOf, firstNodeOf, nodeCountOf}
+use Rattle.trees.specs.Trees.{TreeAt, ContentAt, Trees}
+use Rattle.trees.specs.Parsed.{RunsInside}
 use Rattle.trees.specs.Tally.{TreeIn}
 use Rattle.trees.proofs.Tallies.{few-atoms}
 use Rattle.trees.proofs.Unique.{nodes-pos}
@@ -194,3 +195,24 @@ module _ (s : List ℕ) (t : Spot) (low : 3 ≤ kindOf s (t .node)) (high : kind
                   atom-is = omega (arith, m);
                 };
           }
+
+-- a production's nodes are a tree for the walks, whether or not rule S finds a fault
+module _ (s : List ℕ) (q n : ℕ) (nodes-are : n ≡ nodeCountOf s q) (some : n ≡ 0 → ⊥) (t : Spot) (node-is : t .node ≡ firstNodeOf s q) (count-is : t .nodes ≡ n)
+    (bracket-1 : t .bracket ≡ 1) (atom-1 : t .atom ≡ 1) where
+  spot-of : (c : Content) → ContentAt s q c → t .node + n ≤ nodeCount s → n ≤ 32 → SpotIn s t
+  spot-of nothing h b small = absurd (some (nodes-are ∙ h))
+  spot-of (tree e) h b small =
+      record {
+        any = omega (arith, nodes-pos e, h .1);
+        inside = omega arith;
+        few = omega arith;
+        number = omega arith;
+        expression = e;
+        stands = subst (λ (z : ℕ). TreeAt s z e) (sym node-is) (h .0);
+        nodes-are = omega (arith, h .1);
+      }
+
+  pub spot-there : Trees s → RunsInside s → q < productionCount s → nodeCountOf s q ≤ 32 → SpotIn s t
+  spot-there trees runs there small =
+      let c = trees .each q there in
+      spot-of (c .0) (c .1) (omega (arith, runs .inside q there)) (omega (arith, small))

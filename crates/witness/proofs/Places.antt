@@ -3,49 +3,26 @@
 use mathlib.Core.Path.{_≡_, refl, sym, _∙_, ap, subst}
 use mathlib.Core.Bool.{false}
 use mathlib.Core.List.{List}
-use Prim.Native.Nat.{ℕ, zero, suc, _+_, _≤_, _<_}
+use Prim.Native.Nat.{ℕ, zero, suc}
 use native.Mathlib.Omega.{arith}
 use lib.Dec.{eqb}
 use borrow.Author.Tests.{ne-eqb}
 use Rattle.expressions.specs.Expr.{Exp, Content, nothing, tree}
 use Rattle.expressions.specs.Grammar.{Production, tagsOf}
-use Rattle.layout.specs.Layout.{productionCount, nodeCount}
 use Rattle.layout.specs.Records.{firstNodeOf, nodeCountOf}
 use Rattle.parting.specs.Firsts.{no-string, toEnd, toAtom}
 use Rattle.trees.specs.declared.Symbol.{Symbol}
 use Rattle.trees.specs.declared.Symbol.the-variants.{Tag, Character, End}
-use Rattle.trees.specs.Trees.{TreeAt, ContentAt, Trees}
+use Rattle.trees.specs.Trees.{TreeAt, ContentAt}
 use Rattle.trees.specs.GrammarAt.{GrammarIs}
-use Rattle.trees.specs.Parsed.{RunsInside}
 use Rattle.trees.specs.Symbol.{nextOf}
 use Rattle.trees.proofs.Grammars.{nth-is}
 use Rattle.trees.proofs.Unique.{nodes-pos}
 use Rattle.ways.specs.declared.Spot.{Spot}
-use Rattle.ways.specs.Spot.{At, SpotIn}
+use Rattle.ways.specs.Spot.{At}
 use Rattle.witness.specs.declared.Pair.{Pair}
 use Rattle.witness.specs.Held.{AreHeld, Holds, WhenIs}
 use Rattle.witness.specs.Walks.{Through, Into, OutOf, Across, ToEnd, ToAtom, FirstsAre}
-
--- a production's nodes are a tree for the walks, whether or not rule S finds a fault
-module _ (s : List ℕ) (q n : ℕ) (nodes-are : n ≡ nodeCountOf s q) (some : n ≡ 0 → ⊥) (t : Spot) (node-is : t .node ≡ firstNodeOf s q) (count-is : t .nodes ≡ n)
-    (bracket-1 : t .bracket ≡ 1) (atom-1 : t .atom ≡ 1) where
-  spot-of : (c : Content) → ContentAt s q c → t .node + n ≤ nodeCount s → n ≤ 32 → SpotIn s t
-  spot-of nothing h b small = absurd (some (nodes-are ∙ h))
-  spot-of (tree e) h b small =
-      record {
-        any = omega (arith, nodes-pos e, h .1);
-        inside = omega arith;
-        few = omega arith;
-        number = omega arith;
-        expression = e;
-        stands = subst (λ (z : ℕ). TreeAt s z e) (sym node-is) (h .0);
-        nodes-are = omega (arith, h .1);
-      }
-
-  pub spot-there : Trees s → RunsInside s → q < productionCount s → nodeCountOf s q ≤ 32 → SpotIn s t
-  spot-there trees runs there small =
-      let c = trees .each q there in
-      spot-of (c .0) (c .1) (omega (arith, runs .inside q there)) (omega (arith, small))
 
 module _ (s : List ℕ) (q n : ℕ) (nodes-are : n ≡ nodeCountOf s q) (p : ℕ) (r : Pair) where
   module _ (z : n ≡ 0) where

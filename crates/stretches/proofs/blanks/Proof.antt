@@ -4,7 +4,7 @@ use mathlib.Core.Bool.{true}
 use Prim.Native.Nat.{_-_}
 use lib.ListN.{length, getD}
 use borrow.Author.Tests.{not-false}
-use Rattle.stretches.specs.Next.{space}
+use Rattle.stretches.specs.Literal.{space}
 use Rattle.stretches.specs.Stretched.{BlanksAs}
 use Rattle.stretches.proofs.Nexts.{alone-space, alone-next, blank-space}
 use Rattle.stretches.proofs.Stretching.{no-blank-yet, one-blank}

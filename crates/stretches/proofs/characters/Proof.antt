@@ -17,7 +17,7 @@ use Rattle.stretches.proofs.characters.Reads as reads
 use Rattle.stretches.proofs.characters.Lts as lts
 use Rattle.stretches.proofs.allowed.Reads as allowed-reads
 use Rattle.stretches.proofs.plains.Reads as plains-reads
-use Rattle.stretches.proofs.read_next.Reads as read-next-reads
+use Rattle.stretches.proofs.read_literal.Reads as read-literal-reads
 use Rattle.stretches.proofs.show.Reads as show-reads
 use Rattle.stretches.proofs.tag_or_end.Reads as tag-or-end-reads
 
@@ -44,8 +44,8 @@ same-length c = let p = c .before .before .before .before in (p .plains .ensures
 returns : tie.Need-returns Inv-loop μ-loop
 returns c = let p = c .before .before .before .before in p .plains .ensures .carries _ _ _ _ (p .before .before .loop .inv)
 
-read-next-requires : tie.Need-read-next-requires Inv-loop μ-loop
-read-next-requires c κs = let p = c .before .before .before .before in (p .plains .ensures .carries _ _ _ _ (p .before .before .loop .inv)) .within
+read-literal-requires : tie.Need-read-literal-requires Inv-loop μ-loop
+read-literal-requires c κs = let p = c .before .before .before .before in (p .plains .ensures .carries _ _ _ _ (p .before .before .loop .inv)) .within
 
 same-length-2 : tie.Need-same-length-2 Inv-loop μ-loop
 same-length-2 c = let p = c .before .before .before .before .before .before .before in (p .plains .ensures .carries _ _ _ _ (p .before .before .loop .inv)) .long
@@ -69,7 +69,7 @@ show-requires c κs =
     let start = p .before .before .before .before .before in
     let part = start .args .part .now in
     let e = p .plains .ensures .carries _ _ _ _ (p .before .before .loop .inv) in
-    let here = stands part (p .plains .result .at) (r .read-next .result) (r .read-next .ensures) _ _ (c .before .before .before .before .before .next .given .1) in
+    let here = stands part (p .plains .result .at) (r .read-literal .result) (r .read-literal .ensures) _ _ (c .before .before .before .before .before .next .given .1) in
     let may = allowed-is (start .args .k) (p .plains .result .count) (length (p .plains .last .1 .1 .1 .1 .0) - p .plains .result .put) (p .plains .result .put) (start .pre .1 .1 .0) (sym (c .before .before .allowed .ensures) ∙ not-false _ (c .before .if2 .left)) in
     (may .reach, event-char (front part (p .plains .result .at)) (p .plains .result .at) _ true _ (here .0))
 
@@ -83,7 +83,7 @@ add-at c =
     let start = p .before .before .before .before .before in
     let part = start .args .part .now in
     let e = p .plains .ensures .carries _ _ _ _ (p .before .before .loop .inv) in
-    let here = stands part (p .plains .result .at) (r .read-next .result) (r .read-next .ensures) _ _ (c .before .before .before .before .before .before .before .before .before .before .next .given .1) in
+    let here = stands part (p .plains .result .at) (r .read-literal .result) (r .read-literal .ensures) _ _ (c .before .before .before .before .before .before .before .before .before .before .next .given .1) in
     omega (arith, onward part (p .plains .result .at) _ _ (e .within) here)
 
 loop-less : tie.Need-loop-less Inv-loop μ-loop
@@ -93,7 +93,7 @@ loop-less c =
     let start = p .before .before .before .before .before in
     let part = start .args .part .now in
     let e = p .plains .ensures .carries _ _ _ _ (p .before .before .loop .inv) in
-    let here = stands part (p .plains .result .at) (r .read-next .result) (r .read-next .ensures) _ _ (c .before .before .before .before .before .before .before .before .before .before .next .given .1) in
+    let here = stands part (p .plains .result .at) (r .read-literal .result) (r .read-literal .ensures) _ _ (c .before .before .before .before .before .before .before .before .before .before .next .given .1) in
     omega (arith, p .plains .ensures .forward, onward part (p .plains .result .at) _ _ (e .within) here)
 
 loop-again : tie.Need-loop-again Inv-loop μ-loop
@@ -103,7 +103,7 @@ loop-again c =
     let start = p .before .before .before .before .before in
     let part = start .args .part .now in
     let e = p .plains .ensures .carries _ _ _ _ (p .before .before .loop .inv) in
-    let here = stands part (p .plains .result .at) (r .read-next .result) (r .read-next .ensures) _ _ (c .before .before .before .before .before .before .before .before .before .before .next .given .1) in
+    let here = stands part (p .plains .result .at) (r .read-literal .result) (r .read-literal .ensures) _ _ (c .before .before .before .before .before .before .before .before .before .before .next .given .1) in
     let may = allowed-is (start .args .k) (p .plains .result .count) (length (p .plains .last .1 .1 .1 .1 .0) - p .plains .result .put) (p .plains .result .put) (start .pre .1 .1 .0) (sym (c .before .before .before .before .before .before .before .allowed .ensures) ∙ not-false _ (c .before .before .before .before .before .before .if2 .left)) in
     one-more part (start .args .from) (start .args .on) (start .args .k) (start .args .n) (start .args .out .now) (start .args .put)
     (p .plains .result .at) (p .plains .result .put) (p .plains .result .count) _ e _ _ here (may .visits) (omega (arith, may .longest, e .long, e .room)) _ _ (c .before .before .before .before .show .ensures)
@@ -118,7 +118,7 @@ characters-spec =
     plains-requires
     (λ c κs. search needs) same-length
     returns
-    read-next-requires
+    read-literal-requires
     (λ c. search needs) (λ c. search needs) same-length-2
     returns-2
     sub-allowed

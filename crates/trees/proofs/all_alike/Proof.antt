@@ -5,12 +5,13 @@ use mathlib.Core.Path.{_≡_, _∙_}
 use native.Mathlib.Omega.{arith}
 use lib.ListN.{length}
 use borrow.Author.Needs.{needs}
+use Rattle.trees.specs.Sums.{cells}
 use Rattle.trees.proofs.Alikes.{CountedBefore, none-counted, room-left, counted-one, all-counted}
 use Rattle.trees.proofs.all_alike.Statement.{statement}
 use Rattle.trees.proofs.all_alike.Tie as tie
 
 abbrev Inv-loop : tie.InvT-loop
-Inv-loop s l known₀ q₀ known q = (q ≤ l .productions) × (length known ≡ 4096) × CountedBefore s q known
+Inv-loop s l known₀ q₀ known q = (q ≤ l .productions) × (length known ≡ cells) × CountedBefore s q known
 
 abbrev μ-loop : tie.MeasureT-loop
 μ-loop s l known₀ q₀ known q = l .productions - q

@@ -6,15 +6,17 @@ use native.Mathlib.Omega.{arith}
 use lib.ListN.{length}
 use borrow.Author.Needs.{needs}
 use Rattle.trees.specs.Tally.{countOf}
+use Rattle.trees.specs.Sums.{sumCells}
+use Rattle.limits.specs.Limits.{mostTags}
 use Rattle.trees.proofs.Alikes.{RaisedBelow, none-raised, one-raised, all-raised}
 use Rattle.trees.proofs.raise_tags.Statement.{statement}
 use Rattle.trees.proofs.raise_tags.Tie as tie
 
 abbrev Inv-loop : tie.InvT-loop
-Inv-loop known sums₀ m n from t₀ sums t = (t ≤ 64) × (from ≡ 64 * m) × (length sums ≡ 65) × RaisedBelow known m (countOf n) t sums₀ sums
+Inv-loop known sums₀ m n from t₀ sums t = (t ≤ mostTags) × (from ≡ mostTags * m) × (length sums ≡ sumCells) × RaisedBelow known m (countOf n) t sums₀ sums
 
 abbrev μ-loop : tie.MeasureT-loop
-μ-loop known sums₀ m n from t₀ sums t = 64 - t
+μ-loop known sums₀ m n from t₀ sums t = mostTags - t
 
 loop-holds : tie.Need-loop-holds Inv-loop μ-loop
 loop-holds c = (search needs, search needs, search needs, none-raised _ _ _ _)

@@ -4,7 +4,8 @@ use borrow.Author.Needs.{needs}
 use mathlib.Core.Path.{refl}
 use native.Mathlib.Omega.{arith}
 use Rattle.ways.proofs.Holds.{empty-line}
-use Rattle.ways.proofs.Ends.{grounded, atom-none, spot-there, atom-into, atom-across}
+use Rattle.ways.proofs.Spots.{spot-there}
+use Rattle.ways.proofs.Ends.{grounded, atom-none, atom-into, atom-across}
 use Rattle.ways.proofs.way_to_atom.Statement.{statement}
 use Rattle.ways.proofs.way_to_atom.Tie as tie
 
@@ -17,7 +18,8 @@ into-requires : tie.Need-into-requires
 into-requires c κs =
     let w = c .before .before .before .before .before .before .before in
     let n = c .before .before .before .before .node-count-of .ensures .is in
-    (w .pre .0, (spot-there _ _ _ n (grounded (w .pre .0) (w .pre .1 .1 .0) (w .pre .1 .1 .1 .0) (w .pre .1 .1 .1 .1 .0) (w .pre .1 .1 .1 .1 .1 .0)) (c .before .before .before .if1 .left) _ (c .before .before .first-node-of .ensures .is) refl refl refl (w .pre .1 .0), omega (arith, n, w .pre .1 .1 .1 .1 .1 .0)))
+    let g = grounded (w .pre .0) (w .pre .1 .1 .0) (w .pre .1 .1 .1 .0) (w .pre .1 .1 .1 .1 .0) (w .pre .1 .1 .1 .1 .1 .0) in
+    (w .pre .0, (spot-there _ _ _ n (c .before .before .before .if1 .left) _ (c .before .before .first-node-of .ensures .is) refl refl refl (g .trees) (w .pre .1 .0) (g .there) (g .small), omega (arith, n, w .pre .1 .1 .1 .1 .1 .0)))
 
 same-length : tie.Need-same-length
 same-length c = omega (arith, c .before .before .into .ensures .kept .long)
@@ -32,7 +34,8 @@ across-requires : tie.Need-across-requires
 across-requires c κs =
     let w = c .before .before .before .before .before .before .before in
     let n = c .before .before .before .before .node-count-of .ensures .is in
-    (w .pre .0, (spot-there _ _ _ n (grounded (w .pre .0) (w .pre .1 .1 .0) (w .pre .1 .1 .1 .0) (w .pre .1 .1 .1 .1 .0) (w .pre .1 .1 .1 .1 .1 .0)) (c .before .before .before .if1 .left) _ (c .before .before .first-node-of .ensures .is) refl refl refl (w .pre .1 .0), omega (arith, n, w .pre .1 .1 .1 .1 .1 .0)))
+    let g = grounded (w .pre .0) (w .pre .1 .1 .0) (w .pre .1 .1 .1 .0) (w .pre .1 .1 .1 .1 .0) (w .pre .1 .1 .1 .1 .1 .0) in
+    (w .pre .0, (spot-there _ _ _ n (c .before .before .before .if1 .left) _ (c .before .before .first-node-of .ensures .is) refl refl refl (g .trees) (w .pre .1 .0) (g .there) (g .small), omega (arith, n, w .pre .1 .1 .1 .1 .1 .0)))
 
 same-length-2 : tie.Need-same-length-2
 same-length-2 c = omega (arith, c .before .before .across .ensures .kept .long)

@@ -4,7 +4,8 @@ use borrow.Author.Needs.{needs}
 use mathlib.Core.Path.{refl}
 use native.Mathlib.Omega.{arith}
 use Rattle.ways.proofs.Holds.{empty-line}
-use Rattle.ways.proofs.Ends.{grounded, end-empty, end-missing, spot-there, end-through, end-out}
+use Rattle.ways.proofs.Spots.{spot-there}
+use Rattle.ways.proofs.Ends.{grounded, end-empty, end-missing, end-through, end-out}
 use Rattle.ways.proofs.way_to_end.Statement.{statement}
 use Rattle.ways.proofs.way_to_end.Tie as tie
 
@@ -22,7 +23,8 @@ through-requires : tie.Need-through-requires
 through-requires c κs =
     let w = c .before .before .before .before .before .before .before in
     let n = c .before .before .before .before .node-count-of .ensures .is in
-    (w .pre .0, (spot-there _ _ _ n (grounded (w .pre .0) (w .pre .1 .1 .0) (w .pre .1 .1 .1 .0) (w .pre .1 .1 .1 .1 .0) (w .pre .1 .1 .1 .1 .1 .0)) (c .before .before .before .if1 .left) _ (c .before .before .first-node-of .ensures .is) refl refl refl (w .pre .1 .0), omega (arith, n, w .pre .1 .1 .1 .1 .1 .0)))
+    let g = grounded (w .pre .0) (w .pre .1 .1 .0) (w .pre .1 .1 .1 .0) (w .pre .1 .1 .1 .1 .0) (w .pre .1 .1 .1 .1 .1 .0) in
+    (w .pre .0, (spot-there _ _ _ n (c .before .before .before .if1 .left) _ (c .before .before .first-node-of .ensures .is) refl refl refl (g .trees) (w .pre .1 .0) (g .there) (g .small), omega (arith, n, w .pre .1 .1 .1 .1 .1 .0)))
 
 same-length : tie.Need-same-length
 same-length c = omega (arith, c .before .before .through .ensures .kept .long)
@@ -37,7 +39,8 @@ out-of-requires : tie.Need-out-of-requires
 out-of-requires c κs =
     let w = c .before .before .before .before .before .before .before in
     let n = c .before .before .before .before .node-count-of .ensures .is in
-    (w .pre .0, (spot-there _ _ _ n (grounded (w .pre .0) (w .pre .1 .1 .0) (w .pre .1 .1 .1 .0) (w .pre .1 .1 .1 .1 .0) (w .pre .1 .1 .1 .1 .1 .0)) (c .before .before .before .if1 .left) _ (c .before .before .first-node-of .ensures .is) refl refl refl (w .pre .1 .0), omega (arith, n, w .pre .1 .1 .1 .1 .1 .0)))
+    let g = grounded (w .pre .0) (w .pre .1 .1 .0) (w .pre .1 .1 .1 .0) (w .pre .1 .1 .1 .1 .0) (w .pre .1 .1 .1 .1 .1 .0) in
+    (w .pre .0, (spot-there _ _ _ n (c .before .before .before .if1 .left) _ (c .before .before .first-node-of .ensures .is) refl refl refl (g .trees) (w .pre .1 .0) (g .there) (g .small), omega (arith, n, w .pre .1 .1 .1 .1 .1 .0)))
 
 same-length-2 : tie.Need-same-length-2
 same-length-2 c = omega (arith, c .before .before .out-of .ensures .kept .long)

@@ -5,7 +5,8 @@ use mathlib.Core.Path.{refl}
 use Prim.Native.Nat.{_<_}
 use native.Mathlib.Omega.{arith}
 use Rattle.layout.specs.Layout.{productionCount}
-use Rattle.witness.proofs.Places.{spot-there, atom-empty, atom-into, atom-across}
+use Rattle.ways.proofs.Spots.{spot-there}
+use Rattle.witness.proofs.Places.{atom-empty, atom-into, atom-across}
 use Rattle.witness.proofs.to_atom.Statement.{statement}
 use Rattle.witness.proofs.to_atom.Tie as tie
 

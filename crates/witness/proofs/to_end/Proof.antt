@@ -5,7 +5,8 @@ use mathlib.Core.Path.{refl}
 use Prim.Native.Nat.{_<_}
 use native.Mathlib.Omega.{arith}
 use Rattle.layout.specs.Layout.{productionCount}
-use Rattle.witness.proofs.Places.{spot-there, end-empty, end-through, end-out}
+use Rattle.ways.proofs.Spots.{spot-there}
+use Rattle.witness.proofs.Places.{end-empty, end-through, end-out}
 use Rattle.witness.proofs.to_end.Statement.{statement}
 use Rattle.witness.proofs.to_end.Tie as tie
 

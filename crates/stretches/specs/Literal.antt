@@ -12,8 +12,8 @@ use Rattle.tokens.specs.declared.Event.the-variants.{Character}
 use Rattle.tokens.specs.declared.Answer.the-variants.{Token}
 use Rattle.output.specs.Reach.{farthest}
 use Rattle.runs.specs.Visits.{mostVisits}
-use Rattle.stretches.specs.declared.Next.{Next}
-use Rattle.stretches.specs.declared.Next.the-variants.{Character as Stands, Other}
+use Rattle.stretches.specs.declared.Literal.{Literal}
+use Rattle.stretches.specs.declared.Literal.the-variants.{Character as Stands, Other}
 
 -- one of ASCII from the space on other than < & >; a space, a tab or a line feed
 abbrev pub plain : ℕ → Bool
@@ -31,6 +31,6 @@ abbrev pub allows : ℕ → ℕ → ℕ → ℕ → Bool
 allows k count room to = leb count (mostVisits - k) && (leb 5 room && leb to farthest)
 
 -- a character stands there itself, as the reader says, and takes so many bytes; or none does: a reference, or a CR that waits, is none
-abbrev pub NextIs : List ℕ → ℕ → Next → Type 0
-NextIs part at (Stands c n) = Means (front part at) at (Token (Character c true) (record { at = at + n }))
-NextIs part at Other = (c : ℕ) (next : Cursor) → Means (front part at) at (Token (Character c true) next) → ⊥
+abbrev pub LiteralIs : List ℕ → ℕ → Literal → Type 0
+LiteralIs part at (Stands c n) = Means (front part at) at (Token (Character c true) (record { at = at + n }))
+LiteralIs part at Other = (c : ℕ) (next : Cursor) → Means (front part at) at (Token (Character c true) next) → ⊥

@@ -2,10 +2,10 @@ use borrow.Author.Needs.{needs}
 use native.Mathlib.Omega.{arith}
 use borrow.Author.Tests.{not-true, not-false}
 use Rattle.stretches.proofs.Nexts.{no-token, no-character, by-reference, read-character, reaches}
-use Rattle.stretches.proofs.read_next.Statement.{statement}
-use Rattle.stretches.proofs.read_next.Tie as tie
-use Rattle.stretches.proofs.read_next.Reads as reads
-use Rattle.stretches.proofs.read_next.Lts as lts
+use Rattle.stretches.proofs.read_literal.Statement.{statement}
+use Rattle.stretches.proofs.read_literal.Tie as tie
+use Rattle.stretches.proofs.read_literal.Reads as reads
+use Rattle.stretches.proofs.read_literal.Lts as lts
 use Rattle.tokens.proofs.Cursor.read.Reads as read-reads
 
 returns : tie.Need-returns
@@ -51,7 +51,7 @@ returns-4 c =
     read-character (start .args .part .now) (start .args .at) (at-read .read .result) (at-read .read .ensures) (a .answer .given .0 .0) (a .answer .given .0 .1 .0) (a .answer .given .1) (start .pre)
     (e .event .given .0 .0) (e .event .given .0 .1 .0) (e .event .given .1) (not-false _ (c .before .if1 .left))
 
-pub read-next-spec : {M : Type 1} → statement M
-read-next-spec =
+pub read-literal-spec : {M : Type 1} → statement M
+read-literal-spec =
     tie.close
     (tie.spec (λ c κs. search needs) (λ c. search needs) returns (λ c. search needs) returns-2 returns-3 sub-t10 returns-4)
