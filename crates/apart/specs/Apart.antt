@@ -1,18 +1,18 @@
--- What taking a state apart comes to: the live part and the stack's bytes are a state that stands for the same run. What stood in frames
--- and sets that are not in use is not kept.
+-- What of a state's bytes is read and written besides its head: the innermost element, and the frames in use.
 -- Assumes nothing.
-use mathlib.Core.Path.{_≡_}
-use mathlib.Core.List.{List}
-use Prim.Native.Nat.{ℕ}
-use lib.ListN.{length}
-use Rattle.state.specs.declared.State.{State}
-use Rattle.state.specs.Meaning.{meaningOf, Shaped}
-use Rattle.live.specs.declared.Live.{Live}
-use Rattle.live.specs.Live.{full}
+use mathlib.Core.List.{List, [], _∷_, _++_}
+use Prim.Native.Nat.{ℕ, zero, suc, _+_, _*_}
+use Rattle.state.specs.declared.Frame.{Frame}
+use Rattle.state.specs.Bounds.{frameWidth, headWidth}
+use Rattle.state.specs.Bytes.{gathered, usedAt}
+use Rattle.state.specs.Changes.{bareFrame, tidyFrame}
 
-pub record ApartAs (z : State) (b : List ℕ) (h : Live) (b′ : List ℕ) : Type 0 where
-  pub closed : h .closed ≡ z .closed
-  pub count : h .count ≡ z .count
-  pub shaped : Shaped (full h b′)
-  pub means : meaningOf (full h b′) ≡ meaningOf z
-  pub long : length b′ ≡ length b
+-- the innermost of so many open elements as it lies in the bytes b, bare where none is open
+abbrev pub innermostIn : ℕ → List ℕ → Frame
+innermostIn zero b = bareFrame
+innermostIn (suc n) b = usedAt b (headWidth + frameWidth * n)
+
+-- so many frames, the root's first: those around the innermost element as they lie in b, and that element's own, f
+abbrev pub framesInUse : ℕ → Frame → List ℕ → List Frame
+framesInUse zero f b = []
+framesInUse (suc n) f b = gathered (usedAt b) frameWidth headWidth n ++ tidyFrame f ∷ []

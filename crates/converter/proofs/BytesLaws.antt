@@ -121,3 +121,23 @@ as-value h (runs e q w c x y) =
       counts = record { number = c .number; taken = c .taken; written = c .written; visits = c .visits };
       reads-back = y;
     }
+
+-- a call whose state is a value, put into bytes for it: what is read back is what that call answers
+visits-of : {s part lent after : List ℕ} {ended : Bool} {z : State} {q : Reply} → AnsweredAs s z part ended lent after q → q .visits ≡ q .state .count
+visits-of (value-given g a v) = v ∙ ap (λ (x : State). x .count) (sym (a .state))
+visits-of (value-runs w v) = v
+
+pub by-value : {s b b′ part : List ℕ} {ended : Bool} {lent after : List ℕ} {r : Counts} (z left : State) → length b ≡ stateWidth → stateFrom b ≡ z → left ≡ stateFrom b′ →
+    BytesAnsweredAs s b b′ part ended lent after r →
+    AnsweredAs s z part ended lent after (record { number = r .number; taken = r .taken; written = r .written; visits = r .visits; state = left })
+by-value {s} {b} {part = part} {ended} {lent} {after} {r} z left l e d w =
+    let v = as-value l w in
+    let k = v .counts in
+    let x : v .reply ≡ record { number = r .number; taken = r .taken; written = r .written; visits = r .visits; state = left } =
+    same-reply (v .reply) (sym (k .number)) (sym (k .taken)) (sym (k .written)) (visits-of (v .answered) ∙ sym (k .visits)) (sym (v .reads-back) ∙ sym d) in
+    subst (λ (y : State). AnsweredAs s y part ended lent after (record { number = r .number; taken = r .taken; written = r .written; visits = r .visits; state = left })) e
+    (subst (λ (q : Reply). AnsweredAs s (stateFrom b) part ended lent after q) x (v .answered))
+  where
+    same-reply : (q : Reply) {n t w : ℕ} {v : ℕ} {y : State} → q .number ≡ n → q .taken ≡ t → q .written ≡ w → q .visits ≡ v → q .state ≡ y →
+        q ≡ record { number = n; taken = t; written = w; visits = v; state = y }
+    same-reply q a b c d e = λ i. record { number = a i; taken = b i; written = c i; visits = d i; state = e i }

@@ -6,10 +6,10 @@ use mathlib.Core.Logic.{_⊎_, inl, inr}
 use mathlib.Core.Bool.{Bool, true, false, not, _||_, cond}
 use mathlib.Core.List.{List, [], _++_, reverse, append-nil}
 use mathlib.Core.Option.{Option, none, some, Option·none-ne-some as none-some}
-use Prim.Native.Nat.{ℕ, zero, suc, _+_, _-_, _≤_, _<_}
+use Prim.Native.Nat.{ℕ, zero, suc, _+_, _-_, _^_, _≤_, _<_}
 use native.Mathlib.Omega.{arith}
 use lib.Dec.{eqb}
-use lib.ListN.{length, take, drop-of-length-le}
+use lib.ListN.{length, take, replicate, length-replicate, drop-of-length-le}
 use borrow.Author.Tests.{ne-eqb, eq-eqb, eqb-true}
 use Rattle.lent.proofs.Laws.{put-all}
 use Rattle.tells.proofs.Laws.{held, failed}
@@ -23,8 +23,9 @@ use Rattle.runs.specs.Machine.{Control}
 use Rattle.calls.specs.Call.{atEnd, numberAt, again}
 use Rattle.state.specs.Changes.{notClosed, bareFrame}
 use Rattle.state.specs.Meaning.{standing, meaningOf, Shaped}
-use Rattle.state.specs.Bytes.{stateFrom, Sized, Wrote}
+use Rattle.state.specs.Bytes.{headingFrom, stateFrom, Sized, Wrote}
 use Rattle.state.specs.declared.Frame.{Frame}
+use Rattle.state.specs.declared.Heading.{Heading}
 use Rattle.state.specs.declared.State.{State}
 use Rattle.state.proofs.Laws.{first-last}
 use Rattle.fit.specs.Tests.{FitTold}
@@ -85,10 +86,11 @@ module _ {s : List ℕ} {n : ℕ} (v : VerdictIs s n) (e : n ≡ 0) (z : State) 
       (closed a (p .is-sheet) (p .passed) z refl (held (fits-sheet (p .is-sheet) z r t) h) (z .closed)
       (ap (λ (b : Bool). cond b none (some (z .closed))) (ne-eqb (z .closed) notClosed w)))
 
-  pub entered-open : not r ≡ false → z .closed ≡ notClosed → Sized z → Entered s (some z) 0
-  entered-open h o w =
+  pub entered-open : not r ≡ false → z .closed ≡ notClosed → (z .count < 2 ^ 64 → z .depth < 2 ^ 64 → Sized z) → Entered s (some z) 0
+  entered-open h o sized =
       let p = passed-sheet v e in
       let f = held (fits-sheet (p .is-sheet) z r t) h in
+      let w = sized (omega (arith, f .count)) (omega (arith, f .few)) in
       may-run z refl
       (record {
         sheet = a;
@@ -116,6 +118,13 @@ entered-may {s} e h = let (y, (q, m)) = entered-run e h in subst (MayRun s) (sym
 pub state-in : (b : List ℕ) → length b ≡ stateWidth → stateIn b ≡ some (stateFrom b)
 state-in b h = ap (λ (t : Bool). cond t (some (stateFrom b)) none) (eq-eqb (length b) stateWidth h)
 
+pub in-bytes : {s : List ℕ} {n : ℕ} (b : List ℕ) → length b ≡ stateWidth → Entered s (some (stateFrom b)) n → Entered s (stateIn b) n
+in-bytes {s} {n} b h w = subst (λ (o : Option State). Entered s o n) (sym (state-in b h)) w
+
+pub closed-in : (b : List ℕ) (h : Heading) → h ≡ headingFrom b → h .closed ≡ stateFrom b .closed
+unfolding stateFrom
+closed-in b h e = ap (λ (x : Heading). x .closed) e
+
 pub state-none : (b : List ℕ) → (length b ≡ stateWidth → ⊥) → stateIn b ≡ none
 state-none b h = ap (λ (t : Bool). cond t (some (stateFrom b)) none) (ne-eqb (length b) stateWidth h)
 
@@ -134,6 +143,9 @@ pub all-written : (memory new after : List ℕ) (r : ℕ) → length memory ≡ 
 all-written memory new after r h w =
     let n : length new ≡ length memory = w .wide ∙ sym h in
     w .left ∙ put-all memory 0 new (omega arith) ∙ ap (λ (l : List ℕ). new ++ l) (drop-of-length-le memory {i = 0 + length new} (omega arith)) ∙ append-nil new
+
+pub all-put-in : (new after : List ℕ) (r : ℕ) → Wrote stateWidth (replicate stateWidth 0) 0 new after r → after ≡ new
+all-put-in new after r w = all-written (replicate stateWidth 0) new after r (length-replicate {A = ℕ} stateWidth 0) w
 
 -- where the state stands at the end of a stream
 module _ (z : State) where

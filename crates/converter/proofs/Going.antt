@@ -1,6 +1,7 @@
 -- How the loop over the tokens goes. What is kept from token to token (`Going`) says what is left: whatever the rest of the part comes to, written behind
 -- what is written so far, is what the whole part comes to. A token that is taken keeps it (`goes-on`); the number of one that is not, or of no token, ends
--- the run there (`ends-at-token`, `ends-without`). Over the live part and the stack it is the same run (`may-apart`, `ran-apart`, `stops-seen`).
+-- the run there (`ends-at-token`, `ends-without`). Over the live part and the stack it is the same run (`stops-seen`), and so it is from a state with
+-- nothing left in what is not in use (`may-tidied`, `ran-tidied`).
 -- Assumes nothing.
 use mathlib.Core.Path.{_≡_, refl, sym, ap, ap₂, _∙_, subst}
 use mathlib.Core.Logic.{inl, inr}
@@ -46,12 +47,12 @@ use Rattle.fit.proofs.RunsFit.{run-fit}
 use Rattle.steps.proofs.Onward.{event-fits, taken-fits}
 use Rattle.steps.specs.Taken.{EventIn, Taken, Takes, TakenAs}
 use Rattle.steps.specs.Seen.{Whole as Stepped}
+use Rattle.steps.specs.declared.Run.{Run}
 use Rattle.steady.specs.Steady.{counting}
 use Rattle.stretches.specs.declared.Stretch.{Stretch}
 use Rattle.ahead.specs.Ahead.{OnwardAs}
 use Rattle.live.specs.declared.Live.{Live}
 use Rattle.live.specs.Live.{full}
-use Rattle.apart.specs.Apart.{ApartAs}
 use Rattle.converter.specs.declared.Reply.{Reply}
 use Rattle.converter.specs.declared.LiveReply.{LiveReply}
 use Rattle.converter.specs.Answered.{FitsSheet, closingIn, heldOf, closingByte, stateOf, Ran}
@@ -218,8 +219,9 @@ module _ {s : List ℕ} {z₀ : State} {part : List ℕ} {more : Bool} {lent d :
             (g .rest (after-writing w x) there);
       }
 
-pub at-state : {s : List ℕ} {z₀ : State} {part : List ℕ} {more : Bool} {lent d : List ℕ} {at put : ℕ} {y z : State} → y ≡ z → Going s z₀ part more lent d at put z → Going s z₀ part more lent d at put y
-at-state {s} {z₀} {part} {more} {lent} {d} {at} {put} e g = subst (Going s z₀ part more lent d at put) (sym e) g
+pub at-run : {s : List ℕ} {z₀ : State} {part : List ℕ} {more : Bool} {lent d : List ℕ} {at : ℕ} (b : List ℕ) {x y : Run} → x ≡ y → Going s z₀ part more lent d at (y .at) (full (y .live) b) →
+    Going s z₀ part more lent d at (x .at) (full (x .live) b)
+at-run {s} {z₀} {part} {more} {lent} {d} {at} b e g = subst (λ (r : Run). Going s z₀ part more lent d at (r .at) (full (r .live) b)) (sym e) g
 
 -- what is handed back with a number
 closing-is : {n : ℕ} → Closing n → ClosingFits n × (n ≤ 30)
@@ -395,25 +397,24 @@ module _ {n at put : ℕ} {h : Live} {r : LiveReply} (t : StopsLive n at put h r
   pub ran-live : {s : List ℕ} {z : State} {part : List ℕ} {ended-now : Bool} {lent d : List ℕ} → h .depth ≤ most → Ran s z part ended-now lent d (seen r b) → RanLive s z part ended-now lent d r b
   ran-live k w = record { deep = omega (arith, k, ap (λ (l : Live). l .depth) (t .live), depth-left n h); visits = t .visits; ran = w }
 
--- a state that is taken apart runs as it does whole
-module _ {s : List ℕ} {z : State} {b b′ : List ℕ} {h : Live} (m : MayRun s z) (o : ApartAs z b h b′) where
-  pub may-apart : MayRun s (full h b′)
-  may-apart =
-      let f : RunFits (m .sheet) (meaningOf (full h b′)) = subst (RunFits (m .sheet)) (sym (o .means)) (m .run-fits) in
-      let c : h .closed ≡ notClosed = o .closed ∙ m .is-open in
+-- a state with nothing left in what is not in use runs as it does
+module _ {s : List ℕ} {z : State} (m : MayRun s z) where
+  pub may-tidied : MayRun s (tidied z)
+  may-tidied =
+      let f : RunFits (m .sheet) (meaningOf (tidied z)) = subst (RunFits (m .sheet)) (sym (meaning-tidied z (m .shaped))) (m .run-fits) in
       record {
         sheet = m .sheet;
         is-sheet = m .is-sheet;
         passed = m .passed;
-        fits = run-fit (m .sheet) (full h b′) (o .shaped) f (omega (arith, o .count, m .fits .count)) (inl c);
-        is-open = c;
-        shaped = o .shaped;
+        fits = run-fit (m .sheet) (tidied z) (shaped-tidied z (m .shaped)) f (m .fits .count) (inl (m .is-open));
+        is-open = m .is-open;
+        shaped = shaped-tidied z (m .shaped);
         run-fits = f;
       }
 
-  pub ran-apart : {part : List ℕ} {ended-now : Bool} {lent d : List ℕ} {r : Reply} → Ran s (full h b′) part ended-now lent d r → Ran s z part ended-now lent d r
-  ran-apart {part} {ended-now} {lent} w =
-      let e : heldOf (full h b′) ≡ heldOf z = ap₂ (λ (x : Standing) (c : ℕ). record { run = x; closing = closingIn c }) (o .means) (o .closed) in
+  pub ran-tidied : {part : List ℕ} {ended-now : Bool} {lent d : List ℕ} {r : Reply} → Ran s (tidied z) part ended-now lent d r → Ran s z part ended-now lent d r
+  ran-tidied {part} {ended-now} {lent} w =
+      let e : heldOf (tidied z) ≡ heldOf z = ap (λ (x : Standing). record { run = x; closing = closingIn (z .closed) }) (meaning-tidied z (m .shaped)) in
       record {
         sheet = w .sheet;
         is-sheet = w .is-sheet;

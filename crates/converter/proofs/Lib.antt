@@ -5,3 +5,4 @@ pub mod Told
 pub mod Going
 pub mod Entering
 pub mod HandedBack
+pub mod InPlace

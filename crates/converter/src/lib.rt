@@ -10,15 +10,15 @@ ghost use Rattle.tokens.specs.declared.Answer.the-variants.{Begun};
 ghost use Rattle.tokens.specs.Stream.{ReadAs};
 ghost use Rattle.calls.specs.Call.{again, numberAt};
 ghost use Rattle.state.specs.Meaning.{meaningOf, Shaped};
-ghost use Rattle.state.specs.Bounds.{stackWidth};
+ghost use Rattle.state.specs.Bounds.{stackWidth, stateWidth};
 ghost use Rattle.state.specs.Bytes.{stateFrom};
-ghost use Rattle.converter.specs.Answered.{Ran, AnsweredAs};
+ghost use Rattle.converter.specs.Answered.{AnsweredAs};
 ghost use Rattle.converter.specs.Bytes.{stateIn, BytesAnsweredAs};
-ghost use Rattle.live.specs.Live.{full};
+ghost use Rattle.live.specs.Live.{full, envIn};
 ghost use Rattle.converter.specs.Inner.{MayRun, Entered, NumberedAs, leftLive, StopsLive, RanLive};
 use ahead::onward;
-use apart::apart;
-use apart::together;
+use apart::live_in;
+use apart::put_back;
 use faults::verdict;
 use fit::state_fits;
 use layout::Layout;
@@ -26,8 +26,10 @@ use layout::layout_of;
 use live::Live;
 use state::State;
 use state::bytes::from_bytes;
+use state::bytes::heading_at;
 use state::bytes::to_bytes;
 use steps::Run;
+use stretches::Stretch;
 use tokens::Answer;
 use tokens::Cursor;
 
@@ -57,6 +59,9 @@ pub struct LiveReply {
     pub live: Live,
 }
 
+// The number of bytes that are no state, or one that does not fit the sheet.
+const UNFIT: usize = 29;
+
 // A closed state answers its number again, and 28 after 0.
 fn repeated(number: u8) -> usize
     ensures { λ r. ⌜ r ≡ again number ⌝ }
@@ -67,20 +72,24 @@ fn repeated(number: u8) -> usize
     number as usize
 }
 
-// The number with which the state is given back, or 0 where the call runs. The sheet is tested first, then whether the state fits it, then whether it is
-// closed.
-fn given_back(sheet: &[u8], state: State) -> usize
-    ensures { λ r. ⌜ Entered (now (sheet .entry)) (some state) r ⌝ }
+// The number with which the state is given back, or 0 where the call runs. The sheet is tested first, then whether the bytes are a state, of a state's length,
+// that fits it, then whether it is closed.
+fn given_back(sheet: &[u8], state: &[u8]) -> usize
+    ensures { λ r. ⌜ Entered (now (sheet .entry)) (stateIn (now (state .entry))) r ⌝ }
 {
     let number = verdict(sheet);
     if number != 0 {
         return number;
     }
+    if state.len() != State::BYTES {
+        return UNFIT;
+    }
     let l = layout_of(sheet);
     if !state_fits(sheet, l, state) {
-        return 29;
+        return UNFIT;
     }
-    let closed = state.closed;
+    let h = heading_at(state);
+    let closed = h.closed;
     if closed != State::OPEN {
         return repeated(closed);
     }
@@ -163,6 +172,18 @@ fn stop(number: usize, taken: usize, run: Run) -> LiveReply
     }
 }
 
+// The run behind a stretch that leaves all as it is but for the count and what is written.
+fn behind(z: Live, far: Stretch) -> Run
+    ensures { λ r. ⌜ r ≡ record { at = far .put; live = envIn z (z .values) (z .echo) (far .count) } ⌝ }
+{
+    let values = z.values;
+    let y = z.with_env(values, z.echo, far.count);
+    Run {
+        at: far.put,
+        live: y,
+    }
+}
+
 // Takes the part's tokens one after another, until one is refused or has no room, or no whole one comes next.
 fn run_live(
     s: &[u8],
@@ -199,72 +220,39 @@ fn run_live(
         };
         let far = onward(s, l, here, part, next.at, stack, out);
         at = far.at;
-        let values = z.values;
-        let y = z.with_env(values, z.echo, far.count);
-        run = Run {
-            at: far.put,
-            live: y,
-        };
+        run = behind(z, far);
     }
 }
 
-// The same of a whole state: it is taken apart for the run, and what is left is put together again, with nothing in what is not in use.
-fn run_tokens(s: &[u8], l: Layout, state: State, part: &[u8], ended: bool, out: &mut [u8]) -> Reply
+// The same over the bytes of a state: the live part is read from them and put back, and the frames are the stack of the run, where they lie.
+fn run_tokens(
+    s: &[u8],
+    l: Layout,
+    state: &mut [u8],
+    part: &[u8],
+    ended: bool,
+    out: &mut [u8],
+) -> Counts
     requires { ⌜ LaidOut (now s) l ⌝ }
-    requires { ⌜ MayRun (now s) state ⌝ }
-    ensures { λ r. ⌜ Ran (now (s .entry)) state (now (part .entry)) ended (now (out .entry)) (now (out .exit)) r ⌝ }
-    ensures { λ r. ⌜ r .visits ≡ r .state .count ⌝ }
+    requires { ⌜ MayRun (now s) (stateFrom (now state)) ⌝ }
+    requires { ⌜ length (now state) ≡ stateWidth ⌝ }
+    ensures { λ r. ⌜ BytesAnsweredAs (now (s .entry)) (now (state .entry)) (now (state .exit)) (now (part .entry)) ended (now (out .entry)) (now (out .exit)) r ⌝ }
 {
-    let mut stack = [0u8; State::STACK];
-    let live = apart(state, &mut stack);
-    let reply = run_live(s, l, live, part, ended, &mut stack, out);
+    let live = live_in(state);
+    let frames = State::HEAD;
+    let reply = run_live(s, l, live, part, ended, &mut state[frames..], out);
     let left = reply.live;
-    let whole = together(left, &stack);
-    Reply {
+    put_back(left, state);
+    Counts {
         number: reply.number,
         taken: reply.taken,
         written: reply.written,
         visits: reply.visits,
-        state: whole,
     }
 }
 
-// One call: a sheet's bytes, a state, the next part of a stream and whether it ends there, and lent memory for the output.
-pub fn convert(sheet: &[u8], state: State, part: &[u8], ended: bool, out: &mut [u8]) -> Reply
-    ensures { λ r. ⌜ AnsweredAs (now (sheet .entry)) state (now (part .entry)) ended (now (out .entry)) (now (out .exit)) r ⌝ }
-    ensures { λ r. ⌜ r .taken ≤ length (now (part .entry)) ⌝ }
-    ensures { λ r. ⌜ r .written ≤ length (now (out .entry)) ⌝ }
-{
-    let number = given_back(sheet, state);
-    if number != 0 {
-        return Reply {
-            number: number,
-            taken: 0,
-            written: 0,
-            visits: state.count,
-            state: state,
-        };
-    }
-    let l = layout_of(sheet);
-    run_tokens(sheet, l, state, part, ended, out)
-}
-
-// The same of the state that bytes are: bytes of another length are none.
-fn bytes_given_back(sheet: &[u8], state: &[u8], given: State) -> usize
-    requires { ⌜ given ≡ stateFrom (now state) ⌝ }
-    ensures { λ r. ⌜ Entered (now (sheet .entry)) (stateIn (now (state .entry))) r ⌝ }
-{
-    if state.len() == State::BYTES {
-        return given_back(sheet, given);
-    }
-    let number = verdict(sheet);
-    if number != 0 {
-        return number;
-    }
-    29
-}
-
-// One call with the state as bytes, which are written anew where the call runs, and else untouched.
+// One call: a sheet's bytes, the bytes of a state, the next part of a stream and whether it ends there, and lent memory for the output. The state is changed
+// where it lies where the call runs, and else untouched.
 pub fn convert_bytes(
     sheet: &[u8],
     state: &mut [u8],
@@ -276,24 +264,35 @@ pub fn convert_bytes(
     ensures { λ r. ⌜ r .taken ≤ length (now (part .entry)) ⌝ }
     ensures { λ r. ⌜ r .written ≤ length (now (out .entry)) ⌝ }
 {
-    let given = from_bytes(state);
-    let number = bytes_given_back(sheet, state, given);
+    let number = given_back(sheet, state);
     if number != 0 {
+        let h = heading_at(state);
         return Counts {
             number: number,
             taken: 0,
             written: 0,
-            visits: given.count,
+            visits: h.count,
         };
     }
     let l = layout_of(sheet);
-    let reply = run_tokens(sheet, l, given, part, ended, out);
-    let left = reply.state;
-    to_bytes(left, state);
-    Counts {
-        number: reply.number,
-        taken: reply.taken,
-        written: reply.written,
-        visits: reply.visits,
+    run_tokens(sheet, l, state, part, ended, out)
+}
+
+// The same with the state as a value: it is put into bytes for the call, and read back.
+pub fn convert(sheet: &[u8], state: State, part: &[u8], ended: bool, out: &mut [u8]) -> Reply
+    ensures { λ r. ⌜ AnsweredAs (now (sheet .entry)) state (now (part .entry)) ended (now (out .entry)) (now (out .exit)) r ⌝ }
+    ensures { λ r. ⌜ r .taken ≤ length (now (part .entry)) ⌝ }
+    ensures { λ r. ⌜ r .written ≤ length (now (out .entry)) ⌝ }
+{
+    let mut bytes = [0u8; State::BYTES];
+    to_bytes(state, &mut bytes);
+    let counts = convert_bytes(sheet, &mut bytes, part, ended, out);
+    let left = from_bytes(&bytes);
+    Reply {
+        number: counts.number,
+        taken: counts.taken,
+        written: counts.written,
+        visits: counts.visits,
+        state: left,
     }
 }

@@ -6,7 +6,7 @@ use mathlib.Core.Bool.{Bool, true, false, true≢false}
 use mathlib.Core.List.{List, [], _∷_}
 use mathlib.Core.Logic.{inr, ⊎-elim}
 use mathlib.Core.Option.{Option, none, some, Option·none-ne-some as none-some}
-use Prim.Native.Nat.{ℕ, zero, suc, _+_, _≤_, _<_}
+use Prim.Native.Nat.{ℕ, zero, suc, _+_, _*_, _≤_, _<_}
 use native.Mathlib.Omega.{arith}
 use native.Mathlib.Numerals.{add-one}
 use lib.Dec.{T, eqb, leb}
@@ -26,15 +26,24 @@ use Rattle.trees.proofs.Unique.{nodes-pos}
 use Rattle.runs.specs.Closing.{Closing, closed-by-end, closed-by-refusal, closed-by-count}
 use Rattle.runs.specs.Lookup.{produces}
 use Rattle.runs.specs.Nodes.{openNodes, deepest}
+use Rattle.programs.specs.Limits.{Value}
+use Rattle.runs.specs.Visits.{mostVisits}
+use Rattle.runs.specs.Machine.{most}
 use Rattle.runs.proofs.Nodes.{open-few}
 use Rattle.state.specs.declared.Frame.{Frame}
+use Rattle.state.specs.declared.Heading.{Heading}
+use Rattle.state.specs.declared.State.{State}
+use Rattle.state.specs.Bounds.{frameWidth, headWidth}
+use Rattle.state.specs.Bytes.{frameAt, headingFrom, stateFrom}
+use Rattle.state.specs.Changes.{headingOf, bareFrame}
 use Rattle.state.specs.Meaning.{Every}
+use Rattle.state.proofs.Gathered.{length-gathered, getD-gathered}
 use Rattle.fit.proofs.Lists.{drop-past, length-first}
 use Rattle.fit.specs.declared.Spot.{Spot}
 use Rattle.fit.specs.declared.Walked.{Walked}
 use Rattle.fit.specs.declared.Fitted.{Fitted}
 use Rattle.fit.specs.Fit.{childAt, SetFits, FrameFits, FramesFit, ClosingFits}
-use Rattle.fit.specs.Tests.{childNumber, SpotOf, here, nowhere, WalkedAs, SpotIs, FrameTold, FramesTold}
+use Rattle.fit.specs.Tests.{childNumber, SpotOf, here, nowhere, WalkedAs, SpotIs, FrameTold, FramesTold, FitTold}
 
 -- where a production is of a nonterminal, it is there
 produces-below : (g : List Production) (n q : ℕ) → T (produces g n q) → q < length g
@@ -228,3 +237,29 @@ module _ (s : List ℕ) (stack : List Frame) (n : ℕ) (within : n ≤ length st
                   λ h. k .3 (subst (FramesFit g (k .0)) (sym next) (is-told (told .tells g γ (k .0) (k .1)) e, rw add-one at h)),
                 );
           }
+
+-- the head of the state that bytes are
+pub heading-in : (b : List ℕ) (h : Heading) → h ≡ headingFrom b → h ≡ headingOf (stateFrom b)
+unfolding stateFrom
+heading-in b h e = e
+
+-- a state of which all but the frames fits, fits if those do
+pub frames-left : {s : List ℕ} (z : State) (h : Heading) (r : Bool) → h ≡ headingOf z → h .depth ≤ most → ClosingFits (h .closed) → h .count ≤ mostVisits → Every Value (h .values) →
+    FramesTold s (take (h .depth) (z .frames)) r → FitTold s z r
+frames-left {s} z h r e d c n v t =
+    subst (λ (x : Heading). x .depth ≤ most → ClosingFits (x .closed) → x .count ≤ mostVisits → Every Value (x .values) → FramesTold s (take (x .depth) (z .frames)) r → FitTold s z r) (sym e) here-fits d c n v t
+  where
+    here-fits : z .depth ≤ most → ClosingFits (z .closed) → z .count ≤ mostVisits → Every Value (z .values) → FramesTold s (take (z .depth) (z .frames)) r → FitTold s z r
+    here-fits d c n v t =
+        record { tells = λ g γ. as-told (λ k. record { few = d; closing = c; count = n; values = v; frames = k }) (λ k. k .frames) (t .tells g γ) }
+
+-- the frames of the state that bytes are, each where it lies
+pub frames-in : (b : List ℕ) → length (stateFrom b .frames) ≡ most
+unfolding stateFrom
+frames-in b = length-gathered (frameAt b) frameWidth headWidth most
+
+pub told-in : {s : List ℕ} {may next : ℕ} {f : Frame} {r : Fitted} (b : List ℕ) (i : ℕ) → i < most → next ≡ headWidth + frameWidth * i → f ≡ frameAt b next → FrameTold s may f r →
+    FrameTold s may (getD (stateFrom b .frames) i bareFrame) r
+unfolding stateFrom
+told-in {s} {may} {r = r} b i h n e t =
+    subst (λ (x : Frame). FrameTold s may x r) (e ∙ ap (frameAt b) n ∙ sym (getD-gathered (frameAt b) frameWidth headWidth most i bareFrame h)) t

@@ -12,7 +12,7 @@ ghost use Rattle.trees.specs.Tally.{TreeIn};
 ghost use Rattle.sheet.specs.Defect.{WellFormed};
 ghost use Rattle.runs.specs.Machine.{most};
 ghost use Rattle.state.specs.Bounds.{mostSets};
-ghost use Rattle.state.specs.Bytes.{Sized};
+ghost use Rattle.state.specs.Bytes.{stateFrom};
 ghost use Rattle.state.specs.Meaning.{Every};
 ghost use Rattle.fit.specs.Fit.{SetFits, ClosingFits};
 ghost use Rattle.fit.specs.Tests.{LeafOf, AroundOf, WalkedAs, SpotIs, FrameTold, FramesTold, FitTold};
@@ -25,6 +25,8 @@ use layout::nonterminal_of;
 use state::Frame;
 use state::Saved;
 use state::State;
+use state::bytes::frame_at;
+use state::bytes::heading_at;
 
 // Where no element can be open: no byte is this nonterminal.
 const NO_CHILD: usize = 256;
@@ -214,23 +216,25 @@ fn frame_fits(s: &[u8], l: Layout, may: usize, f: Frame) -> Fitted
     }
 }
 
-// Whether the first n frames fit, the root's first.
-fn frames_fit(s: &[u8], l: Layout, frames: [Frame; State::DEPTH], n: usize) -> bool
+// Whether the first n frames of the state that bytes are fit, the root's first. Each is read where it lies.
+fn frames_fit(s: &[u8], l: Layout, state: &[u8], n: usize) -> bool
     requires { ⌜ LaidOut (now s) l ⌝ }
     requires { ⌜ RunsInside (now s) ⌝ }
     requires { ⌜ Trees (now s) ⌝ }
     requires { ⌜ n ≤ most ⌝ }
-    ensures { λ r. ⌜ FramesTold (now (s .entry)) (take n frames) r ⌝ }
+    ensures { λ r. ⌜ FramesTold (now (s .entry)) (take n (stateFrom (now (state .entry)) .frames)) r ⌝ }
 {
     let mut may = l.start;
+    let mut next = State::HEAD;
     let mut i = 0;
     while i < n {
-        let f = frames[i];
+        let f = frame_at(state, next);
         let fitted = frame_fits(s, l, may, f);
         if !fitted.ok {
             return false;
         }
         may = fitted.child;
+        next += Frame::BYTES;
         i += 1;
     }
     true
@@ -255,27 +259,26 @@ fn closing_fits(number: u8) -> bool
     number <= 27
 }
 
-// Number 29: whether a state fits a well-formed sheet.
-pub fn state_fits(s: &[u8], l: Layout, z: State) -> bool
+// Number 29: whether the state that bytes are fits a well-formed sheet.
+pub fn state_fits(s: &[u8], l: Layout, state: &[u8]) -> bool
     requires { ⌜ LaidOut (now s) l ⌝ }
     requires { ⌜ WellFormed (now s) ⌝ }
-    ensures { λ r. ⌜ FitTold (now (s .entry)) z r ⌝ }
-    ensures { λ _. ⌜ Sized z ⌝ }
+    ensures { λ r. ⌜ FitTold (now (s .entry)) (stateFrom (now (state .entry))) r ⌝ }
 {
-    let depth = z.depth;
+    let h = heading_at(state);
+    let depth = h.depth;
     if State::DEPTH < depth {
         return false;
     }
-    if !closing_fits(z.closed) {
+    if !closing_fits(h.closed) {
         return false;
     }
-    if State::MOST_VISITS < z.count {
+    if State::MOST_VISITS < h.count {
         return false;
     }
-    let values = z.values;
+    let values = h.values;
     if !values_fit(values) {
         return false;
     }
-    let frames = z.frames;
-    frames_fit(s, l, frames, depth)
+    frames_fit(s, l, state, depth)
 }

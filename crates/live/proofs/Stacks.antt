@@ -32,7 +32,7 @@ use Rattle.live.specs.declared.Live.{Live}
 use Rattle.live.specs.declared.Restored.{Restored}
 use Rattle.live.specs.Live.{stackAt, fullAt, full, SameBelowAt, SameBelow, topIn, keptIn, placedIn, RestoredIn, pushedBytes, PushedAs, poppedIn, PoppedAs}
 
-gathered-snoc : {X : Type 0} (f : ℕ → X) (w at n : ℕ) → gathered f w at (suc n) ≡ gathered f w at n ++ f (at + w * n) ∷ []
+pub gathered-snoc : {X : Type 0} (f : ℕ → X) (w at n : ℕ) → gathered f w at (suc n) ≡ gathered f w at n ++ f (at + w * n) ∷ []
 unfolding gathered
 gathered-snoc f w at zero = rw mul-zero (let e : at + 0 ≡ at = omega arith in rw e)
 gathered-snoc {X = X} f w at (suc n) =

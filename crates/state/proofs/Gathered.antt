@@ -6,7 +6,7 @@ use Prim.Native.Nat.{ℕ, zero, suc, _+_, _-_, _*_, _^_, _<_, _≤_}
 use native.Mathlib.Nat.{mul-suc, mul-zero, pow-suc, pow-le-pow-right}
 use native.Mathlib.Omega.{arith}
 use native.Mathlib.Numerals.{add-one}
-use lib.ListN.{length, getD, set, replicate, drop-of-length-le}
+use lib.ListN.{length, getD, set, take, replicate, drop-of-length-le}
 use lib.Seq.{sets, sets-eq}
 use Rattle.state.specs.Changes.{bareFrom}
 use Rattle.layout.specs.Layout.{byteAt}
@@ -17,6 +17,12 @@ pub length-gathered : {X : Type 0} (f : ℕ → X) (w at n : ℕ) → length (ga
 unfolding gathered
 length-gathered f w at zero = refl
 length-gathered f w at (suc n) = ap suc (length-gathered f w (at + w) n)
+
+pub take-gathered : {X : Type 0} (f : ℕ → X) (w at n m : ℕ) → n ≤ m → take n (gathered f w at m) ≡ gathered f w at n
+unfolding gathered
+take-gathered f w at zero m h = refl
+take-gathered f w at (suc n) zero h = absurd (omega arith)
+take-gathered {X} f w at (suc n) (suc m) h = ap (λ (l : List X). f at ∷ l) (take-gathered f w (at + w) n m (omega arith))
 
 pub getD-gathered : {X : Type 0} (f : ℕ → X) (w at n i : ℕ) (z : X) → i < n → getD (gathered f w at n) i z ≡ f (at + w * i)
 unfolding gathered

@@ -211,13 +211,30 @@ pub all-alike : {X : Type 0} {P : X → Type 0} (n : ℕ) (x : X) → P x → Ev
 all-alike zero x p = none
 all-alike (suc n) x p = more p (all-alike n x p)
 
+pub bare-sized : SizedFrame bareFrame
+unfolding bareFrame
+bare-sized = record { saved = length-replicate mostSets bareSaved; sets = all-alike mostSets bareSaved (record { values = refl }) }
+
+every-bare : {X : Type 0} {P : X → Type 0} (bare : X) (n : ℕ) (l : List X) → P bare → Every P l → Every P (bareFrom bare n l)
+unfolding bareFrom
+every-bare bare n [] p a = none
+every-bare bare zero (x ∷ l) p (more q a) = more p (every-bare bare zero l p a)
+every-bare bare (suc n) (x ∷ l) p (more q a) = more q (every-bare bare n l p a)
+
+pub tidy-sized : (f : Frame) → SizedFrame f → SizedFrame (tidyFrame f)
+tidy-sized f h =
+    record {
+      saved = length-bare bareSaved (f .«open») (f .saved) ∙ h .saved;
+      sets = every-bare bareSaved (f .«open») (f .saved) (record { values = refl }) (h .sets);
+    }
+
 pub fresh-sized : Sized freshState
-unfolding freshState bareFrame
+unfolding freshState
 fresh-sized =
     record {
       values = refl;
       count = omega arith;
       depth = omega arith;
       frames = length-replicate most bareFrame;
-      each = all-alike most bareFrame (record { saved = length-replicate mostSets bareSaved; sets = all-alike mostSets bareSaved (record { values = refl }) });
+      each = all-alike most bareFrame bare-sized;
     }

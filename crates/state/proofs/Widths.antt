@@ -2,7 +2,7 @@
 -- Assumes nothing.
 use mathlib.Core.Path.{_≡_, sym, ap, _∙_}
 use mathlib.Core.List.{List, [], _∷_, _++_}
-use Prim.Native.Nat.{ℕ, zero, suc, _+_, _*_}
+use Prim.Native.Nat.{ℕ, zero, suc, _+_, _*_, _^_, _<_}
 use native.Mathlib.Nat.{mul-suc}
 use native.Mathlib.Omega.{arith}
 use lib.ListN.{length, length-append}
@@ -12,7 +12,7 @@ use Rattle.state.specs.declared.Frame.{Frame}
 use Rattle.state.specs.declared.State.{State}
 use Rattle.state.specs.Bounds.{mostSets, setWidth, frameWidth, headWidth, stackWidth, stateWidth}
 use Rattle.layout.specs.Layout.{byteAt}
-use Rattle.state.specs.Bytes.{flag, numberBytes, eachBytes, frameBytes, bytesOf, bytesAt, gathered, savedAt, frameAt, stateFrom, SizedSet, SizedFrame}
+use Rattle.state.specs.Bytes.{flag, numberBytes, eachBytes, frameBytes, bytesOf, bytesAt, gathered, savedAt, frameAt, stateFrom, SizedSet, SizedFrame, Sized}
 use Rattle.state.specs.Changes.{freshState}
 use Rattle.state.specs.Meaning.{Every, none, more}
 use Rattle.state.proofs.Written.{number-wide}
@@ -62,6 +62,18 @@ state-wide b =
       number-wide 8 (stateFrom b .depth),
       n,
     )
+
+-- a state that is read from any bytes has its arrays as long as their types say
+pub read-sized : (b : List ℕ) → stateFrom b .count < 2 ^ 64 → stateFrom b .depth < 2 ^ 64 → Sized (stateFrom b)
+unfolding stateFrom
+read-sized b c d =
+    record {
+      values = length-gathered (byteAt b) 1 0 attributes;
+      count = c;
+      depth = d;
+      frames = length-gathered (frameAt b) frameWidth headWidth most;
+      each = all-read SizedFrame (frameAt b) frameWidth (frame-read b) headWidth most;
+    }
 
 pub fresh-wide : length (bytesOf freshState) ≡ stateWidth
 fresh-wide = ap (λ (z : State). length (bytesOf z)) (sym (state-back freshState fresh-sized)) ∙ state-wide (bytesOf freshState)

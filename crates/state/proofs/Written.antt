@@ -11,7 +11,9 @@ use lib.ListN.{length, length-append, getD, take}
 use lib.Seq.{take-suc, take-all}
 use Rattle.lent.specs.Put.{put, PutAs}
 use Rattle.lent.proofs.Laws.{put-append, put-none}
-use Rattle.state.specs.Bytes.{numberBytes, eachBytes, Wrote}
+use Rattle.state.specs.declared.State.{State}
+use Rattle.state.specs.Changes.{headingOf}
+use Rattle.state.specs.Bytes.{flag, numberBytes, eachBytes, frameBytes, headingBytes, bytesOf, Wrote}
 
 pub wrote-none : (d : List ℕ) (at : ℕ) → Wrote 0 d at [] d at
 wrote-none d at = record { next = omega arith; wide = refl; left = sym (put-none true d at) }
@@ -24,6 +26,9 @@ wrote-then {d = d} {at = at} {xs = xs} {ys = ys} {n = n} p q =
       wide = length-append xs ys ∙ (cc);
       left = q .left ∙ rw (p .left, e) (put-append true d at xs ys);
     }
+
+pub wrote-same : {w : ℕ} {d : List ℕ} {at : ℕ} {xs ys d₁ : List ℕ} {n : ℕ} → xs ≡ ys → Wrote w d at xs d₁ n → Wrote w d at ys d₁ n
+wrote-same {w} {d} {at} {d₁ = d₁} {n = n} e p = subst (λ (l : List ℕ). Wrote w d at l d₁ n) e p
 
 -- what the crate `lent` puts
 pub wrote-put : {d : List ℕ} {at : ℕ} {xs d₁ : List ℕ} {n : ℕ} (w : ℕ) → length xs ≡ w → PutAs true d at xs d₁ n → Wrote w d at xs d₁ n
@@ -40,7 +45,7 @@ put-some {X} f w l i n {d = d} {at = at} {d₁ = d₁} {m = m} e p = subst (λ (
 pub put-after : {d : List ℕ} {at : ℕ} {xs ys d₁ d₂ : List ℕ} {n m : ℕ} → PutAs true d at xs d₁ n → PutAs true d₁ n ys d₂ m → d₂ ≡ put true d at (xs ++ ys)
 put-after {d = d} {at = at} {xs = xs} {ys = ys} p q = q .left ∙ rw (p .left, p .next) (put-append true d at xs ys)
 
-joined-snoc : {X : Type 0} (f : X → List ℕ) (l : List X) (x : X) → eachBytes f (l ++ (x ∷ [])) ≡ eachBytes f l ++ f x
+pub joined-snoc : {X : Type 0} (f : X → List ℕ) (l : List X) (x : X) → eachBytes f (l ++ (x ∷ [])) ≡ eachBytes f l ++ f x
 unfolding eachBytes
 joined-snoc f [] x = append-nil (f x)
 joined-snoc f (y ∷ l) x = ap (λ (r : List ℕ). f y ++ r) (joined-snoc f l x) ∙ sym (append-assoc (f y) (eachBytes f l) (f x))
@@ -76,6 +81,16 @@ pub number-wide : (k n : ℕ) → length (numberBytes k n) ≡ k
 unfolding numberBytes
 number-wide zero n = refl
 number-wide (suc k) n = ap suc (number-wide k (n / 256))
+
+-- a state's bytes: all but its frames, and its frames
+pub heading-first : (s : State) → headingBytes (headingOf s) ++ eachBytes frameBytes (s .frames) ≡ bytesOf s
+unfolding headingBytes bytesOf
+heading-first s =
+    let c : List ℕ = numberBytes 8 (s .count) in
+    let d : List ℕ = numberBytes 8 (s .depth) in
+    let fs : List ℕ = eachBytes frameBytes (s .frames) in
+    append-assoc (s .values) (flag (s .echo) ∷ (c ++ flag (s .rooted) ∷ s .closed ∷ d)) fs
+    ∙ ap (λ (l : List ℕ). s .values ++ flag (s .echo) ∷ l) (append-assoc c (flag (s .rooted) ∷ s .closed ∷ d) fs)
 
 -- one answer: what is left and what is answered
 pub wrote-one : {w : ℕ} {d : List ℕ} {at : ℕ} {xs d₁ d₂ : List ℕ} {n m : ℕ} → Wrote w d at xs d₁ n → Wrote w d at xs d₂ m → (d₁ ≡ d₂) × (n ≡ m)

@@ -28,6 +28,7 @@ use Rattle.runs.specs.Machine.{most}
 use Rattle.state.specs.Bounds.{mostSets, setWidth, frameWidth, countAt, rootedAt, closedAt, depthAt, headWidth}
 use Rattle.state.specs.declared.Saved.{Saved}
 use Rattle.state.specs.declared.Frame.{Frame}
+use Rattle.state.specs.declared.Heading.{Heading}
 use Rattle.state.specs.declared.State.{State}
 
 abbrev pub flag : Bool → ℕ
@@ -56,6 +57,11 @@ frameBytes f = f .production ∷ f .place ∷ f .«open» ∷ eachBytes savedByt
 -- of a frame, its head and the sets in use alone
 unfoldable pub usedBytes : Frame → List ℕ
 usedBytes f = f .production ∷ f .place ∷ f .«open» ∷ eachBytes savedBytes (take (f .«open») (f .saved))
+
+-- what stands before the frames
+unfoldable pub headingBytes : Heading → List ℕ
+headingBytes h =
+    h .values ++ flag (h .echo) ∷ (numberBytes 8 (h .count) ++ flag (h .rooted) ∷ h .closed ∷ numberBytes 8 (h .depth))
 
 unfoldable pub bytesOf : State → List ℕ
 bytesOf s =
@@ -99,6 +105,18 @@ frameAt b at =
 -- a frame of which the head and the sets in use are read, the others bare
 abbrev pub usedAt : List ℕ → ℕ → Frame
 usedAt b at = tidyFrame (frameAt b at)
+
+-- a state but for its frames
+abbrev pub headingFrom : List ℕ → Heading
+headingFrom b =
+    record {
+      values = bytesAt b 0 attributes;
+      echo = onAt b attributes;
+      count = longAt b countAt;
+      rooted = onAt b rootedAt;
+      closed = byteAt b closedAt;
+      depth = longAt b depthAt;
+    }
 
 unfoldable pub stateFrom : List ℕ → State
 stateFrom b =

@@ -10,7 +10,12 @@ use Rattle.runs.specs.Machine.{most}
 use Rattle.state.specs.Bounds.{mostSets}
 use Rattle.state.specs.declared.Saved.{Saved}
 use Rattle.state.specs.declared.Frame.{Frame}
+use Rattle.state.specs.declared.Heading.{Heading}
 use Rattle.state.specs.declared.State.{State}
+
+-- a state but for its frames
+abbrev pub headingOf : State → Heading
+headingOf s = record { values = s .values; echo = s .echo; count = s .count; rooted = s .rooted; closed = s .closed; depth = s .depth }
 
 -- what stands in a set and in a frame before they are first used
 abbrev pub bareSaved : Saved

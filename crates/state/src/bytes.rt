@@ -1,5 +1,6 @@
 // The form of a state as bytes: written into lent memory, read from any bytes. specs/Bytes.antt has the table.
 use super::Frame;
+use super::Heading;
 use super::Saved;
 use super::State;
 ghost use mathlib.Core.Path.{_≡_};
@@ -9,12 +10,12 @@ ghost use Prim.Native.Nat.{_+_, _*_, _<_, _^_};
 ghost use lib.ListN.{take};
 ghost use Rattle.runs.specs.Visits.{attributes};
 ghost use Rattle.runs.specs.Machine.{most};
-ghost use Rattle.state.specs.Bounds.{mostSets, setWidth, frameWidth, stackWidth, stateWidth};
+ghost use Rattle.state.specs.Bounds.{mostSets, setWidth, frameWidth, stackWidth, headWidth, stateWidth};
 ghost use Rattle.lent.specs.Put.{put, PutAs};
 ghost use Rattle.state.specs.Changes.{bareSaved, bareFrom};
-ghost use Rattle.state.specs.Bytes.{flag, numberBytes, savedBytes, eachBytes, frameBytes, usedBytes, bytesOf, Wrote};
+ghost use Rattle.state.specs.Bytes.{flag, numberBytes, savedBytes, eachBytes, frameBytes, usedBytes, headingBytes, bytesOf, Wrote};
 ghost use Rattle.layout.specs.Layout.{byteAt};
-ghost use Rattle.state.specs.Bytes.{onAt, bytesAt, longAt, savedAt, frameAt, usedAt, gathered, stateFrom};
+ghost use Rattle.state.specs.Bytes.{onAt, bytesAt, longAt, savedAt, frameAt, usedAt, gathered, headingFrom, stateFrom};
 
 fn put_one(memory: &mut [u8], at: usize, b: u8) -> usize
     requires { ⌜ at + 1 < 2 ^ 64 ⌝ }
@@ -79,7 +80,7 @@ fn put_sets(memory: &mut [u8], at: usize, sets: [Saved; Frame::SETS]) -> usize
     next
 }
 
-fn put_frame(memory: &mut [u8], at: usize, f: Frame) -> usize
+pub fn put_frame(memory: &mut [u8], at: usize, f: Frame) -> usize
     requires { ⌜ at + frameWidth < 2 ^ 64 ⌝ }
     ensures { λ r. ⌜ Wrote frameWidth (now (memory .entry)) at (frameBytes f) (now (memory .exit)) r ⌝ }
 {
@@ -132,6 +133,19 @@ fn put_frames(memory: &mut [u8], at: usize, frames: [Frame; State::DEPTH]) -> us
     next
 }
 
+// Writes all of a state but its frames from the memory's first byte on.
+pub fn put_heading(memory: &mut [u8], h: Heading) -> usize
+    ensures { λ r. ⌜ Wrote headWidth (now (memory .entry)) 0 (headingBytes h) (now (memory .exit)) r ⌝ }
+{
+    let values = h.values;
+    let echo = put_values(memory, 0, values);
+    let count = put_flag(memory, echo, h.echo);
+    let rooted = put_number(memory, count, h.count);
+    let closed = put_flag(memory, rooted, h.rooted);
+    let depth = put_one(memory, closed, h.closed);
+    put_number(memory, depth, h.depth as u64)
+}
+
 // Writes a state from the memory's first byte on, and answers how many bytes that takes. A byte past the memory's end is not stored.
 // What is written reads back as the state.
 pub fn to_bytes(state: State, memory: &mut [u8]) -> usize
@@ -139,12 +153,15 @@ pub fn to_bytes(state: State, memory: &mut [u8]) -> usize
     ensures { λ _. ⌜ stateFrom (bytesOf state) ≡ state ⌝ }
 {
     let values = state.values;
-    let echo = put_values(memory, 0, values);
-    let count = put_flag(memory, echo, state.echo);
-    let rooted = put_number(memory, count, state.count);
-    let closed = put_flag(memory, rooted, state.rooted);
-    let depth = put_one(memory, closed, state.closed);
-    let frames = put_number(memory, depth, state.depth as u64);
+    let h = Heading {
+        values: values,
+        echo: state.echo,
+        count: state.count,
+        rooted: state.rooted,
+        closed: state.closed,
+        depth: state.depth,
+    };
+    let frames = put_heading(memory, h);
     let stack = state.frames;
     put_frames(memory, frames, stack)
 }
@@ -220,7 +237,7 @@ fn sets_at(bytes: &[u8], at: usize) -> [Saved; Frame::SETS]
     sets
 }
 
-fn frame_at(bytes: &[u8], at: usize) -> Frame
+pub fn frame_at(bytes: &[u8], at: usize) -> Frame
     requires { ⌜ at + frameWidth < 2 ^ 64 ⌝ }
     ensures { λ r. ⌜ r ≡ frameAt (now (bytes .entry)) at ⌝ }
 {
@@ -284,19 +301,35 @@ fn frames_at(bytes: &[u8], at: usize) -> [Frame; State::DEPTH]
     frames
 }
 
-// The state that any bytes give: a byte past their end counts as 0.
-pub fn from_bytes(bytes: &[u8]) -> State
-    ensures { λ r. ⌜ r ≡ stateFrom (now (bytes .entry)) ⌝ }
+// All but the frames of the state that any bytes give: a byte past their end counts as 0.
+pub fn heading_at(bytes: &[u8]) -> Heading
+    ensures { λ r. ⌜ r ≡ headingFrom (now (bytes .entry)) ⌝ }
 {
     let values = values_at(bytes, 0);
-    let frames = frames_at(bytes, State::HEAD);
-    State {
+    Heading {
         values: values,
         echo: on_at(bytes, State::ATTRIBUTES),
         count: number_at(bytes, State::COUNT_AT),
         rooted: on_at(bytes, State::ROOTED_AT),
         closed: byte_at(bytes, State::CLOSED_AT),
         depth: number_at(bytes, State::DEPTH_AT) as usize,
+    }
+}
+
+// The state that any bytes give.
+pub fn from_bytes(bytes: &[u8]) -> State
+    ensures { λ r. ⌜ r ≡ stateFrom (now (bytes .entry)) ⌝ }
+{
+    let h = heading_at(bytes);
+    let values = h.values;
+    let frames = frames_at(bytes, State::HEAD);
+    State {
+        values: values,
+        echo: h.echo,
+        count: h.count,
+        rooted: h.rooted,
+        closed: h.closed,
+        depth: h.depth,
         frames: frames,
     }
 }

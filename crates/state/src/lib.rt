@@ -32,6 +32,16 @@ pub struct State {
     pub frames: [Frame; State::DEPTH],
 }
 
+// A state but for its frames: what stands before them in its bytes.
+pub struct Heading {
+    pub values: [u8; State::ATTRIBUTES],
+    pub echo: bool,
+    pub count: u64,
+    pub rooted: bool,
+    pub closed: u8,
+    pub depth: usize,
+}
+
 impl Saved {
     // As bytes: the attributes, and echo.
     pub const BYTES: usize = State::ATTRIBUTES + 1;

@@ -1,18 +1,17 @@
 -- The loop keeps `Going`, of the state that was handed in and of what is lent; a token moves the cursor on within the part. A refused token may have written
 -- into the stack, but not where the state before it reads.
-use mathlib.Core.Path.{_≡_, refl, ap, _∙_}
+use mathlib.Core.Path.{_≡_, refl, _∙_}
 use mathlib.Core.Bool.{not}
 use Prim.Native.Nat.{_-_}
 use native.Mathlib.Omega.{arith}
 use lib.ListN.{length}
 use borrow.Author.Needs.{needs}
 use Rattle.calls.proofs.Read.{read-moves}
-use Rattle.live.specs.declared.Live.{Live}
 use Rattle.live.specs.Live.{full}
 use Rattle.live.proofs.Stacks.{full-same}
 use Rattle.steps.specs.Seen.{whole}
 use Rattle.converter.specs.Inner.{seen}
-use Rattle.converter.proofs.Going.{Going, begins, goes-on, goes-far, at-state, event-in, refused-few, ends-at-token, no-whole-token, without-few, ends-without, bound, stops-seen, ran-live}
+use Rattle.converter.proofs.Going.{Going, begins, goes-on, goes-far, at-run, event-in, refused-few, ends-at-token, no-whole-token, without-few, ends-without, bound, stops-seen, ran-live}
 use Rattle.converter.proofs.run_live.Statement.{statement}
 use Rattle.converter.proofs.run_live.Tie as tie
 
@@ -140,11 +139,11 @@ onward-requires c κs =
 
 loop-less : tie.Need-loop-less Inv-loop μ-loop
 loop-less c =
-    let start = c .before .before .before .before .before .before .before .before .before .before .before .before .before .before .before .before .before .before .before .before .before .before .before .before .before .before in
-    let at-loop = c .before .before .before .before .before .before .before .before .before .before .before .before .before .before .before .before .before .before .before .before .before in
-    let at-read = c .before .before .before .before .before .before .before .before .before .before .before .before .before .before .before .before .before .before .before .before in
-    let at-answer = c .before .before .before .before .before .before .before .before .before .before .before .before .before .before .before .before .before .before in
-    let at-onward = c .before .before .before .before in
+    let start = c .before .before .before .before .before .before .before .before .before .before .before .before .before .before .before .before .before .before .before .before .before .before .before .before .before in
+    let at-loop = c .before .before .before .before .before .before .before .before .before .before .before .before .before .before .before .before .before .before .before .before in
+    let at-read = c .before .before .before .before .before .before .before .before .before .before .before .before .before .before .before .before .before .before .before in
+    let at-answer = c .before .before .before .before .before .before .before .before .before .before .before .before .before .before .before .before .before in
+    let at-onward = c .before .before .before in
     let t = at-answer .answer .given in
     omega (
       arith,
@@ -156,18 +155,18 @@ loop-less c =
 
 loop-again : tie.Need-loop-again Inv-loop μ-loop
 loop-again c =
-    let start = c .before .before .before .before .before .before .before .before .before .before .before .before .before .before .before .before .before .before .before .before .before .before .before .before .before .before in
-    let at-loop = c .before .before .before .before .before .before .before .before .before .before .before .before .before .before .before .before .before .before .before .before .before in
-    let at-read = c .before .before .before .before .before .before .before .before .before .before .before .before .before .before .before .before .before .before .before .before in
-    let at-answer = c .before .before .before .before .before .before .before .before .before .before .before .before .before .before .before .before .before .before in
-    let at-take = c .before .before .before .before .before .before .before .before .before .before .before .before .before .before in
-    let at-if1 = c .before .before .before .before .before .before .before .before in
-    let at-onward = c .before .before .before .before in
-    let at-with-env = c in
+    let start = c .before .before .before .before .before .before .before .before .before .before .before .before .before .before .before .before .before .before .before .before .before .before .before .before .before in
+    let at-loop = c .before .before .before .before .before .before .before .before .before .before .before .before .before .before .before .before .before .before .before .before in
+    let at-read = c .before .before .before .before .before .before .before .before .before .before .before .before .before .before .before .before .before .before .before in
+    let at-answer = c .before .before .before .before .before .before .before .before .before .before .before .before .before .before .before .before .before in
+    let at-take = c .before .before .before .before .before .before .before .before .before .before .before .before .before in
+    let at-if1 = c .before .before .before .before .before .before .before in
+    let at-onward = c .before .before .before in
+    let at-behind = c in
     let t = at-answer .answer .given in
     let b = at-take .take .last .1 .1 .1 .1 .1 .0 in (
       at-take .take .ensures .long ∙ at-loop .loop .inv .0,
-      at-state (ap (λ (h : Live). full h b) (at-with-env .with-env .ensures))
+      at-run b (at-behind .behind .ensures)
           (goes-far
           (goes-on (at-loop .loop .inv .1) (t .0 .0) (t .0 .1 .0 .at) (bound (not (start .args .ended)) (start .args .part .now) (at-loop .loop .at) (at-read .read-on .result) (t .0 .0) (t .0 .1 .0) (at-read .read-on .ensures) (t .1))
           (whole (at-take .take .result) b) (at-take .take .last .1 .1 .1 .1 .1 .1 .0) (at-take .take .ensures .stepped) (at-if1 .if1 .left))
