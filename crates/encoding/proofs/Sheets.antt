@@ -22,29 +22,30 @@ use Rattle.encoding.specs.Distinct.{has, added, distinct, placeOf, offse
 use Rattle.encoding.specs.Encoded.{tagsOf, stringsOf, programOf, maybe, bothOf, each, ruleOf, rulesOf, sheetOf}
 use Rattle.encoding.specs.Keeps.{AllNames, ProgramKeeps, VisitsKeep, AllKeep, RuleKeeps, EachKeeps, SheetKeeps}
 use Rattle.encoding.specs.Promises.{SheetsKeep}
-use Rattle.encoding.proofs.Sound.{SoundStatement, Sound, SoundIf, SoundTree, SoundForm, SoundContent, SoundRule, AllSound, and-true, rules-sound}
+use Rattle.encoding.specs.Sound.{SoundStatement, Sound, SoundIf, SoundTree, SoundForm, SoundContent, SoundRule, AllSound}
+use Rattle.encoding.proofs.Sound.{and-true, rules-sound}
 use Rattle.encoding.proofs.Stored.{AllHad, distinct-all, added-different, place-below, printable}
 
 -- each tag and string that is mentioned is stored
-abbrev Had : List (List ℕ) → List (List ℕ) → List Mention → Type 0
+abbrev pub Had : List (List ℕ) → List (List ℕ) → List Mention → Type 0
 Had names strs [] = Unit {0}
 Had names strs (a-tag n ∷ ms) = (has names n ≡ true) × Had names strs ms
 Had names strs (a-string s ∷ ms) = (has strs s ≡ true) × Had names strs ms
 Had names strs (a-program p ∷ ms) = Had names strs ms
 
-had-all : (names strs : List (List ℕ)) (ms : List Mention) → AllHad names (tagsIn ms) → AllHad strs (stringsIn ms) → Had names strs ms
+pub had-all : (names strs : List (List ℕ)) (ms : List Mention) → AllHad names (tagsIn ms) → AllHad strs (stringsIn ms) → Had names strs ms
 had-all names strs [] h k = tt
 had-all names strs (a-tag n ∷ ms) h k = (h .0, had-all names strs ms (h .1) k)
 had-all names strs (a-string s ∷ ms) h k = (k .0, had-all names strs ms h (k .1))
 had-all names strs (a-program p ∷ ms) h k = had-all names strs ms h k
 
-had-front : (names strs : List (List ℕ)) (ms ns : List Mention) → Had names strs (ms ++ ns) → Had names strs ms
+pub had-front : (names strs : List (List ℕ)) (ms ns : List Mention) → Had names strs (ms ++ ns) → Had names strs ms
 had-front names strs [] ns h = tt
 had-front names strs (a-tag n ∷ ms) ns h = (h .0, had-front names strs ms ns (h .1))
 had-front names strs (a-string s ∷ ms) ns h = (h .0, had-front names strs ms ns (h .1))
 had-front names strs (a-program p ∷ ms) ns h = had-front names strs ms ns h
 
-had-back : (names strs : List (List ℕ)) (ms ns : List Mention) → Had names strs (ms ++ ns) → Had names strs ns
+pub had-back : (names strs : List (List ℕ)) (ms ns : List Mention) → Had names strs (ms ++ ns) → Had names strs ns
 had-back names strs [] ns h = h
 had-back names strs (a-tag n ∷ ms) ns h = had-back names strs ms ns (h .1)
 had-back names strs (a-string s ∷ ms) ns h = had-back names strs ms ns (h .1)
@@ -60,7 +61,7 @@ module _ (names strs : List (List ℕ)) (v : Visit) where
     statement-fits reject s h = (tt, refl)
     statement-fits (print-start n) s h = (place-below names n (h .0), refl)
     statement-fits (print-end n) s h = (place-below names n (h .0), refl)
-    statement-fits (print-text x) s h = (printable strs x (h .0) s, refl)
+    statement-fits (print-text x) s h = (printable strs x (h .0) (s .0), refl)
     statement-fits (echo on) s h = (tt, s)
     statement-fits (branch c l m) s h =
         let a = program-fits l (s .1 .0) (had-front names strs (inProgram l) (inProgram m) h) in
@@ -81,7 +82,7 @@ each-length r [] = refl
 each-length r (v ∷ vs) = ap suc (each-length r vs)
 
 mutual
-  tree-length : (e : Tree) → length (visits e) ≡ nodes (expression e)
+  pub tree-length : (e : Tree) → length (visits e) ≡ nodes (expression e)
   tree-length (node f g k) = form-length k
 
   form-length : (k : Form) → suc (length (visitsOf k)) ≡ nodes (expressionOf k)

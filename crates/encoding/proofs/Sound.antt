@@ -3,7 +3,9 @@ use mathlib.Core.Path.{_≡_, refl, sym, subst}
 use mathlib.Core.Bool.{Bool, true, false, _&&_}
 use mathlib.Core.List.{List, [], _∷_, _++_}
 use mathlib.Core.Option.{Option, none, some}
-use Prim.Native.Nat.{ℕ, _<_}
+use Prim.Native.Nat.{ℕ, _≤_, _<_}
+use native.Mathlib.Omega.{arith}
+use lib.ListN.{length}
 use Rattle.text.specs.Characters.{WholeCharacters, utf8s}
 use Rattle.expressions.specs.Expr.{Atom, nonterminal, anychar}
 use Rattle.expressions.specs.Grammar.{nonterminals}
@@ -15,56 +17,8 @@ use Rattle.notation.specs.Tokens.{Token, TagName, StringOf}
 use Rattle.notation.specs.Conditions.{CurrentIs, of-either, of-first, of-second, OperandIs, a-value, a-current, a-recalled, ConditionIs, no-or, or, BothIs, no-and, and, SingleIs, compared, not, parenthesised}
 use Rattle.notation.specs.Statements.{only, assigned, ItemIs, a-start, an-end, both-tags, a-text, ItemsAre, StatementIs, echo-on, echo-off, rejects, prints, assigns, if-then, if-else, BranchIs, bare, block, ListIs, empty, SomeAre, BracesAre, absent, braces}
 use Rattle.notation.specs.Expressions.{AtMostOne, inner, outer, UnionIs, no-bar, bar, CatIs, no-dot, dot, StarredIs, no-star, stars, PrimaryIs, a-nonterminal, a-character, InsideIs, inside}
+use Rattle.encoding.specs.Sound.{SoundStatement, Sound, SoundIf, SoundTree, SoundContent, SoundRule, AllSound, SoundRules}
 use Rattle.notation.specs.Productions.{ContentIs, nothing, something, ProductionIs, production, ProductionsAre, one, more, RulesAre, start-alone, start-first}
-
-abbrev mutual
-  pub SoundStatement : Visit → Statement → Type 0
-  SoundStatement v (become a x) = Attribute a × Value x
-  SoundStatement v (copy a b) = Attribute a × Attribute b
-  SoundStatement v (recall a b) = (Attribute a × Attribute b) × (isSecond v ≡ true)
-  SoundStatement v reject = Unit {0}
-  SoundStatement v (print-start n) = TagName n
-  SoundStatement v (print-end n) = TagName n
-  SoundStatement v (print-text s) = WholeCharacters s
-  SoundStatement v (echo on) = isFirst v ≡ true
-  SoundStatement v (branch c l m) = (ConditionFits c × (conditionAllowed v c ≡ true)) × (Sound v l × Sound v m)
-
-  pub Sound : Visit → Program → Type 0
-  Sound v done = Unit {0}
-  Sound v (step t p) = SoundStatement v t × Sound v p
-
-abbrev pub SoundIf : Visit → Option Program → Type 0
-SoundIf v none = Unit {0}
-SoundIf v (some p) = Sound v p
-
-abbrev pub SoundAtom : Atom → Type 0
-SoundAtom (nonterminal n) = n < nonterminals
-SoundAtom anychar = Unit {0}
-
-abbrev mutual
-  pub SoundTree : Tree → Type 0
-  SoundTree (node f g k) = SoundIf first f × (SoundIf second g × SoundForm k)
-
-  pub SoundForm : Form → Type 0
-  SoundForm (atom k) = SoundAtom k
-  SoundForm (cat l r) = SoundTree l × SoundTree r
-  SoundForm (alt l r) = SoundTree l × SoundTree r
-  SoundForm (star e) = SoundTree e
-
-abbrev pub SoundContent : Option Tree → Type 0
-SoundContent none = Unit {0}
-SoundContent (some e) = SoundTree e
-
-pub record SoundRule (r : Rule) : Type 0 where
-  pub numbered : r .nonterminal < nonterminals
-  pub named : TagName (r .tag)
-  pub before : SoundIf first (r .own .first-visit)
-  pub after : SoundIf second (r .own .second-visit)
-  pub content : SoundContent (r .inside)
-
-abbrev pub AllSound : List Rule → Type 0
-AllSound [] = Unit {0}
-AllSound (r ∷ rs) = SoundRule r × AllSound rs
 
 pub and-true : (a b : Bool) → a ≡ true → b ≡ true → a && b ≡ true
 and-true true b p q = q
@@ -108,7 +62,7 @@ module _ (v : Visit) where
   item-sound (a-start h) = (h, tt)
   item-sound (an-end h) = (h, tt)
   item-sound (both-tags h) = (h, (h, tt))
-  item-sound (a-text {cs = cs} h) = (record { characters = cs; are-chars = h .characters; spelled = refl }, tt)
+  item-sound (a-text {cs = cs} h) = ((record { characters = cs; are-chars = h .characters; spelled = refl }, h .short), tt)
 
   items-sound : {ts : List Token} {p : Program} → ItemsAre ts p → Sound v p
   items-sound (ItemsAre.one i) = item-sound i
@@ -179,3 +133,14 @@ productions-sound (more p ps) = (production-sound p, productions-sound ps)
 pub rules-sound : {ts : List Token} {r : Rules} → RulesAre ts r → (r .start < nonterminals) × AllSound (r .productions)
 rules-sound (start-alone i ps) = (i, productions-sound ps)
 rules-sound (start-first ps) = let s = productions-sound ps in (s .0 .numbered, s)
+
+one-production : {ts : List Token} {rs : List Rule} → ProductionsAre ts rs → 1 ≤ length rs
+one-production (one p) = omega arith
+one-production (more p ps) = omega arith
+
+some-production : {ts : List Token} {r : Rules} → RulesAre ts r → 1 ≤ length (r .productions)
+some-production (start-alone i ps) = one-production ps
+some-production (start-first ps) = omega arith
+
+pub sound : {ts : List Token} {r : Rules} → RulesAre ts r → SoundRules r
+sound g = let s = rules-sound g in record { its-start = s .0; some-productions = some-production g; each = s .1 }

@@ -2,4 +2,5 @@ pub mod Mentions
 pub mod Distinct
 pub mod Encoded
 pub mod Keeps
+pub mod Sound
 pub mod Promises

@@ -18,7 +18,7 @@ use Rattle.notation.specs.Rules.{Visits, Tree, node, Form, atom, cat, alt, star
 use Rattle.encoding.specs.Mentions.{inBraces, inTree, inForm, inContent}
 use Rattle.encoding.specs.Encoded.{Room, maybe, bothOf, each, sheetOf}
 use Rattle.encoding.specs.Keeps.{ProgramKeeps, VisitsKeep, AllKeep}
-use Rattle.encoding.proofs.Sound.{SoundTree, SoundForm, SoundContent}
+use Rattle.encoding.specs.Sound.{SoundTree, SoundForm, SoundContent}
 use Rattle.packing.specs.Packed.{field, kind, argument, nodeRecord, treeBytes, formBytes, contentBytes}
 use Rattle.packing.proofs.Here.{Here, here-byte, here-word, two-bytes, here-front, here-behind, here-at}
 use Rattle.packing.proofs.Store.{storedPrograms, Holds, holds-front, holds-back, field-is}

@@ -29,7 +29,8 @@ use Rattle.encoding.specs.Mentions.{inBraces, inTree, inForm, inContent, inRule
 use Rattle.encoding.specs.Distinct.{equal, has, AllDifferent, run-together}
 use Rattle.encoding.specs.Encoded.{tagsOf, stringsOf, programsOf, Room, each, rulesOf, sheetOf}
 use Rattle.encoding.specs.Keeps.{AllNames, AllKeep, RuleKeeps, EachKeeps, SheetKeeps}
-use Rattle.encoding.proofs.Sound.{AllSound, rules-sound}
+use Rattle.encoding.specs.Sound.{AllSound}
+use Rattle.encoding.proofs.Sound.{rules-sound}
 use Rattle.encoding.proofs.Stored.{equal-same, or-left, or-right}
 use Rattle.encoding.proofs.Sheets.{sheets-keep}
 use Rattle.packing.specs.Packed.{nodesSection, productionsSection, tagsSection, trailerOf, sheetBytes}

@@ -20,7 +20,7 @@ use Rattle.notation.specs.Limits.{depthOf, nodesInAll}
 use Rattle.encoding.specs.Mentions.{a-tag, inBraces, inTree, inContent, inRule, inRules}
 use Rattle.encoding.specs.Encoded.{tagsOf, Room, maybe, bothOf, each, ruleOf, rulesOf, sheetOf}
 use Rattle.encoding.specs.Keeps.{AllKeep, RuleKeeps, EachKeeps}
-use Rattle.encoding.proofs.Sound.{SoundContent, SoundRule, AllSound}
+use Rattle.encoding.specs.Sound.{SoundContent, SoundRule, AllSound}
 use Rattle.packing.specs.Packed.{field, contentBytes, nodesSection, nodesOfRule, productionRecord, productionsSection}
 use Rattle.packing.proofs.Here.{Here, here-byte, here-word, two-bytes, here-front, here-behind, here-at}
 use Rattle.packing.proofs.Store.{storedPrograms, Holds, holds-front, holds-back, field-is}

@@ -26,14 +26,14 @@ module _ {A : Type 0} (P : ℕ → A → Type 0) where
   from-counted i k [] h = omega arith
   from-counted i k (x ∷ xs) h = omega (arith, from-counted (suc i) k xs (h .1))
 
-  from-there : (n i k : ℕ) → i + n ≡ k → ((j : ℕ) → i ≤ j → j < k → (x : A) × P j x) → (xs : List A) × From P i k xs
+  pub from-there : (n i k : ℕ) → i + n ≡ k → ((j : ℕ) → i ≤ j → j < k → (x : A) × P j x) → (xs : List A) × From P i k xs
   from-there zero i k e h = ([], omega arith)
   from-there (suc n) i k e h =
       let x = h i (omega arith) (omega arith) in
       let r = from-there n (suc i) k (omega arith) (λ j lo hi. h j (omega arith) hi) in
       (x .0 ∷ r .0, (x .1, r .1))
 
-  one-from : ((j : ℕ) (x y : A) → P j x → P j y → x ≡ y) → (i k : ℕ) (xs ys : List A) → From P i k xs → From P i k ys → xs ≡ ys
+  pub one-from : ((j : ℕ) (x y : A) → P j x → P j y → x ≡ y) → (i k : ℕ) (xs ys : List A) → From P i k xs → From P i k ys → xs ≡ ys
   one-from one i k [] [] h g = refl
   one-from one i k [] (y ∷ ys) h g = absurd (omega (arith, from-counted (suc i) k ys (g .1)))
   one-from one i k (x ∷ xs) [] h g = absurd (omega (arith, from-counted (suc i) k xs (h .1)))
@@ -64,14 +64,14 @@ one-visits ps one two v w a b =
 rule-by : {r q : Rule} → r .production ≡ q .production → r .own ≡ q .own → r .of-nodes ≡ q .of-nodes → r ≡ q
 rule-by {r} {q} x y z = let w : record { production = r .production; own = r .own; of-nodes = r .of-nodes } ≡ q = rw (x, y, z) refl in w
 
-one-rule : (s : List ℕ) (ps : List Program) (q : ℕ) (r t : Rule) → RuleAt s ps q r → RuleAt s ps q t → r ≡ t
+pub one-rule : (s : List ℕ) (ps : List Program) (q : ℕ) (r t : Rule) → RuleAt s ps q r → RuleAt s ps q t → r ≡ t
 one-rule s ps q r t a b =
     rule-by (one-production s q (r .production) (t .production) (a .production-is) (b .production-is))
     (one-visits ps (firstProgramOf s q) (secondProgramOf s q) (r .own) (t .own) (a .own-are) (b .own-are))
     (one-from (NodeIs s ps) (λ j. one-visits ps (firstProgramOfNode s j) (secondProgramOfNode s j)) (firstNodeOf s q) (firstNodeOf s q + nodeCountOf s q) (r .of-nodes) (t .of-nodes)
     (a .nodes-are) (b .nodes-are))
 
-sheet-by : {a b : Sheet} → a .names ≡ b .names → a .rules ≡ b .rules → a .strings ≡ b .strings → a .start-nonterminal ≡ b .start-nonterminal → a ≡ b
+pub sheet-by : {a b : Sheet} → a .names ≡ b .names → a .rules ≡ b .rules → a .strings ≡ b .strings → a .start-nonterminal ≡ b .start-nonterminal → a ≡ b
 sheet-by {a} {b} x y z u =
     let w : record { names = a .names; rules = a .rules; strings = a .strings; start-nonterminal = a .start-nonterminal } ≡ b = rw (x, y, z, u) refl in
     w
@@ -117,7 +117,7 @@ module _ {s : List ℕ} (w : WellFormed s) where
   few-nodes g h = omega (arith, nodes-of-grammar s g h, w .productions .every-node, w .sections .few-nodes)
 
 -- the grammar of a sheet is that of its bytes
-grammar-from : (s : List ℕ) (ps : List Program) (q : ℕ) (rs : List Rule) → From (RuleAt s ps) q (productionCount s) rs → GrammarFrom s q (grammarOf rs)
+pub grammar-from : (s : List ℕ) (ps : List Program) (q : ℕ) (rs : List Rule) → From (RuleAt s ps) q (productionCount s) rs → GrammarFrom s q (grammarOf rs)
 grammar-from s ps q [] h = h
 grammar-from s ps q (r ∷ rs) h = (h .0 .production-is, grammar-from s ps (suc q) rs (h .1))
 

@@ -1,0 +1,3 @@
+pub mod SameCalls
+pub mod SameFaults
+pub mod SameGround
