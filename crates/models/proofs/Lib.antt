@@ -1,0 +1,11 @@
+pub mod Same
+pub mod Counted
+pub mod Walk
+pub mod OneAnswer
+pub mod Held
+pub mod Shortest
+pub mod Grows
+pub mod Told
+pub mod Sheets
+pub mod Rows
+pub mod Worked

@@ -1,0 +1,10 @@
+pub mod Models
+pub mod Valid
+pub mod Expressions
+pub mod Spelling
+pub mod Family
+pub mod Answers
+pub mod Reader
+pub mod Promises
+pub mod Sheets
+pub mod Worked
