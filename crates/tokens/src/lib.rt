@@ -308,7 +308,7 @@ pub enum Word {
     No,
 }
 
-fn compare(f: &[u8], w: &[u8]) -> Word
+pub fn compare(f: &[u8], w: &[u8]) -> Word
     ensures { λ r. ⌜ WordIs (now (f .entry)) (now (w .entry)) r ⌝ }
 {
     let mut i = 0;

@@ -1,0 +1,12 @@
+pub mod One
+pub mod Follows
+pub mod Main
+pub mod Depths
+pub mod Some
+pub mod Never
+pub mod Opens
+pub mod Before
+pub mod Later
+pub mod NeverSent
+pub mod AsIf
+pub mod Shapes
