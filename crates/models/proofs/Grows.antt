@@ -7,12 +7,13 @@ use Prim.Native.Nat.{ℕ, suc, _+_, _*_, _≤_, max}
 use native.Mathlib.Omega.{arith}
 use lib.Dec.{eqb, ltb}
 use lib.ListN.{length, length-append}
+use Rattle.limits.specs.Limits.{nodesAtMost, deepestTree, longestName}
 use Rattle.text.specs.Names.{nameFirst, nameByte, blank}
 use Rattle.reading.proofs.Telling.{IfSome}
 use Rattle.models.specs.Models.{Model, called, sequence, choice, optional, any-number, at-least-one, ContentSpec, nothing-inside, mixed, children, Declaration}
 use Rattle.models.specs.Expressions.{modelNodes, modelDepth, specNodes, specDepth}
-use Rattle.models.specs.Family.{nodesInModel, deepInModel, EachFewNodes, Shallow}
-use Rattle.models.specs.Reader.{LeftOf, fresh, commas, bars, behindLeft, Phase, opening, naming, named, contents, emptying, inside, hashing, mixing, barred, mixed-name, mixed-closed, wants, in-name, marking, after, group-closed, ended, Move, to, over, onlyIfTrue, longestName, longer, stepEnded, stepMark, withComma, withBar, closedGroup, stepAfter, stepMarking, stepItem, stepMixing, unstarred, stepPhase, DtdProgress, outside, within, movedBy, stepDeclarations, shortName, aroundModel, finishedPhase, finishedDtd}
+use Rattle.models.specs.Family.{EachFewNodes, Shallow}
+use Rattle.models.specs.Reader.{LeftOf, fresh, commas, bars, behindLeft, Phase, opening, naming, named, contents, emptying, inside, hashing, mixing, barred, mixed-name, mixed-closed, wants, in-name, marking, after, group-closed, ended, Move, to, over, onlyIfTrue, longer, stepEnded, stepMark, withComma, withBar, closedGroup, stepAfter, stepMarking, stepItem, stepMixing, unstarred, stepPhase, DtdProgress, outside, within, movedBy, stepDeclarations, shortName, aroundModel, finishedPhase, finishedDtd}
 use Rattle.models.specs.Promises.{DtdFits}
 
 -- no more nodes, and no deeper

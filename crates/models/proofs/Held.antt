@@ -8,12 +8,13 @@ use native.Mathlib.Omega.{arith}
 use lib.Dec.{eqb, ltb}
 use lib.ListN.{length, length-append}
 use borrow.Author.Tests.{ltb-true, eqb-true}
+use Rattle.limits.specs.Limits.{longestName}
 use Rattle.text.specs.Names.{nameFirst, nameByte, blank, All}
 use Rattle.notation.specs.Tokens.{TagName}
 use Rattle.reading.proofs.Telling.{IfSome}
 use Rattle.models.specs.Models.{Model, called, sequence, choice, optional, any-number, at-least-one, ContentSpec, nothing-inside, mixed, children, Declaration}
 use Rattle.models.specs.Spelling.{Blanks, no-blank, a-blank, Space, space, elementWord, emptyWord, pcdataWord, MarkIs, unmarked, question, asterisk, plus, ParticleIs, a-group, GroupIs, a-choice, a-sequence, ChoiceIs, two, or-more, SequenceIs, one, and-more, BarredNames, MixedIs, starred, characters, SpecIs, is-empty, is-mixed, are-children, DeclarationIs, declaration}
-use Rattle.models.specs.Reader.{LeftOf, fresh, commas, bars, behindLeft, Phase, opening, naming, named, contents, emptying, inside, hashing, mixing, barred, mixed-name, mixed-closed, wants, in-name, marking, after, group-closed, ended, Move, to, over, onlyIfTrue, longestName, longer, stepEnded, stepMark, withComma, withBar, closedGroup, stepAfter, stepMarking, stepItem, stepMixing, unstarred, stepPhase}
+use Rattle.models.specs.Reader.{LeftOf, fresh, commas, bars, behindLeft, Phase, opening, naming, named, contents, emptying, inside, hashing, mixing, barred, mixed-name, mixed-closed, wants, in-name, marking, after, group-closed, ended, Move, to, over, onlyIfTrue, longer, stepEnded, stepMark, withComma, withBar, closedGroup, stepAfter, stepMarking, stepItem, stepMixing, unstarred, stepPhase}
 
 abbrev pub Text : Type 0
 Text = List ℕ

@@ -5,6 +5,7 @@ use mathlib.Core.List.{List, [], _∷_, _++_, append-nil}
 use Prim.Native.Nat.{ℕ, suc, _≤_}
 use native.Mathlib.Omega.{arith}
 use native.Mathlib.Decide.{decLe}
+use Rattle.limits.specs.Limits.{nodesAtMost, deepestTree}
 use Rattle.notation.specs.Refusal.{GoesOn, RefusedAt, Told, written, refused}
 use Rattle.notation.specs.Statements.{parentheses}
 use Rattle.reading.specs.Machine.{walk}
@@ -14,7 +15,7 @@ use Rattle.reading.proofs.Telling.{none≢some, IfSome, tells-all}
 use Rattle.models.specs.Models.{Declaration}
 use Rattle.models.specs.Expressions.{specNodes, specDepth}
 use Rattle.models.specs.Spelling.{DtdIs}
-use Rattle.models.specs.Family.{nodesInModel, deepInModel, EachFewNodes, Shallow, Family}
+use Rattle.models.specs.Family.{EachFewNodes, Shallow, Family}
 use Rattle.models.specs.Reader.{DtdProgress, outside, within, stepDeclarations, valueOfDtd, finishedDtd, dtds}
 use Rattle.models.specs.Promises.{ReadsDtds, TellsDtds, DtdFits}
 use Rattle.models.proofs.Walk.{declarations-walk}
@@ -49,11 +50,11 @@ reads-dtds p = record {
 
 few? : (ds : List Declaration) → Dec (EachFewNodes ds)
 few? [] = yes tt
-few? (d ∷ ds) = both? (decLe (specNodes (d .content)) nodesInModel) (few? ds)
+few? (d ∷ ds) = both? (decLe (specNodes (d .content)) nodesAtMost) (few? ds)
 
 shallow? : (ds : List Declaration) → Dec (Shallow ds)
 shallow? [] = yes tt
-shallow? (d ∷ ds) = both? (decLe (specDepth (d .content)) deepInModel) (shallow? ds)
+shallow? (d ∷ ds) = both? (decLe (specDepth (d .content)) deepestTree) (shallow? ds)
 
 pub fits? : (ds : List Declaration) → Dec (DtdFits ds)
 fits? ds = go (few? ds) (shallow? ds)

@@ -9,12 +9,13 @@ use native.Mathlib.Omega.{arith}
 use lib.Dec.{eqb, ltb}
 use lib.ListN.{length, length-append}
 use borrow.Author.Tests.{lt-ltb, eqb-true}
+use Rattle.limits.specs.Limits.{longestName}
 use Rattle.text.specs.Names.{nameFirst, nameByte, blank, All}
 use Rattle.notation.specs.Tokens.{TagName}
 use Rattle.reading.specs.Machine.{andThen, walk}
 use Rattle.models.specs.Models.{Model, called, sequence, choice, optional, any-number, at-least-one, ContentSpec, nothing-inside, mixed, children, Declaration}
 use Rattle.models.specs.Spelling.{Blanks, no-blank, a-blank, Space, space, MarkIs, unmarked, question, asterisk, plus, ParticleIs, a-group, GroupIs, a-choice, a-sequence, ChoiceIs, two, or-more, SequenceIs, one, and-more, BarredNames, MixedIs, starred, characters, SpecIs, is-empty, is-mixed, are-children, DeclarationIs, declaration, DeclarationsAre, DtdIs}
-use Rattle.models.specs.Reader.{LeftOf, fresh, commas, bars, behindLeft, Phase, opening, naming, named, contents, emptying, inside, hashing, mixing, barred, mixed-name, mixed-closed, wants, in-name, marking, after, group-closed, ended, Move, to, over, onlyIfTrue, longestName, longer, stepEnded, stepMark, withComma, withBar, closedGroup, stepAfter, stepMarking, stepItem, stepMixing, stepPhase, DtdProgress, outside, within, movedBy, stepDeclarations, valueOfDtd}
+use Rattle.models.specs.Reader.{LeftOf, fresh, commas, bars, behindLeft, Phase, opening, naming, named, contents, emptying, inside, hashing, mixing, barred, mixed-name, mixed-closed, wants, in-name, marking, after, group-closed, ended, Move, to, over, onlyIfTrue, longer, stepEnded, stepMark, withComma, withBar, closedGroup, stepAfter, stepMarking, stepItem, stepMixing, stepPhase, DtdProgress, outside, within, movedBy, stepDeclarations, valueOfDtd}
 
 -- what holds of the four blanks holds of every blank
 or-cases : (s t : Bool) → s || t ≡ true → (s ≡ true) ⊎ (t ≡ true)

@@ -2,6 +2,7 @@
 use mathlib.Core.List.{List, [], _∷_, _++_}
 use Prim.Native.Nat.{ℕ, _+_, _≤_}
 use lib.ListN.{length}
+use Rattle.limits.specs.Limits.{mostProductions, mostNodes, nodesAtMost, deepestTree}
 use Rattle.expressions.specs.Grammar.{nonterminals}
 use Rattle.notation.specs.Statements.{parentheses}
 use Rattle.encoding.specs.Distinct.{distinct}
@@ -10,19 +11,13 @@ use Rattle.models.specs.Expressions.{specNodes, specDepth}
 use Rattle.models.specs.Spelling.{DtdIs}
 
 -- at most so many nodes in each model, and at most so deep
-abbrev pub nodesInModel : ℕ
-nodesInModel = 32
-
-abbrev pub deepInModel : ℕ
-deepInModel = 12
-
 abbrev pub EachFewNodes : List Declaration → Type 0
 EachFewNodes [] = Unit {0}
-EachFewNodes (d ∷ ds) = (specNodes (d .content) ≤ nodesInModel) × EachFewNodes ds
+EachFewNodes (d ∷ ds) = (specNodes (d .content) ≤ nodesAtMost) × EachFewNodes ds
 
 abbrev pub Shallow : List Declaration → Type 0
 Shallow [] = Unit {0}
-Shallow (d ∷ ds) = (specDepth (d .content) ≤ deepInModel) × Shallow ds
+Shallow (d ∷ ds) = (specDepth (d .content) ≤ deepestTree) × Shallow ds
 
 -- by the grammar alone; with few nodes in each model; and of the family, so also shallow, with at most 32 parentheses open at once
 pub record Grammatical (w : List ℕ) (ds : List Declaration) : Type 0 where
@@ -62,6 +57,6 @@ nodesTogether (d ∷ ds) = specNodes (d .content) + nodesTogether ds
 
 -- what a sheet can hold
 pub record Holdable (ds : List Declaration) : Type 0 where
-  pub few-declarations : length ds ≤ 64
+  pub few-declarations : length ds ≤ mostProductions
   pub few-names : length (distinct (mentioned ds)) ≤ nonterminals
-  pub few-nodes : nodesTogether ds ≤ 256
+  pub few-nodes : nodesTogether ds ≤ mostNodes

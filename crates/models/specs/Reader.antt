@@ -5,6 +5,7 @@ use mathlib.Core.List.{List, [], _∷_, _++_}
 use Prim.Native.Nat.{ℕ, suc}
 use lib.Dec.{eqb, ltb}
 use lib.ListN.{length}
+use Rattle.limits.specs.Limits.{longestName}
 use Rattle.text.specs.Names.{nameFirst, nameByte, blank}
 use Rattle.reading.specs.Machine.{Machine}
 use Rattle.models.specs.Models.{Model, called, sequence, choice, optional, any-number, at-least-one, ContentSpec, nothing-inside, mixed, children, Declaration}
@@ -47,9 +48,6 @@ abbrev pub onlyIfTrue : Bool → Phase → Option Move
 onlyIfTrue t q = cond t (some (to q)) none
 
 -- a name goes on where it has fewer bytes than the longest
-abbrev pub longestName : ℕ
-longestName = 15
-
 abbrev pub longer : List ℕ → (List ℕ → Phase) → ℕ → Option Move
 longer m f b = onlyIfTrue (ltb (length m) longestName) (f (m ++ b ∷ []))
 

@@ -6,6 +6,7 @@ use mathlib.Core.Logic.{_↔_}
 use Prim.Native.Nat.{ℕ, _≤_}
 use lib.Dec.{leb}
 use lib.ListN.{length}
+use Rattle.limits.specs.Limits.{mostStringBytes}
 use Rattle.text.specs.Names.{All}
 use Rattle.sheet.specs.Sheet.{Sheet}
 use Rattle.notation.specs.Rules.{Rules}
@@ -37,4 +38,4 @@ SheetsAreTyped = (s : List ℕ) (a : Sheet) (r : Rules) → All isByte s → Pac
 
 -- only their strings can have no room in a sheet: prints may overlap, and each different print is then stored by itself
 abbrev pub OnlyStringsGrow : Type 0
-OnlyStringsGrow = (s : List ℕ) (a : Sheet) (r : Rules) → All isByte s → Packs s a → ByName a r → length (run-together (stringsOf r)) ≤ 8192 → Room r
+OnlyStringsGrow = (s : List ℕ) (a : Sheet) (r : Rules) → All isByte s → Packs s a → ByName a r → length (run-together (stringsOf r)) ≤ mostStringBytes → Room r

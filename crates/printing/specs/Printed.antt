@@ -2,6 +2,7 @@
 use mathlib.Core.List.{List, _++_}
 use Prim.Native.Nat.{ℕ, _≤_, _<_}
 use lib.ListN.{length, drop}
+use Rattle.limits.specs.Limits.{mostStringBytes}
 use Rattle.sheet.specs.Defect.{DefectIs}
 use Rattle.sheet.specs.Sheet.{Sheet}
 use Rattle.notation.specs.Rules.{Rules}
@@ -13,7 +14,7 @@ use Rattle.naming.specs.ByName.{ByName}
 
 -- the different strings that the rules print have room in a sheet
 abbrev pub StringsFit : Rules → Type 0
-StringsFit r = length (run-together (stringsOf r)) ≤ 8192
+StringsFit r = length (run-together (stringsOf r)) ≤ mostStringBytes
 
 -- the sheet's rules, where they have a text that keeps the limits
 pub record HasText (sheet : List ℕ) (r : Rules) : Type 0 where
