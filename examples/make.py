@@ -106,10 +106,12 @@ HOLDS = ('production 1 (n1 <programme>) holds [1 n2 <start>] then [2 n3 <title>]
 
 # Number, the bytes that are refused, and what is said of the open elements.
 REFUSALS = {
-    'half': (27, '&', 'Open there, from the outside in: <schedule> <programme> <title>\n'
-                      'production 3 (n3 <title>) holds [1 any character]*; this is after the 1st atom (any character).\n'),
-    'damaged': (23, '<titel>', 'Open there, from the outside in: <schedule> <programme>\n' + HOLDS % '1st atom (n2 <start>)'),
-    'twice': (25, '<title>Or', 'Open there, from the outside in: <schedule> <programme>\n' + HOLDS % '2nd atom (n3 <title>)'),
+    'half': (27, '&', 'Open there, from the outside in: <schedule> (line 1) <programme> (line 2) <title> (line 4)\n'
+                      'production 3 (n3 <title>) holds [1 any character]*; this is after the 1st atom (any character).\n'
+                      'Here may come: a character or the end of <title>.\n'),
+    'damaged': (23, '<titel>', 'Open there, from the outside in: <schedule> (line 1) <programme> (line 6)\n' + HOLDS % '1st atom (n2 <start>)'
+                               + 'Here may come: <title> or <people> or <description> or the end of <programme>.\n'),
+    'twice': (25, '<title>Or', 'Open there, from the outside in: <schedule> (line 1) <programme> (line 2)\n' + HOLDS % '2nd atom (n3 <title>)'),
     'after': (26, '<schedule/>', 'No element is open there; the root of a schedule is <schedule>.\n'),
 }
 
@@ -140,9 +142,17 @@ def visits(element):
     return 2 + star([0] * len(element.text or ''))
 
 
-def shown(rest):
-    seen = ''.join(chr(b) if 0x20 <= b <= 0x7E else '\\x%02x' % b for b in rest[:32])
-    return seen + (' ..' if len(rest) > 32 else '')
+def shown(some):
+    return ''.join(chr(b) if 0x20 <= b <= 0x7E else '\\x%02x' % b for b in some)
+
+
+def marked(before, rest):
+    """What comes before it in its line, as far as 48 bytes go, 32 bytes of what stands there, and a mark where it starts."""
+    kept = before[-48:]
+    line = shown(kept[kept.rfind(b'\n') + 1:])
+    if len(before) >= 48 and b'\n' not in kept:
+        line = '.. ' + line
+    return line + shown(rest[:32]) + (' ..' if len(rest) > 32 else '') + '\n' + ' ' * len(line) + '^\n'
 
 
 def told(name):
@@ -157,8 +167,8 @@ def told(name):
     number, what, around = REFUSALS[name]
     before = schedule[:schedule.rindex(what)]
     rest = schedule[len(before):].encode()
-    said = '%s.schedule: number %d.\n%s\nRefused after %d bytes, at line %d, column %d. There stands: %s\n' % (
-        name, number, MEANINGS[number], len(before.encode()), before.count('\n') + 1, len(before) - before.rfind('\n'), shown(rest))
+    said = '%s.schedule: number %d.\n%s\nRefused after %d bytes, at line %d, column %d. What stands there is marked:\n%s' % (
+        name, number, MEANINGS[number], len(before.encode()), before.count('\n') + 1, len(before) - before.rfind('\n'), marked(before.encode(), rest))
     return said + around + UNTOUCHED + YESTERDAY
 
 

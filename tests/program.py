@@ -407,7 +407,59 @@ def a_byte_order_mark_is_named():
 @test
 def nothing_shown_can_be_taken_for_another_byte():
     out = told(programme("<titel>\u00e9 \\x41 \u202e \x7f".encode()), 23)
-    expect("characters, and others by number", "There stands: <titel>\u00e9 \\\\x41 \\xe2\\x80\\xae \\x7f</programme> ..\n".encode() in out)
+    expect("characters, and others by number", "<start>now</start><titel>\u00e9 \\\\x41 \\xe2\\x80\\xae \\x7f</programme> ..\n".encode() in out)
+
+
+def marked(out):
+    """The line that is shown, and how many columns come before the mark."""
+    lines = out.decode().splitlines()
+    at = next(i for i, line in enumerate(lines) if line.endswith("What stands there is marked:"))
+    expect("the mark", lines[at + 2].strip(" ") == "^")
+    return lines[at + 1], len(lines[at + 2]) - 1
+
+
+@test
+def what_was_refused_is_marked_in_its_line():
+    line, column = marked(told(b"<schedule>\n<programme>\r\n<start>now</start>\t<titel>x</titel></programme></schedule>", 23))
+    expect("the line", line == "<start>now</start>\\x09<titel>x</titel></programme></sc ..")
+    expect("the mark", line[column:].startswith("<titel>"))
+    line, column = marked(told(b"<schedule><programme><start>" + 30 * "\u00e9".encode() + b"x</start><titel/>", 23))
+    expect("a long line is cut at a character", line.startswith(".. \u00e9\u00e9") and line[column:].startswith("<titel/>"))
+
+
+@test
+def what_is_shown_does_not_depend_on_where_a_part_ended():
+    after = b"<programme><start>now</start><titel>Evening news and more</titel></programme></schedule>"
+    for start in range(65536 - 75, 65536 + 2):
+        out = told(b"<schedule>" + b" " * (start - 10) + after, 23)
+        line, column = marked(out)
+        expect(f"the bytes from {start} on", line[column:] == "<titel>Evening news and more</ti ..")
+        expect("the bytes before", line[:column].endswith("<programme><start>now</start>"))
+
+
+@test
+def the_lines_on_which_the_open_elements_began_are_said():
+    out = told(b"<schedule>\n\n<programme>\r\n<start>now</start>\r<title>x\n</programme></schedule>", 22)
+    expect("22", b"from the outside in: <schedule> (line 1) <programme> (line 3) <title> (line 5)\n" in out)
+    out = told(b"\n<schedule>\n<programme><start/></programme><programme\n><start\n></start>", 27)
+    expect("27", b"from the outside in: <schedule> (line 2) <programme> (line 3)\n" in out)
+    start = b"\n<schedule>" + b"\n<programme><start>now</start></programme>" * 3000
+    out = told(start + b"\n<programme>\n<start>", 27)
+    expect("in a later part", b"<schedule> (line 2) <programme> (line 3003) <start> (line 3004)\n" in out)
+
+
+@test
+def what_may_come_is_listed():
+    for schedule, number, says in [
+        (b"<schedule><film/></schedule>", 23, b"Here may come: <programme> or the end of <schedule>.\n"),
+        (b"<schedule><programme><title/></programme></schedule>", 23, b"Here may come: <start>.\n"),
+        (programme(b"<titel/>"), 23, b"Here may come: <title> or <people> or <description> or the end of <programme>.\n"),
+        (programme(b"<title>x<b/></title>"), 23, b"Here may come: a character or the end of <title>.\n"),
+        (programme(b"<title>x</people>"), 22, b"Here may come: a character or the end of <title>.\n"),
+        (b"<schedule><programme>", 27, b"Here may come: <start>.\n"),
+    ]:
+        out = told(schedule, number)
+        expect(f"{says!r} is said of {schedule!r}", says in out)
 
 
 def damaged(at, byte):

@@ -1,10 +1,12 @@
 // Converting a schedule file into a listing file, part by part. The listing is written to a new file beside it, which takes its name only
 // when the whole schedule was taken: a refusal, a full disk or a killed process leaves the listing that was there.
+mod behind;
 mod caller;
 mod place;
 mod run;
 mod telling;
 
+ghost use Rattle.io.specs.Counts.{Counts};
 pub use caller::Caller;
 use run::Standing;
 use run::run;
@@ -33,6 +35,11 @@ fn refuse(sheet: &[u8], sheet_path: &[u8], schedule: &[u8], s: Standing, left: &
 // Whether the run came to an end with a file that failed, or with nobody there.
 fn is_broken(s: Standing) -> bool {
     s.unread | s.unwritten | s.left_alone
+}
+
+// Whether it came to an end with a number other than 0.
+fn is_refused(s: Standing) -> bool {
+    (s.number > 0) & !is_broken(s)
 }
 
 // Says which file failed, and why.
@@ -78,6 +85,22 @@ fn settle(
     0
 }
 
+// What is looked at of the bytes that were not taken: enough for what is shown.
+const FRONT: usize = 64;
+
+// Where something was refused, reads on behind the bytes that were not taken, so that what is shown does not depend on where a part ended. Answers how
+// many bytes there are to look at.
+fn top_up(from: i32, part: &mut [u8], held: usize, refused: bool) -> usize
+    ensures { λ r. ⌜ Counts r (now (part .exit)) ⌝ }
+{
+    if !refused {
+        return files::within(held, part);
+    }
+    let n = files::within(FRONT, part);
+    let filled = files::fill(from, &mut part[..n], held);
+    files::within(filled.held, part)
+}
+
 // From a schedule that is open into a new file that is open.
 fn convert_open(
     sheet: &[u8],
@@ -92,7 +115,7 @@ fn convert_open(
     let mut part = io::large_buffer();
     let mut out = io::large_buffer();
     let s = run(sheet, from, to, &mut part, &mut out, caller);
-    let held = files::within(s.held, &part);
+    let held = top_up(from, &mut part, s.held, is_refused(s));
     settle(
         sheet,
         sheet_path,
@@ -164,7 +187,7 @@ fn try_open(sheet: &[u8], sheet_path: &[u8], schedule: &[u8], from: i32, caller:
     let mut part = io::large_buffer();
     let mut out = io::large_buffer();
     let s = run(sheet, from, NO_FILE, &mut part, &mut out, caller);
-    let held = files::within(s.held, &part);
+    let held = top_up(from, &mut part, s.held, is_refused(s));
     if is_broken(s) {
         tell_broken(schedule, schedule, s);
         return FILE;

@@ -14,13 +14,13 @@ const LINE_FEED: u8 = 10;
 const CARRIAGE_RETURN: u8 = 13;
 
 // Whether a byte is a character's second, third or fourth: those are 80 to BF.
-fn goes_on(b: u8) -> bool {
+pub(crate) fn goes_on(b: u8) -> bool {
     (b >= 0x80) & (b < 0xC0)
 }
 
 // Whether a line ends with the byte at a place: a line feed, or a carriage return with no line feed behind it. What is passed is whole
 // tokens, so a carriage return that is the last byte has none.
-fn ends_line(bytes: &[u8], i: usize) -> bool
+pub(crate) fn ends_line(bytes: &[u8], i: usize) -> bool
     requires { ⌜ i < length (now bytes) ⌝ }
 {
     let b = bytes[i];
@@ -51,7 +51,7 @@ fn line_ends(bytes: &[u8]) -> u64 {
 }
 
 // Where the last line of some bytes starts.
-fn last_line(bytes: &[u8]) -> usize
+pub(crate) fn last_line(bytes: &[u8]) -> usize
     ensures { λ r. ⌜ r ≤ length (now (bytes .entry)) ⌝ }
 {
     let mut i = bytes.len();

@@ -1,4 +1,6 @@
 // A schedule from one descriptor converted to another, part by part, in memory that is lent: so much of the schedule, so much output.
+ghost use Rattle.io.specs.Counts.{Counts};
+use crate::behind::Behind;
 use crate::caller::Caller;
 use crate::place::Place;
 use converter::Reply;
@@ -7,13 +9,14 @@ use libc::STDERR_FILENO;
 use state::State;
 
 // Where a conversion stands between two calls of the converter: the last number, how many bytes at the front of the lent memory are not
-// taken yet, how many bytes were written in all, whether the schedule could not be read or the output not written, whether whoever started
+// taken yet, how many bytes were written in all, where it is, what is kept of what lies behind, whether the schedule could not be read or the output not written, whether whoever started
 // it is gone, and whether it goes on.
 pub struct Standing {
     pub number: usize,
     pub held: usize,
     pub written: u64,
     pub place: Place,
+    pub behind: Behind,
     pub unread: bool,
     pub unwritten: bool,
     pub left_alone: bool,
@@ -33,12 +36,14 @@ const STEP: u64 = 8388608;
 impl Standing {
     fn fresh() -> Standing {
         let place = Place::start();
+        let behind = Behind::start();
         let state = State::fresh();
         Standing {
             number: MORE,
             held: 0,
             written: 0,
             place: place,
+            behind: behind,
             unread: false,
             unwritten: false,
             left_alone: false,
@@ -64,8 +69,8 @@ impl Standing {
         next
     }
 
-    // After a call whose output was written out: the place past what was taken, and how many bytes are left.
-    fn answered(self, r: Reply, place: Place, held: usize) -> Standing {
+    // After a call whose output was written out: the place past what was taken, what is kept of it, and how many bytes are left.
+    fn answered(self, r: Reply, place: Place, behind: Behind, held: usize) -> Standing {
         let state = r.state;
         let number = r.number;
         let written = r.written;
@@ -74,6 +79,7 @@ impl Standing {
             held: held,
             written: std::num::wrapping_add_u64(self.written, written as u64),
             place: place,
+            behind: behind,
             unread: false,
             unwritten: false,
             left_alone: false,
@@ -87,9 +93,11 @@ impl Standing {
 fn go_on(part: &mut [u8], held: usize, s: Standing, r: Reply) -> Standing {
     let taken = files::within(r.taken, part);
     let place = s.place;
+    let was = s.behind;
     let past = place.after(&part[..taken]);
+    let behind = was.after(&part[..taken], place.line);
     let left = files::move_to_front(part, taken, held);
-    s.answered(r, past, left)
+    s.answered(r, past, behind, left)
 }
 
 // Writes output out; where there is no file for it, as in a trial, that is done at once.
@@ -100,8 +108,29 @@ fn write_out(to: i32, output: &[u8]) -> bool {
     io::write_all(to, output)
 }
 
-// One call of the converter: reads on behind what is held, converts, writes the output out, and moves what was not taken to the front.
-// That is a begun token as a rule, and more only where the room was too short for the output of all.
+// One call of the converter on what is held: converts, writes the output out, and moves what was not taken to the front. That is a begun token as a
+// rule, and more only where the room was too short for the output of all.
+fn turn_filled(
+    sheet: &[u8],
+    to: i32,
+    part: &mut [u8],
+    held: usize,
+    ended: bool,
+    out: &mut [u8],
+    s: Standing,
+) -> Standing
+    requires { ⌜ Counts held (now part) ⌝ }
+{
+    let state = s.state;
+    let r = convert(sheet, state, &part[..held], ended, out);
+    let written = files::within(r.written, out);
+    if !write_out(to, &out[..written]) {
+        return s.stopped(false);
+    }
+    go_on(part, held, s, r)
+}
+
+// One call of the converter: reads on behind what is held, and converts that.
 fn turn(
     sheet: &[u8],
     from: i32,
@@ -114,14 +143,7 @@ fn turn(
     if filled.failed {
         return s.stopped(true);
     }
-    let held = filled.held;
-    let state = s.state;
-    let r = convert(sheet, state, &part[..held], filled.ended, out);
-    let written = files::within(r.written, out);
-    if !write_out(to, &out[..written]) {
-        return s.stopped(false);
-    }
-    go_on(part, held, s, r)
+    turn_filled(sheet, to, part, filled.held, filled.ended, out, s)
 }
 
 // One call of the converter, if whoever started it is still there.

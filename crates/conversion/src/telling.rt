@@ -1,10 +1,16 @@
 // What people are told of a conversion: how much was done, or what was refused, where, and inside which open elements.
 ghost use mathlib.Core.Path.{_≡_};
+ghost use Prim.Native.Nat.{_≤_};
 ghost use lib.ListN.{length};
+use crate::behind::Lines;
+use crate::behind::Tail;
 use crate::place::Place;
+use crate::place::goes_on;
+use crate::place::last_line;
 use crate::run::Standing;
 use libc::STDOUT_FILENO;
 use state::State;
+use std::num::wrapping_add_usize;
 use words::say;
 
 // The most bytes that are shown of what was refused: as many as a token may have.
@@ -14,19 +20,64 @@ fn say_number(n: u64) {
     io::print_decimal(STDOUT_FILENO, n);
 }
 
-// The first bytes of what is left of the schedule.
-fn say_front(bytes: &[u8]) {
+// How many bytes at the start are the rest of a character that starts before them.
+fn rest_of_character(bytes: &[u8]) -> usize
+    ensures { λ r. ⌜ r ≤ length (now (bytes .entry)) ⌝ }
+{
+    let mut i = 0;
+    while i < bytes.len() {
+        if !goes_on(bytes[i]) {
+            return i;
+        }
+        i += 1;
+    }
+    i
+}
+
+// The last bytes before a place, as far as they are of its line; what comes before them in the line is left out. Answers in how many columns.
+fn say_line_before(bytes: &[u8], is_all: bool) -> usize {
+    let from = last_line(bytes);
+    if (from > 0) | is_all {
+        return explain::say_shown(&bytes[from..]);
+    }
+    let whole = rest_of_character(bytes);
+    say(b".. ");
+    wrapping_add_usize(explain::say_shown(&bytes[whole..]), 3)
+}
+
+// The last bytes before a place, of which there are so many at the memory's end.
+fn say_tail(memory: &[u8], length: usize) -> usize {
+    let kept = files::within(length, memory);
+    let from = memory.len() - kept;
+    say_line_before(&memory[from..], kept < memory.len())
+}
+
+// A mark under a column, counted from 0.
+fn say_mark(column: usize) {
+    let mut i = 0;
+    while i < column {
+        say(b" ");
+        i += 1;
+    }
+    say(b"^\n");
+}
+
+// The line up to the place, the first bytes of what is left of the schedule, and a mark where they start.
+fn say_front(tail: Tail, bytes: &[u8]) {
     if bytes.len() == 0 {
         say(b"The file ends there.\n");
         return;
     }
-    say(b"There stands: ");
+    say(b"What stands there is marked:\n");
+    let before = tail.bytes;
+    let column = say_tail(&before, tail.length);
     let n = files::within(SHOWN, bytes);
     explain::say_shown(&bytes[..n]);
     if n < bytes.len() {
         say(b" ..");
     }
     say(b"\n");
+    say_mark(column);
 }
 
 fn say_place(place: Place) {
@@ -54,11 +105,32 @@ fn productions_of(z: State) -> [u8; State::DEPTH]
     productions
 }
 
-fn say_open_elements(sheet: &[u8], z: State) {
+fn say_open_elements(sheet: &[u8], z: State, lines: Lines) {
     let productions = productions_of(z);
     let depth = files::within(z.depth, &productions);
     let top = z.top();
-    report::say_open(sheet, &productions[..depth], top.place as usize);
+    let began = lines.lines;
+    report::say_open(sheet, &productions[..depth], &began, top.place as usize);
+}
+
+// Whether something else has to come: instead of what is no token, of an end tag that is another's, of what may not come, of an end that comes too early.
+fn is_misplaced(number: usize) -> bool {
+    match number {
+        20..=23 | 27 => true,
+        _ => false,
+    }
+}
+
+// What may come instead, in the innermost open element.
+fn say_instead(sheet: &[u8], number: usize, z: State) {
+    if z.depth == 0 {
+        return;
+    }
+    if !is_misplaced(number) {
+        return;
+    }
+    let top = z.top();
+    comes::say_may_come(sheet, top.production as usize, top.place as usize);
 }
 
 // Whether some bytes start with a byte order mark.
@@ -98,6 +170,9 @@ pub(crate) fn tell_refusal(sheet: &[u8], schedule: &[u8], s: Standing, left: &[u
     let number = s.number;
     let place = s.place;
     let state = s.state;
+    let behind = s.behind;
+    let tail = behind.tail;
+    let lines = behind.lines;
     say(schedule);
     say(b": number ");
     say_number(number as u64);
@@ -106,10 +181,11 @@ pub(crate) fn tell_refusal(sheet: &[u8], schedule: &[u8], s: Standing, left: &[u
     say(b"\n");
     say_of_room(number);
     say_place(place);
-    say_front(left);
+    say_front(tail, left);
     say_of_mark(place, left);
     say_of_front(number, left);
-    say_open_elements(sheet, state);
+    say_open_elements(sheet, state, lines);
+    say_instead(sheet, number, state);
 }
 
 // How much was done.

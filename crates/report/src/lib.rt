@@ -3,6 +3,7 @@ mod faults_told;
 mod opened;
 mod reasons;
 
+ghost use Rattle.faults.specs.Verdict.{VerdictIs};
 use layout::layout_of;
 use words::say;
 use words::say_number;
@@ -30,29 +31,32 @@ fn say_faults(sheet: &[u8], list: &[u8], count: usize) {
     faults_told::say_all(sheet, l, list, count);
 }
 
-// Says which elements are open, by the numbers of their productions from the outside in, and at which place the innermost stands, in a
+// Says which elements are open, by the numbers of their productions from the outside in, on which lines they began, and at which place the innermost stands, in a
 // schedule of a sheet that is well-formed; of any other sheet it says nothing.
-pub fn say_open(sheet: &[u8], productions: &[u8], place: usize) {
+pub fn say_open(sheet: &[u8], productions: &[u8], lines: &[u64], place: usize) {
     if sheet::defect(sheet) > 0 {
         return;
     }
     let l = layout_of(sheet);
-    opened::say_around(sheet, l, productions, place);
+    opened::say_around(sheet, l, productions, lines, place);
+}
+
+// What was found: the number, the first wrong record, every fault.
+fn tell(name: &[u8], sheet: &[u8], number: u8, count: usize, list: &[u8]) {
+    head(name, number, count);
+    wrong::say_place(sheet, number);
+    if (number == 8) | (number == 9) {
+        say_faults(sheet, list, count);
+    }
 }
 
 // Checks a sheet, says on standard output what was found, and answers the number of the table.
-pub fn report(name: &[u8], sheet: &[u8]) -> u8 {
+pub fn report(name: &[u8], sheet: &[u8]) -> u8
+    ensures { λ r. ⌜ VerdictIs (now (sheet .entry)) r ⌝ }
+{
     let mut list = io::large_buffer();
     let r = faults::check(sheet, &mut list);
     let number = r.number;
-    let count = r.count;
-    head(name, number, count);
-    wrong::say_place(sheet, number);
-    if number == 8 {
-        say_faults(sheet, &list, count);
-    }
-    if number == 9 {
-        say_faults(sheet, &list, count);
-    }
+    tell(name, sheet, number, r.count, &list);
     number
 }

@@ -6,6 +6,7 @@ use crate::faults_told::say_production;
 use layout::Layout;
 use layout::byte_at;
 use layout::tag_number_of;
+use libc::STDOUT_FILENO;
 use words::say;
 use words::say_expression;
 use words::say_tag;
@@ -36,7 +37,16 @@ fn say_content(s: &[u8], l: Layout, q: usize, place: usize)
     say(b".\n");
 }
 
-fn say_elements(s: &[u8], l: Layout, productions: &[u8])
+// The line on which an element began, where it is known.
+fn say_line(lines: &[u64], i: usize) {
+    if i < lines.len() {
+        say(b" (line ");
+        io::print_decimal(STDOUT_FILENO, lines[i]);
+        say(b")");
+    }
+}
+
+fn say_elements(s: &[u8], l: Layout, productions: &[u8], lines: &[u64])
     requires { ⌜ LaidOut (now s) l ⌝ }
 {
     say(b"Open there, from the outside in:");
@@ -44,13 +54,14 @@ fn say_elements(s: &[u8], l: Layout, productions: &[u8])
     while i < productions.len() {
         say(b" ");
         say_element(s, l, byte_at(productions, i));
+        say_line(lines, i);
         i += 1;
     }
     say(b"\n");
 }
 
 // The elements, and where the innermost stands; or, where none is open, which the root is.
-pub(crate) fn say_around(s: &[u8], l: Layout, productions: &[u8], place: usize)
+pub(crate) fn say_around(s: &[u8], l: Layout, productions: &[u8], lines: &[u64], place: usize)
     requires { ⌜ LaidOut (now s) l ⌝ }
     requires { ⌜ RunsInside (now s) ⌝ }
 {
@@ -60,6 +71,6 @@ pub(crate) fn say_around(s: &[u8], l: Layout, productions: &[u8], place: usize)
         say(b".\n");
         return;
     }
-    say_elements(s, l, productions);
+    say_elements(s, l, productions, lines);
     say_content(s, l, byte_at(productions, productions.len() - 1), place);
 }

@@ -1,0 +1,46 @@
+-- The list that is lent holds every fault, so the number is never 10.
+use native.Mathlib.Omega.{arith}
+use Rattle.report.proofs.Verdicts.{verdict-reported}
+use borrow.Author.Needs.{needs}
+use Rattle.report.proofs.report.Statement.{statement}
+use Rattle.report.proofs.report.Tie as tie
+use Rattle.report.proofs.report.Reads as reads
+use Rattle.report.proofs.report.Lts as lts
+use Rattle.faults.proofs.check.Reads as check-reads
+use Rattle.io.proofs.large_buffer.Reads as large-buffer-reads
+use Rattle.report.proofs.tell.Reads as tell-reads
+
+-- src/lib.rt:57:20
+large-buffer-requires : tie.Need-large-buffer-requires
+large-buffer-requires c κs = search needs
+
+-- src/lib.rt:58:34
+slice-aggregate-check : tie.Need-slice-aggregate-check
+slice-aggregate-check c = search needs
+
+-- src/lib.rt:58:9
+check-requires : tie.Need-check-requires
+check-requires c κs = search needs
+
+-- src/lib.rt:60:40
+slice-aggregate-tell : tie.Need-slice-aggregate-tell
+slice-aggregate-tell c = search needs
+
+-- src/lib.rt:60:5
+tell-requires : tie.Need-tell-requires
+tell-requires c κs = search needs
+
+-- src/lib.rt:54:1
+returns : tie.Need-returns
+returns c = verdict-reported (c .before .before .before .check .ensures) (omega (arith, c .before .before .before .before .before .large-buffer .ensures))
+
+pub report-spec : {M : Type 1} → statement M
+report-spec =
+    tie.close
+    (tie.spec
+    large-buffer-requires
+    slice-aggregate-check
+    check-requires
+    slice-aggregate-tell
+    tell-requires
+    returns)
