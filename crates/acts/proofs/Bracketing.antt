@@ -398,3 +398,36 @@ module _ (s : List ℕ) (q : ℕ) (line : List ℕ) (z₀ : State) (p : Pen) whe
                 subst (λ (k : ℕ). LeftOf a q α (drop k α) ns′ z₀ (v .state) p (v .at) d₁) (sym (add-one i))
                 (left-on s a y q α ns′ z₀ z p at d o os e (it α l .it) (drop (suc i) α) (at-it a y α l h o os e ns ns′ t n) v d₁ (its-node α l) on);
           }
+
+-- a rejection says nothing of the state
+pub void : (t : Option Store) (k : Control) (z : State) (p : Pen) (v : Acted) (d : List ℕ) → v .ok ≡ false → Comes t k z p v d → Comes t k z p (record { ok = false; at = v .at; state = z }) d
+void none k z p v d f c = refl
+void (some m) k z p v d f c = absurd (true≢false (sym (c .ok) ∙ f))
+
+pub gives-up : (s : List ℕ) (q : ℕ) (line : List ℕ) (z : State) (p : Pen) (v : Acted) (d : List ℕ) → v .ok ≡ false → BracketsAs s q line z p v d → BracketsAs s q line z p (record { ok = false; at = v .at; state = z }) d
+gives-up s q line z p v d f B =
+    record {
+      reach = B .reach;
+      count = omega arith;
+      deep = refl;
+      dry = B .dry;
+      right = λ a y α l h o os e ns ns′ t n. void (acts a (bracket-acts q α) (meaningOf z .store)) (meaningOf z .control) z p v d f (B .right a y α l h o os e ns ns′ t n);
+    }
+
+-- a bracket of a string always has room for its set, or a set to take off
+pub no-room : (s : List ℕ) (q : ℕ) (line : List ℕ) (z₀ : State) (p : Pen) (i : ℕ) (z : State) (at : ℕ) (d : List ℕ) → LeftIn s q line i z₀ p z at d → i < length line → length line ≤ mostBrackets →
+    ((b : Bracket) → getD line i 0 ≡ codeOf b → Shaped z → 0 < z .depth → Room b (topOf z .«open») → ⊥) → BracketsAs s q line z₀ p (record { ok = false; at = at; state = z₀ }) d
+no-room s q line z₀ p i z at d L here few never =
+    record {
+      reach = omega (arith, L .few, L .reach);
+      count = omega arith;
+      deep = refl;
+      dry = L .dry;
+      right = λ a y α l h o os e ns ns′ t n. absurd (go a y α l h o os e ns ns′ t n (line-bracket α line l i here) (L .left-of a y α l h o os e ns ns′ t n));
+    }
+  where
+    go : (a : Sheet) → IsSheet s a → (α : List Bracket) → line ≡ codes α → Shaped z₀ → (o : Open) (os : List Open) → meaningOf z₀ .control ≡ inside o os → (ns ns′ : List ℕ) → through-nodes 12 α ns ≡ some ns′ → topOf z₀ .«open» ≡ suc (length ns) →
+        BracketAt α line i → LeftOf a q α (drop i α) ns′ z₀ z p at d → ⊥
+    go a y α l h o os e ns ns′ t n it L′ =
+        never (it .it) (it .byte) (L′ .shaped) (inside-open z o os (L′ .control ∙ e))
+        (pass (it .it) (drop (suc i) α) (L′ .nodes) ns′ (topOf z .«open») (subst (λ (β : List Bracket). through-nodes 12 β (L′ .nodes) ≡ some ns′) (it .rest) (L′ .through)) (L′ .sets) .room)

@@ -15,6 +15,9 @@ use Rattle.sheet.specs.Sheet.{Sheet, IsSheet}
 use Rattle.output.specs.Escape.{Piece, start, end, render}
 use Rattle.visits.specs.Written.{Pen}
 use Rattle.visits.specs.Ran.{mostPrinted, Comes as Came}
+use Rattle.visits.specs.Performed.{PerformedAs}
+use Rattle.visits.specs.declared.Env.{Env}
+use Rattle.visits.specs.declared.Performed.{Performed}
 use Rattle.ways.specs.Held.{codeOf}
 use Rattle.runs.specs.Visits.{programsOf, performed, tagName, whileOn}
 use Rattle.runs.specs.Acts.{bracket-act, act}
@@ -42,6 +45,13 @@ recalledIn true kept = kept
 -- r is the field that names the program for a visit of production q's node i
 pub record FieldFound (s : List ℕ) (q i : ℕ) (again : Bool) (r : ℕ) : Type 0 where
   pub is : (a : Sheet) (y : IsSheet s a) → FieldIs (y .well-formed .programs .programs) (visitOf again) r (programFor again (programsOf (a .rules) q i))
+
+-- the program of production q's node i for a visit, performed: reach is what a caller asks of output
+pub record PerformsAs (s : List ℕ) (q i : ℕ) (again : Bool) (kept : List ℕ) (e : Env) (p : Pen) (r : Performed) (d : List ℕ) : Type 0 where
+  pub reach : r .at ≤ p .at + mostPrinted * 16384
+  pub field : ℕ
+  pub found : FieldFound s q i again field
+  pub done : PerformedAs s field kept e p r d
 
 -- a visit of production q's node i: it changes attributes, echo and count alone
 pub record VisitedAs (s : List ℕ) (q i : ℕ) (again : Bool) (kept : List ℕ) (z : State) (p : Pen) (r : Acted) (d : List ℕ) : Type 0 where

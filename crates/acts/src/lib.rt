@@ -4,7 +4,6 @@ ghost use mathlib.Core.List.{List};
 ghost use lib.ListN.{length};
 ghost use Prim.Native.Nat.{ℕ, _+_, _≤_, _<_, _^_};
 ghost use Rattle.text.specs.Chars.{Char};
-ghost use Rattle.expressions.specs.Words.{opening, closing};
 ghost use Rattle.layout.specs.LaidOut.{LaidOut};
 ghost use Rattle.sheet.specs.Defect.{WellFormed};
 ghost use Rattle.runs.specs.Machine.{most};
@@ -13,12 +12,15 @@ ghost use Rattle.live.specs.Live.{full, SameBelow};
 ghost use Rattle.few.specs.Strings.{mostBrackets};
 ghost use Rattle.acts.specs.Seen.{seen};
 ghost use Rattle.acts.specs.Acted.{EntersAs, LeavesAs, ReadsAs, BracketsAs};
-ghost use Rattle.acts.specs.Visited.{FieldFound, VisitedAs, EchoedAs, NodeAs, BracketAs};
+ghost use Rattle.acts.specs.Visited.{FieldFound, PerformsAs, VisitedAs, EchoedAs};
+ghost use Rattle.acts.specs.Standing.{SlotIs, standingAt, rejectedAt};
 use layout::Layout;
 use live::Live;
 use state::Frame;
 use state::Saved;
 use state::State;
+use visits::Env;
+use visits::Performed;
 
 // A field that names no program.
 const NONE: usize = 65535;
@@ -53,6 +55,29 @@ fn field_of(s: &[u8], l: Layout, q: usize, i: usize, again: bool) -> usize
     layout::first_program_of_node(s, l, node)
 }
 
+// The program of production q's node i for its first visit or its second, run on the attributes and echo alone.
+fn perform(
+    s: &[u8],
+    l: Layout,
+    q: usize,
+    i: usize,
+    again: bool,
+    kept: [u8; State::ATTRIBUTES],
+    before: Env,
+    out: &mut [u8],
+    at: usize,
+    write: bool,
+) -> Performed
+    requires { ⌜ LaidOut (now s) l ⌝ }
+    requires { ⌜ q < l .productions ⌝ }
+    requires { ⌜ at ≤ 2 ^ 60 ⌝ }
+    requires { ⌜ WellFormed (now s) ⌝ }
+    ensures { λ r. ⌜ PerformsAs (now (s .entry)) q i again kept before (record { write = write; lent = now (out .entry); at = at }) r (now (out .exit)) ⌝ }
+{
+    let field = field_of(s, l, q, i, again);
+    visits::perform(s, l, field, kept, before, out, at, write)
+}
+
 // A visit of production q's node i, which counts one with or without a program.
 fn visit(
     s: &[u8],
@@ -74,7 +99,7 @@ fn visit(
     ensures { λ r. ⌜ ((b : List ℕ) → VisitedAs (now (s .entry)) q i again kept (full z b) (record { write = write; lent = now (out .entry); at = at }) (seen r b) (now (out .exit))) ⌝ }
 {
     let values = z.values;
-    let before = visits::Env {
+    let before = Env {
         values: values,
         echo: z.echo,
     };
@@ -214,102 +239,61 @@ pub fn read_character(c: u32, z: Live, out: &mut [u8], at: usize, write: bool) -
     }
 }
 
-// An opening bracket of production q: node i's first visit, of which the attributes just after it and echo before it are kept.
-fn open_node(
-    s: &[u8],
-    l: Layout,
-    q: usize,
-    i: usize,
-    z: Live,
-    out: &mut [u8],
-    at: usize,
-    write: bool,
-) -> Acted
-    requires { ⌜ LaidOut (now s) l ⌝ }
-    requires { ⌜ q < l .productions ⌝ }
-    requires { ⌜ at ≤ 2 ^ 60 ⌝ }
-    requires { ⌜ z .count + 1 < 2 ^ 64 ⌝ }
-    requires { ⌜ WellFormed (now s) ⌝ }
-    ensures { λ r. ⌜ ((b : List ℕ) → NodeAs (now (s .entry)) q (opening i) (full z b) (record { write = write; lent = now (out .entry); at = at }) (seen r b) (now (out .exit))) ⌝ }
+// Where the set of a bracket stands, n sets being in use: the one that an opening one keeps, or that a closing one takes off. Past all sets where no element is
+// open, or there is none to take.
+fn slot(c: u8, n: u8, depth: usize) -> usize
+    ensures { λ r. ⌜ SlotIs c n depth r ⌝ }
 {
-    let nothing = [0u8; State::ATTRIBUTES];
-    let visited = visit(s, l, q, i, false, nothing, z, out, at, write);
-    if !visited.ok {
-        return visited;
+    let k = n as usize;
+    if depth == 0 {
+        return Frame::SETS;
     }
-    let after = visited.live;
-    let given = after.values;
-    let kept = Saved {
-        values: given,
-        echo: z.echo,
-    };
-    Acted {
-        ok: true,
-        at: visited.at,
-        live: after.save(kept),
-    }
-}
-
-// A closing bracket of production q: node i's second visit, with the values just after its first; last of all echo returns.
-fn close_node(
-    s: &[u8],
-    l: Layout,
-    q: usize,
-    i: usize,
-    z: Live,
-    out: &mut [u8],
-    at: usize,
-    write: bool,
-) -> Acted
-    requires { ⌜ LaidOut (now s) l ⌝ }
-    requires { ⌜ q < l .productions ⌝ }
-    requires { ⌜ at ≤ 2 ^ 60 ⌝ }
-    requires { ⌜ z .count + 1 < 2 ^ 64 ⌝ }
-    requires { ⌜ WellFormed (now s) ⌝ }
-    ensures { λ r. ⌜ ((b : List ℕ) → NodeAs (now (s .entry)) q (closing i) (full z b) (record { write = write; lent = now (out .entry); at = at }) (seen r b) (now (out .exit))) ⌝ }
-{
-    let taken = z.restore();
-    let kept = taken.saved;
-    let values = kept.values;
-    let visited = visit(s, l, q, i, true, values, taken.live, out, at, write);
-    if !visited.ok {
-        return visited;
-    }
-    let after = visited.live;
-    let changed = after.values;
-    Acted {
-        ok: true,
-        at: visited.at,
-        live: after.with_env(changed, kept.echo, after.count),
-    }
-}
-
-// The bracket of production q whose byte is c.
-fn bracket(
-    s: &[u8],
-    l: Layout,
-    q: usize,
-    c: u8,
-    z: Live,
-    out: &mut [u8],
-    at: usize,
-    write: bool,
-) -> Acted
-    requires { ⌜ LaidOut (now s) l ⌝ }
-    requires { ⌜ q < l .productions ⌝ }
-    requires { ⌜ at ≤ 2 ^ 60 ⌝ }
-    requires { ⌜ z .count + 1 < 2 ^ 64 ⌝ }
-    requires { ⌜ WellFormed (now s) ⌝ }
-    ensures { λ r. ⌜ ((b : List ℕ) → BracketAs (now (s .entry)) q c (full z b) (record { write = write; lent = now (out .entry); at = at }) (seen r b) (now (out .exit))) ⌝ }
-{
-    let i = (c / 2) as usize;
     if c % 2 == 0 {
-        return open_node(s, l, q, i, z, out, at, write);
+        return k;
     }
-    close_node(s, l, q, i, z, out, at, write)
+    if k == 0 {
+        return Frame::SETS;
+    }
+    k - 1
 }
 
-// The brackets of a string, in turn, until a program rejects.
+// The state after i brackets of z's: other attributes and echo, i visits more, and the sets of its innermost element.
+fn standing(z: Live, i: usize, env: Env, n: u8, sets: [Saved; Frame::SETS]) -> Live
+    requires { ⌜ z .count + i < 2 ^ 64 ⌝ }
+    ensures { λ r. ⌜ r ≡ standingAt z i env n sets ⌝ }
+{
+    let values = env.values;
+    let f = z.top;
+    let top = Frame {
+        production: f.production,
+        place: f.place,
+        open: n,
+        saved: sets,
+    };
+    Live {
+        values: values,
+        echo: env.echo,
+        count: z.count + (i as u64),
+        rooted: z.rooted,
+        closed: z.closed,
+        depth: z.depth,
+        top: top,
+    }
+}
+
+// A rejection leaves the state as it was.
+fn rejected(z: Live, at: usize) -> Acted
+    ensures { λ r. ⌜ r ≡ rejectedAt z at ⌝ }
+{
+    Acted {
+        ok: false,
+        at: at,
+        live: z,
+    }
+}
+
+// The brackets of a string, in turn, until a program rejects. A byte's half is its node. An even one opens it: its first visit, of which the attributes just
+// after it and echo before it are kept. An odd one closes it: its second visit, with the values just after its first, and last of all echo returns.
 pub fn brackets(
     s: &[u8],
     l: Layout,
@@ -328,21 +312,61 @@ pub fn brackets(
     requires { ⌜ WellFormed (now s) ⌝ }
     ensures { λ r. ⌜ ((b : List ℕ) → BracketsAs (now (s .entry)) q (now (line .entry)) (full z b) (record { write = write; lent = now (out .entry); at = at }) (seen r b) (now (out .exit))) ⌝ }
 {
+    let top = z.top;
     let mut i = 0;
     let mut to = at;
-    let mut live = z;
+    let mut n = top.open;
+    let mut sets = top.saved;
+    let values = z.values;
+    let mut env = Env {
+        values: values,
+        echo: z.echo,
+    };
     while i < line.len() {
-        let next = bracket(s, l, q, line[i], live, out, to, write);
-        if !next.ok {
-            return next;
+        let c = line[i];
+        let j = slot(c, n, z.depth);
+        if Frame::SETS <= j {
+            return rejected(z, to);
         }
-        to = next.at;
-        live = next.live;
+        let old = sets[j];
+        let kept = old.values;
+        let done = perform(
+            s,
+            l,
+            q,
+            (c / 2) as usize,
+            c % 2 == 1,
+            kept,
+            env,
+            out,
+            to,
+            write,
+        );
+        if !done.ok {
+            return rejected(z, done.at);
+        }
+        let after = done.env;
+        let given = after.values;
+        if c % 2 == 0 {
+            sets[j] = Saved {
+                values: given,
+                echo: env.echo,
+            };
+            n = n + 1;
+            env = after;
+        } else {
+            n = n - 1;
+            env = Env {
+                values: given,
+                echo: old.echo,
+            };
+        }
+        to = done.at;
         i += 1;
     }
     Acted {
         ok: true,
         at: to,
-        live: live,
+        live: standing(z, i, env, n, sets),
     }
 }
