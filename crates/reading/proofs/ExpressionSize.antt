@@ -39,15 +39,15 @@ under-refl t = record { few = omega arith; few-starred = omega arith; low = omeg
 under-same : {t u : Tree} → t ≡ u → Under t u
 under-same {t} {u} e = subst (Under t) e (under-refl t)
 
-within-append : (xs ys : List Visits) → AllWithin xs → AllWithin ys → AllWithin (xs ++ ys)
+pub within-append : (xs ys : List Visits) → AllWithin xs → AllWithin ys → AllWithin (xs ++ ys)
 within-append [] ys h k = k
 within-append (x ∷ xs) ys h k = (h .0, within-append xs ys (h .1) k)
 
-within-left : (xs ys : List Visits) → AllWithin (xs ++ ys) → AllWithin xs
+pub within-left : (xs ys : List Visits) → AllWithin (xs ++ ys) → AllWithin xs
 within-left [] ys h = tt
 within-left (x ∷ xs) ys h = (h .0, within-left xs ys (h .1))
 
-within-right : (xs ys : List Visits) → AllWithin (xs ++ ys) → AllWithin ys
+pub within-right : (xs ys : List Visits) → AllWithin (xs ++ ys) → AllWithin ys
 within-right [] ys h = h
 within-right (x ∷ xs) ys h = within-right xs ys (h .1)
 
@@ -64,11 +64,11 @@ atom-under k t =
     record { few = n .0; few-starred = omega (arith, n .0); low = n .1; low-starred = omega (arith, n .1); programs = λ h. ((tt, tt), tt) }
 
 -- a program in front
-front-within : (p : Program) (t : Tree) → ProgramWithin p → AllWithin (visits t) → AllWithin (visits (sealed (some p) t))
+pub front-within : (p : Program) (t : Tree) → ProgramWithin p → AllWithin (visits t) → AllWithin (visits (sealed (some p) t))
 front-within p (node none g k) w h = ((w, h .0 .1), h .1)
 front-within p (node (some q) g k) w h = ((w, tt), h)
 
-front-was-within : (p : Program) (t : Tree) → AllWithin (visits (sealed (some p) t)) → ProgramWithin p × AllWithin (visits t)
+pub front-was-within : (p : Program) (t : Tree) → AllWithin (visits (sealed (some p) t)) → ProgramWithin p × AllWithin (visits t)
 front-was-within p (node none g k) h = (h .0 .0, ((tt, h .0 .1), h .1))
 front-was-within p (node (some q) g k) h = (h .0 .0, h .1)
 
@@ -76,7 +76,7 @@ sealed-nodes : (p : Program) (t : Tree) → (nodes (expression (sealed (some p) 
 sealed-nodes p (node none g k) = (omega arith, omega arith, refl)
 sealed-nodes p (node (some q) g k) = (omega arith, omega arith, refl)
 
-sealed-none : (t : Tree) → sealed none t ≡ t
+pub sealed-none : (t : Tree) → sealed none t ≡ t
 sealed-none (node f g k) = refl
 
 sealed-under : (b : Option Program) {t u : Tree} → Under t u → Under (sealed b t) (sealed b u)

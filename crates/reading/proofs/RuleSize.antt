@@ -17,11 +17,11 @@ use Rattle.reading.specs.Rules.{Key, a-nonterminal, a-name, a-definition
 use Rattle.reading.proofs.ExpressionSize.{Under, UnderContent, Grown as ContentGrown, step-grows as content-step-grows, list-grows}
 use Rattle.reading.proofs.Expressions.{content-smaller, finished-value}
 
-nodes-append : (rs qs : List Rule) → nodesInAll (rs ++ qs) ≡ nodesInAll rs + nodesInAll qs
+pub nodes-append : (rs qs : List Rule) → nodesInAll (rs ++ qs) ≡ nodesInAll rs + nodesInAll qs
 nodes-append [] qs = omega arith
 nodes-append (r ∷ rs) qs = omega (arith, nodes-append rs qs)
 
-each-front : (rs qs : List Rule) → EachWithin (rs ++ qs) → EachWithin rs
+pub each-front : (rs qs : List Rule) → EachWithin (rs ++ qs) → EachWithin rs
 each-front [] qs h = tt
 each-front (r ∷ rs) qs h = (h .0, each-front rs qs (h .1))
 

@@ -1,0 +1,6 @@
+pub mod Entered
+pub mod Figures
+pub mod Fitting
+pub mod Kept
+pub mod Promises
+pub mod Steps

@@ -1,0 +1,5 @@
+pub mod Figures
+pub mod Kept
+pub mod Moves
+pub mod Promises
+pub mod Sketched
