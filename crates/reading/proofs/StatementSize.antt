@@ -29,15 +29,15 @@ under-refl p = record { bytes = omega arith; deep = omega arith }
 under-same : {p q : Program} → p ≡ q → Under p q
 under-same {p} {q} e = subst (Under p) e (under-refl p)
 
-then-size : (p q : Program) → suc (sizeOf (p then q)) ≡ sizeOf p + sizeOf q
+pub then-size : (p q : Program) → suc (sizeOf (p then q)) ≡ sizeOf p + sizeOf q
 then-size done q = omega arith
 then-size (step t p) q = simp length-append (omega (arith, then-size p q))
 
-then-nesting : (p q : Program) → nestingOf (p then q) ≡ max (nestingOf p) (nestingOf q)
+pub then-nesting : (p q : Program) → nestingOf (p then q) ≡ max (nestingOf p) (nestingOf q)
 then-nesting done q = omega arith
 then-nesting (step t p) q = omega (arith, then-nesting p q)
 
-at-least-one : (p : Program) → 1 ≤ sizeOf p
+pub at-least-one : (p : Program) → 1 ≤ sizeOf p
 at-least-one done = omega arith
 at-least-one (step t p) = simp length-append (omega (arith, at-least-one p))
 

@@ -1,0 +1,3 @@
+pub mod KindTests
+pub mod Stacks
+pub mod Parts
