@@ -149,7 +149,7 @@ module _ (a b : Sheet) (s : SameByName a b) (differ : NamesDiffer (a .names)) (d
       let same = can-alike (some (tagOf (grammar a) (o .0))) (some u) (grammar a) (grammar b) (tag-alike (o .0) (o .1)) in
       let g = tag-fault (tagsOf (grammar a)) (tagsOf (grammar b)) t u (subst (λ z. (k : Atom) → canBe (tagsOf (grammar a)) k (tag z) ≡ canBe (tagsOf (grammar b)) k (tag u)) (o .2) same) (d .content) place f in (
         9 ∷ number ∷ place ∷ u ∷ [],
-        before-tag number place t u (subst (λ z. nameOf (a .names) z ≡ nameOf (b .names) u) (o .2) (name-same (o .0) (o .1))),
+        before-tag number place t u (subst (λ z. z < length (a .names)) (o .2) (tag-below (length (a .names)) (a .rules) tags (o .0) (o .1))) (tag-below (length (b .names)) (b .rules) tags′ (o .0) (omega (arith, o .1, as-many))) (subst (λ z. nameOf (a .names) z ≡ nameOf (b .names) u) (o .2) (name-same (o .0) (o .1))),
         record { number = number; production = r .it; place = place; next = tag u; is-production = r .is; fault = subst (λ c. Fault (tagsOf (grammar b)) c place (tag u)) (r .same-content) g; are-bytes = refl },
       )
   s-too number place d character n f =
@@ -195,7 +195,7 @@ module _ (a b : Sheet) (s : SameByName a b) (differ : NamesDiffer (a .names)) (d
       let m : nameOf (b .names) (tagOf (grammar b) (f .second)) ≡ nameOf (b .names) u = sym (name-same (f .second) (q .inside)) ∙ ap (nameOf (a .names)) j ∙ n in
       let same : tagOf (grammar b) (f .second) ≡ u = differ′ (tagOf (grammar b) (f .second)) u (tag-below (length (b .names)) (b .rules) tags′ (f .second) (omega (arith, q .inside, as-many))) (tag-below (length (b .names)) (b .rules) tags′ (f .first) (omega (arith, p .inside, as-many))) m in (
         8 ∷ f .nonterm ∷ u ∷ 0 ∷ [],
-        subst (λ z. EntryAlike a b z (8 ∷ f .nonterm ∷ u ∷ 0 ∷ [])) (sym (f .are-bytes)) (shared-tag (f .nonterm) t u n),
+        subst (λ z. EntryAlike a b z (8 ∷ f .nonterm ∷ u ∷ 0 ∷ [])) (sym (f .are-bytes)) (shared-tag (f .nonterm) t u (subst (λ z. z < length (a .names)) i (tag-below (length (a .names)) (a .rules) tags (f .first) (p .inside))) (tag-below (length (b .names)) (b .rules) tags′ (f .first) (omega (arith, p .inside, as-many))) n),
         record {
           nonterm = f .nonterm;
           tagno = u;

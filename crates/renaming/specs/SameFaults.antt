@@ -2,7 +2,8 @@
 use mathlib.Core.Path.{_≡_}
 use mathlib.Core.List.{List, [], _∷_}
 use mathlib.Core.Logic.{_↔_}
-use Prim.Native.Nat.{ℕ}
+use Prim.Native.Nat.{ℕ, _<_}
+use lib.ListN.{length}
 use Rattle.expressions.specs.Grammar.{character, end, byteOf}
 use Rattle.expressions.specs.FaultList.{TFault, SFault, FaultNumber}
 use Rattle.sheet.specs.Sheet.{Sheet}
@@ -13,8 +14,8 @@ use Rattle.naming.specs.ByName.{SameByName}
 
 -- entries of the two lists: with the same tag by name, or the same entry, before a character or the end
 pub data EntryAlike (a b : Sheet) : List ℕ → List ℕ → Type 0 where
-  shared-tag : (n t u : ℕ) → nameOf (a .names) t ≡ nameOf (b .names) u → EntryAlike a b (8 ∷ n ∷ t ∷ 0 ∷ []) (8 ∷ n ∷ u ∷ 0 ∷ [])
-  before-tag : (q p t u : ℕ) → nameOf (a .names) t ≡ nameOf (b .names) u → EntryAlike a b (9 ∷ q ∷ p ∷ t ∷ []) (9 ∷ q ∷ p ∷ u ∷ [])
+  shared-tag : (n t u : ℕ) → t < length (a .names) → u < length (b .names) → nameOf (a .names) t ≡ nameOf (b .names) u → EntryAlike a b (8 ∷ n ∷ t ∷ 0 ∷ []) (8 ∷ n ∷ u ∷ 0 ∷ [])
+  before-tag : (q p t u : ℕ) → t < length (a .names) → u < length (b .names) → nameOf (a .names) t ≡ nameOf (b .names) u → EntryAlike a b (9 ∷ q ∷ p ∷ t ∷ []) (9 ∷ q ∷ p ∷ u ∷ [])
   before-character : (q p : ℕ) → EntryAlike a b (9 ∷ q ∷ p ∷ byteOf character ∷ []) (9 ∷ q ∷ p ∷ byteOf character ∷ [])
   before-end : (q p : ℕ) → EntryAlike a b (9 ∷ q ∷ p ∷ byteOf end ∷ []) (9 ∷ q ∷ p ∷ byteOf end ∷ [])
 
