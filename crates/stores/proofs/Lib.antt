@@ -1,0 +1,5 @@
+pub mod Grows
+pub mod Compared
+pub mod Found
+pub mod Behind
+pub mod Filing
