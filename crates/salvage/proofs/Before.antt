@@ -198,3 +198,13 @@ module _ (a : Sheet) (p u v : List ℕ) where
         let (e′, m′, q) = token-kept at e next m k in
         ends e′ next z w m′ (ap (oneToken a y (roomLeft area v)) q ∙ t) h
     record-kept (breaks {at} {y} {v} n q) k = breaks n (stop-kept at (roomLeft area v) y n (k .0) (k .1) q)
+
+    -- a record that is refused before the <, or by what stands there
+    pub record-stops : {at : ℕ} {y : Configuration} {v : List ℕ} (n to : ℕ) (y₁ : Configuration) (n′ : ℕ) → InRecord a s area at y v (broken n to y₁) → to ≤ length p →
+        ((room : ℕ) → Stop a s′ false to room y₁ n′) → InRecord a s′ area at y v (broken n′ to y₁)
+    record-stops n to y₁ n′ (goes-on {at} {y} {v} e next y′ w m t h d) l q =
+        let i = token-in s at e next m in
+        let j = record-moves a s area d (i .1) in
+        let (e′, m′, f) = token-kept at e next m (omega (arith, j .0, l)) in
+        goes-on e′ next y′ w m′ (ap (oneToken a y (roomLeft area v)) f ∙ t) h (record-stops n to y₁ n′ d l q)
+    record-stops {at} {y} {v} n to y₁ n′ (breaks k f) l q = breaks n′ (q (roomLeft area v))

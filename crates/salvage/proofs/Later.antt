@@ -18,14 +18,20 @@ use Rattle.sheet.specs.Sheet.{Sheet}
 use Rattle.runs.specs.Machine.{Configuration}
 use Rattle.calls.specs.Names.{tokenOf}
 use Rattle.calls.specs.Limits.{oneToken}
-use Rattle.calls.specs.Call.{stopped-at, roomLeft}
+use Rattle.calls.specs.Call.{Result, stopped-at, roomLeft}
 use Rattle.calls.proofs.Read.{read-token, read-moves, token-there}
 use Rattle.salvage.specs.Shape.{RecordTags}
 use Rattle.salvage.specs.Resumption.{recordStart, rootEnd, MayResume, ResumesAt}
 use Rattle.salvage.specs.Salvage.{beginsRecord, RecordAt, NoRecordAt, RecordEnd, whole, broken, InRecord, goes-on, ends, breaks, LostStretch, lost, Salvage, without-report, behind-output, reporting, Salvages, passes, stands, keeps, full, waits, drops, loses, cut-off, over}
-use Rattle.salvage.specs.NeverSent.{later-stretches, later-salvage}
+use Rattle.salvage.specs.NeverSent.{later-stretches}
 use Rattle.salvage.proofs.Follows.{stop-there, record-moves}
 use Rattle.salvage.proofs.Main.{record-begins, resumes-in}
+
+abbrev pub later-result : ℕ → Result → Result
+later-result n r = record { number = r .number; taken = n + r .taken; output = r .output; held = r .held }
+
+abbrev pub later-salvage : ℕ → Salvage → Salvage
+later-salvage n r = record { answer = later-result n (r .answer); report = later-stretches n (r .report) }
 
 abbrev later-end : ℕ → RecordEnd → RecordEnd
 later-end k (whole at y next z w) = whole (k + at) y (k + next) z w

@@ -2,11 +2,13 @@ pub mod One
 pub mod Follows
 pub mod Main
 pub mod Depths
+pub mod Inside
 pub mod Some
 pub mod Never
 pub mod Opens
 pub mod Before
 pub mod Later
 pub mod NeverSent
+pub mod Unended
 pub mod AsIf
 pub mod Shapes

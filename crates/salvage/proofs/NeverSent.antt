@@ -17,12 +17,21 @@ use Rattle.runs.specs.Machine.{Configuration}
 use Rattle.salvage.specs.Shape.{RecordTags}
 use Rattle.salvage.specs.Resumption.{recordStart, rootEnd, MayResume, ResumesAt}
 use Rattle.salvage.specs.Salvage.{lost, Salvage, reporting, Salvages, drops}
-use Rattle.salvage.specs.NeverSent.{DamagedRecord, AsWithout, RestAsIfNeverSent}
+use Rattle.salvage.specs.NeverSent.{DamagedRecord}
 use Rattle.salvage.proofs.One.{salvage-one}
 use Rattle.salvage.proofs.Some.{runs-on}
 use Rattle.salvage.proofs.Opens.{NoOpen, OpensOnce, none-append, name-none}
 use Rattle.salvage.proofs.Before.{lies-in}
-use Rattle.salvage.proofs.Later.{moves}
+use Rattle.salvage.proofs.Later.{later-salvage, moves}
+
+-- the run on the stream without it, from the same place in the same state and room, answers the same, with the same output, visits and state; its report is the same but for that
+-- record's stretch, which is d
+pub record AsWithout (a : Sheet) (x : RecordTags) (area room : ℕ) (p d q : List ℕ) (z : Configuration) (n : ℕ) (r : Salvage) : Type 0 where
+  pub without : Salvage
+  pub salvages : Salvages a x (p ++ q) area (length p) room z without
+  pub last : ℕ
+  pub is-last : suc last ≡ length p + length d
+  pub same : r ≡ reporting (lost (length p) last n) (later-salvage (length d) without)
 
 names-none : (ns : List (List ℕ)) (t : ℕ) → NamesFit ns → NoOpen (nameOf ns t)
 names-none [] t h = tt
@@ -87,7 +96,8 @@ module _ (a : Sheet) (x : RecordTags) (fit : NamesFit (a .names)) where
         let c : i ≡ length p + j = omega (arith, l) in
         ap (λ (u : ℕ). drop u s) b ∙ in-d (length d + j) ∙ drop-append-add d q j ∙ sym (drop-append-add p q j) ∙ ap (λ (u : ℕ). drop u (p ++ q)) (sym c)
 
-    as-without : (r : Salvage) → Salvages a x s area (length p) room z r → AsWithout a x area room p d q z n r
+    -- the rest comes out as if the record had never been sent
+    pub as-without : (r : Salvage) → Salvages a x s area (length p) room z r → AsWithout a x area room p d q z n r
     as-without r k =
         let last : ℕ = length p + length d - 1 in
         let e : suc last ≡ length p + length d = omega (arith, h .has-bytes) in
@@ -96,7 +106,3 @@ module _ (a : Sheet) (x : RecordTags) (fit : NamesFit (a .names)) where
         let one = salvage-one a x s area k (drops n (h .refused-at) last (h .refused-in) (h .is-record) (h .is-refused) (h .with-damage) (resumes last e) k₁) in
         let (r₂, k₂, u) = moves a x s (p ++ q) (length d) (length p) same-rest (omega (arith, all, length-append p q)) area k₁ within (length p) (omega arith) (omega (arith, e)) in
         record { without = r₂; salvages = k₂; last = last; is-last = e; same = one ∙ ap (reporting (lost (length p) last n)) u }
-
--- the rest comes out as if the record had never been sent
-pub rest-as-if-never-sent : (a : Sheet) (x : RecordTags) → RestAsIfNeverSent a x
-rest-as-if-never-sent a x fit area room p d q z n h r k = as-without a x fit area room p d q z n h r k
