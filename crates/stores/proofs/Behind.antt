@@ -2,7 +2,7 @@
 use mathlib.Core.Path.{_≡_, refl, sym, ap, ap₂, subst, _∙_}
 use mathlib.Core.Bool.{Bool, true, false, cond, _||_}
 use mathlib.Core.List.{List, [], _∷_, _++_, append-nil, append-assoc}
-use Prim.Native.Nat.{ℕ, zero, suc, _+_, _-_, _≤_, _<_}
+use Prim.Native.Nat.{ℕ, suc, _+_, _≤_, _<_}
 use native.Mathlib.Omega.{arith}
 use lib.ListN.{length, take, drop, set, length-append}
 use lib.Seq.{take-append-seam, set-split}
@@ -58,7 +58,7 @@ last-offset l x e = omega (arith, new-offset l (x ∷ []) x e, first-offset x)
 pub past-offset : (l : List (List ℕ)) (x : List ℕ) → has l x ≡ false → offsetOf l x ≡ length (run-together l)
 past-offset l x e = ap (λ (z : List (List ℕ)). offsetOf z x) (sym (append-nil l)) ∙ (let k = new-offset l [] x e in omega (arith, k))
 
-together : (l m : List (List ℕ)) → run-together (l ++ m) ≡ run-together l ++ run-together m
+pub together : (l m : List (List ℕ)) → run-together (l ++ m) ≡ run-together l ++ run-together m
 together [] m = refl
 together (y ∷ l) m = ap (λ (z : List ℕ). y ++ z) (together l m) ∙ sym (append-assoc y (run-together l) (run-together m))
 

@@ -1,18 +1,18 @@
 -- The answers of a store, one for each way out. Assumes nothing.
-use mathlib.Core.Path.{_≡_, refl, sym, subst, _∙_, ap}
-use mathlib.Core.Logic.{_⊎_, inl, inr}
+use mathlib.Core.Path.{_≡_, refl, sym, subst, _∙_}
+use mathlib.Core.Logic.{inl, inr}
 use mathlib.Core.Bool.{true, false}
-use mathlib.Core.List.{List, [], _∷_, _++_}
+use mathlib.Core.List.{List, _++_}
 use Prim.Native.Nat.{ℕ, _+_, _-_, _≤_, _<_}
 use native.Mathlib.Omega.{arith}
 use lib.ListN.{length, take, drop, set}
-use Rattle.lent.specs.Put.{put, PutAs}
+use Rattle.lent.specs.Put.{PutAs}
 use Rattle.lent.proofs.Laws.{put-all}
-use Rattle.encoding.specs.Distinct.{has, placeOf, offsetOf, run-together}
+use Rattle.encoding.specs.Distinct.{has, run-together}
 use Rattle.stores.specs.Rows.{RowsIn}
 use Rattle.stores.specs.declared.Seat.{Seat}
 use Rattle.stores.specs.declared.Filed.{Filed}
-use Rattle.stores.specs.Filed.{SeatIs, SameStore, ThereAs, AddedAs, FullAs, FiledAs, FiledIs}
+use Rattle.stores.specs.Filed.{SeatIs, SameStore, FiledIs}
 use Rattle.stores.proofs.Behind.{had-below, new-beyond, last-place, last-offset, past-offset, rows-with}
 
 module _ (bytes ends : List ℕ) (count : ℕ) (x : List ℕ) (seat : Seat) (s : SeatIs bytes ends count x seat) where

@@ -2,14 +2,13 @@
 use mathlib.Core.Path.{_≡_, refl, sym, ap, ap₂, _∙_}
 use mathlib.Core.Bool.{Bool, true, false, cond}
 use mathlib.Core.List.{List, [], _∷_, _++_, append-assoc}
-use Prim.Native.Nat.{ℕ, zero, suc, _+_, _-_, _≤_, _<_}
+use Prim.Native.Nat.{ℕ, suc, _+_, _-_, _≤_, _<_}
 use native.Mathlib.Omega.{arith}
 use lib.ListN.{length, getD, take, drop, length-append, length-drop}
 use lib.Seq.{take-append-seam, drop-append-seam, getD-drop, drop-drop}
 use Rattle.encoding.specs.Distinct.{equal, placeOf, offsetOf, run-together}
 use Rattle.stores.specs.Rows.{endsFrom, RowsIn, HasRows}
 use Rattle.stores.specs.Filed.{SeatIs}
-use Rattle.stores.specs.declared.Seat.{Seat}
 
 -- of the rows l those from number i on are left, and they lie from `from` on
 pub record Left (bytes ends : List ℕ) (count : ℕ) (x : List ℕ) (i from : ℕ) (l : List (List ℕ)) : Type 0 where
@@ -44,100 +43,104 @@ module _ (bytes ends : List ℕ) (count : ℕ) (x : List ℕ) where
         offset-is = omega arith;
       }
 
-  -- the next row is y, and these rows are behind it
-  module _ (i from : ℕ) (y : List ℕ) (back : List (List ℕ)) (free later : List ℕ) (inside : from ≤ length bytes)
-      (b : drop from bytes ≡ (y ++ run-together back) ++ free) (e : drop i ends ≡ (from + length y) ∷ (endsFrom (from + length y) back ++ later)) where
-    end-is : getD ends i 0 ≡ from + length y
-    end-is =
-        let k : i ≡ i + 0 = omega arith in
-        ap (λ (n : ℕ). getD ends n 0) k ∙ sym (getD-drop i ends 0 0) ∙ ap (λ (z : List ℕ). getD z 0 0) e
-
-    parted : drop from bytes ≡ y ++ (run-together back ++ free)
-    parted = b ∙ append-assoc y (run-together back) free
-
-    row-is : (to : ℕ) → to ≡ getD ends i 0 → take (to - from) (drop from bytes) ≡ y
-    row-is to t =
-        let k : to - from ≡ length y = omega (arith, t, end-is) in
-        ap₂ (λ (n : ℕ) (z : List ℕ). take n z) k parted ∙ take-append-seam y (run-together back ++ free)
-
-    behind : drop (from + length y) bytes ≡ run-together back ++ free
-    behind = sym (drop-drop (length y) from bytes) ∙ ap (drop (length y)) parted ∙ drop-append-seam y (run-together back ++ free)
-
-    ends-behind : drop (i + 1) ends ≡ endsFrom (from + length y) back ++ later
-    ends-behind = sym (drop-drop 1 i ends) ∙ ap (drop 1) e
-
-    next-inside : from + length y ≤ length bytes
-    next-inside = omega (arith, sym (length-drop from bytes), ap length parted, length-append y (run-together back ++ free), inside)
-
-    next-there : i < length ends
-    next-there = omega (arith, sym (length-drop i ends), ap length e)
+  -- the next row, and the rows behind it
+  record Ahead (i from : ℕ) (l : List (List ℕ)) : Type 0 where
+    row : List ℕ
+    back : List (List ℕ)
+    free-bytes : List ℕ
+    free-ends : List ℕ
+    bytes-left : drop from bytes ≡ (row ++ run-together back) ++ free-bytes
+    ends-left : drop i ends ≡ (from + length row) ∷ (endsFrom (from + length row) back ++ free-ends)
+    inside : from ≤ length bytes
+    number : count ≡ i + suc (length back)
+    place-is : placeOf l x ≡ i + cond (equal x row) 0 (suc (placeOf back x))
+    offset-is : offsetOf l x ≡ from + cond (equal x row) 0 (length row + offsetOf back x)
 
   module _ (i from : ℕ) (l : List (List ℕ)) where
-    next-of : (back : List (List ℕ)) (free later : List ℕ) → drop from bytes ≡ run-together back ++ free → drop i ends ≡ endsFrom from back ++ later → from ≤ length bytes → count ≡ i + length back → i < count →
-        NextEnd bytes ends i from
-    next-of [] free later b e inside n h = absurd (omega arith)
-    next-of (y ∷ back) free later b e inside n h =
-        let k = end-is i from y back free later inside b e in
-        record { there = next-there i from y back free later inside b e; low = omega (arith, k); high = omega (arith, k, next-inside i from y back free later inside b e) }
+    ahead-of : (back : List (List ℕ)) (free later : List ℕ) → drop from bytes ≡ run-together back ++ free → drop i ends ≡ endsFrom from back ++ later → from ≤ length bytes → count ≡ i + length back →
+        placeOf l x ≡ i + placeOf back x → offsetOf l x ≡ from + offsetOf back x → i < count → Ahead i from l
+    ahead-of [] free later b e inside n p o s = absurd (omega arith)
+    ahead-of (y ∷ back) free later b e inside n p o s =
+        record { row = y; back = back; free-bytes = free; free-ends = later; bytes-left = b; ends-left = e; inside = inside; number = n; place-is = p; offset-is = o }
 
-    pub next-end : Left bytes ends count x i from l → i < count → NextEnd bytes ends i from
-    next-end h s = next-of (h .back) (h .free-bytes) (h .free-ends) (h .bytes-left) (h .ends-left) (h .inside) (h .number) s
+    ahead : Left bytes ends count x i from l → i < count → Ahead i from l
+    ahead h s = ahead-of (h .back) (h .free-bytes) (h .free-ends) (h .bytes-left) (h .ends-left) (h .inside) (h .number) (h .place-is) (h .offset-is) s
 
+    end-is : (h : Ahead i from l) → getD ends i 0 ≡ from + length (h .row)
+    end-is h =
+        let k : i ≡ i + 0 = omega arith in
+        ap (λ (n : ℕ). getD ends n 0) k ∙ sym (getD-drop i ends 0 0) ∙ ap (λ (z : List ℕ). getD z 0 0) (h .ends-left)
+
+    parted : (h : Ahead i from l) → drop from bytes ≡ h .row ++ (run-together (h .back) ++ h .free-bytes)
+    parted h = h .bytes-left ∙ append-assoc (h .row) (run-together (h .back)) (h .free-bytes)
+
+    next-inside : (h : Ahead i from l) → from + length (h .row) ≤ length bytes
+    next-inside h = omega (arith, sym (length-drop from bytes), ap length (parted h), length-append (h .row) (run-together (h .back) ++ h .free-bytes), h .inside)
+
+    next-end : Ahead i from l → NextEnd bytes ends i from
+    next-end h =
+        record {
+          there = omega (arith, sym (length-drop i ends), ap length (h .ends-left));
+          low = omega (arith, end-is h);
+          high = omega (arith, end-is h, next-inside h);
+        }
+
+    -- what the comparison with the next row tells
     module _ (to : ℕ) (t : to ≡ getD ends i 0) where
-      passed-of : (back : List (List ℕ)) (free later : List ℕ) → drop from bytes ≡ run-together back ++ free → drop i ends ≡ endsFrom from back ++ later → from ≤ length bytes → count ≡ i + length back → i < count →
-          placeOf l x ≡ i + placeOf back x → offsetOf l x ≡ from + offsetOf back x → false ≡ equal x (take (to - from) (drop from bytes)) → Left bytes ends count x (i + 1) to l
-      passed-of [] free later b e inside n h p o d = absurd (omega arith)
-      passed-of (y ∷ back) free later b e inside n h p o d =
-          let k : to ≡ from + length y = t ∙ end-is i from y back free later inside b e in
-          let differs : equal x y ≡ false = sym (d ∙ ap (equal x) (row-is i from y back free later inside b e to t)) in
-          let q : placeOf l x ≡ i + suc (placeOf back x) = p ∙ ap (λ (c : Bool). i + cond c 0 (suc (placeOf back x))) differs in
-          let r : offsetOf l x ≡ from + (length y + offsetOf back x) = o ∙ ap (λ (c : Bool). from + cond c 0 (length y + offsetOf back x)) differs in
+      compared : (h : Ahead i from l) (b : Bool) → b ≡ equal x (take (to - from) (drop from bytes)) → equal x (h .row) ≡ b
+      compared h b d =
+          let k : to - from ≡ length (h .row) = omega (arith, t, end-is h) in
+          let is : take (to - from) (drop from bytes) ≡ h .row = ap₂ (λ (n : ℕ) (z : List ℕ). take n z) k (parted h) ∙ take-append-seam (h .row) (run-together (h .back) ++ h .free-bytes) in
+          sym (d ∙ ap (equal x) is)
+
+      passed : Ahead i from l → false ≡ equal x (take (to - from) (drop from bytes)) → Left bytes ends count x (i + 1) to l
+      passed h d =
+          let k : to ≡ from + length (h .row) = t ∙ end-is h in
+          let e = compared h false d in
+          let rest : List ℕ = run-together (h .back) ++ h .free-bytes in
+          let p : placeOf l x ≡ i + suc (placeOf (h .back) x) = h .place-is ∙ ap (λ (c : Bool). i + cond c 0 (suc (placeOf (h .back) x))) e in
+          let o : offsetOf l x ≡ from + (length (h .row) + offsetOf (h .back) x) = h .offset-is ∙ ap (λ (c : Bool). from + cond c 0 (length (h .row) + offsetOf (h .back) x)) e in
           record {
-            back = back;
-            free-bytes = free;
-            free-ends = later;
-            bytes-left = ap (λ (z : ℕ). drop z bytes) k ∙ behind i from y back free later inside b e;
-            ends-left = ends-behind i from y back free later inside b e ∙ ap (λ (z : ℕ). endsFrom z back ++ later) (sym k);
-            inside = omega (arith, k, next-inside i from y back free later inside b e);
-            number = omega (arith, n);
-            place-is = omega (arith, q);
-            offset-is = omega (arith, r, k);
+            back = h .back;
+            free-bytes = h .free-bytes;
+            free-ends = h .free-ends;
+            bytes-left = ap (λ (z : ℕ). drop z bytes) k ∙ sym (drop-drop (length (h .row)) from bytes) ∙ ap (drop (length (h .row))) (parted h) ∙ drop-append-seam (h .row) rest;
+            ends-left = sym (drop-drop 1 i ends) ∙ ap (drop 1) (h .ends-left) ∙ ap (λ (z : ℕ). endsFrom z (h .back) ++ h .free-ends) (sym k);
+            inside = omega (arith, k, next-inside h);
+            number = omega (arith, h .number);
+            place-is = omega (arith, p);
+            offset-is = omega (arith, o, k);
           }
 
       pub row-passed : Left bytes ends count x i from l → i < count → false ≡ equal x (take (to - from) (drop from bytes)) → Left bytes ends count x (i + 1) to l
-      row-passed h s d = passed-of (h .back) (h .free-bytes) (h .free-ends) (h .bytes-left) (h .ends-left) (h .inside) (h .number) s (h .place-is) (h .offset-is) d
+      row-passed h s d = passed (ahead h s) d
 
-      found-of : (back : List (List ℕ)) (free later : List ℕ) → drop from bytes ≡ run-together back ++ free → drop i ends ≡ endsFrom from back ++ later → from ≤ length bytes → count ≡ i + length back → i < count →
-          placeOf l x ≡ i + placeOf back x → offsetOf l x ≡ from + offsetOf back x → true ≡ equal x (take (to - from) (drop from bytes)) → (i ≡ placeOf l x) × (from ≡ offsetOf l x)
-      found-of [] free later b e inside n h p o d = absurd (omega arith)
-      found-of (y ∷ back) free later b e inside n h p o d =
-          let same : equal x y ≡ true = sym (d ∙ ap (equal x) (row-is i from y back free later inside b e to t)) in
-          let q : placeOf l x ≡ i + 0 = p ∙ ap (λ (c : Bool). i + cond c 0 (suc (placeOf back x))) same in
-          let r : offsetOf l x ≡ from + 0 = o ∙ ap (λ (c : Bool). from + cond c 0 (length y + offsetOf back x)) same in
-          (omega (arith, q), omega (arith, r))
-
-      pub row-found : Left bytes ends count x i from l → i < count → true ≡ equal x (take (to - from) (drop from bytes)) → (i ≡ placeOf l x) × (from ≡ offsetOf l x)
-      row-found h s d = found-of (h .back) (h .free-bytes) (h .free-ends) (h .bytes-left) (h .ends-left) (h .inside) (h .number) s (h .place-is) (h .offset-is) d
+      row-found : Ahead i from l → true ≡ equal x (take (to - from) (drop from bytes)) → (i ≡ placeOf l x) × (from ≡ offsetOf l x)
+      row-found h d =
+          let e = compared h true d in
+          let p : placeOf l x ≡ i + 0 = h .place-is ∙ ap (λ (c : Bool). i + cond c 0 (suc (placeOf (h .back) x))) e in
+          let o : offsetOf l x ≡ from + 0 = h .offset-is ∙ ap (λ (c : Bool). from + cond c 0 (length (h .row) + offsetOf (h .back) x)) e in
+          (omega (arith, p), omega (arith, o))
 
     none-of : (back : List (List ℕ)) → count ≡ i + length back → count ≤ i → placeOf l x ≡ i + placeOf back x → offsetOf l x ≡ from + offsetOf back x → (count ≡ placeOf l x) × (from ≡ offsetOf l x)
     none-of [] n h p o = (omega (arith, p, n), omega (arith, o))
     none-of (y ∷ back) n h p o = absurd (omega (arith, n))
 
-    pub none-left : Left bytes ends count x i from l → count ≤ i → (count ≡ placeOf l x) × (from ≡ offsetOf l x)
+    none-left : Left bytes ends count x i from l → count ≤ i → (count ≡ placeOf l x) × (from ≡ offsetOf l x)
     none-left h s = none-of (h .back) (h .number) s (h .place-is) (h .offset-is)
 
   -- what is known of all rows that the store has, of which there are some
   module _ (i from : ℕ) (some-rows : HasRows bytes ends count) (left : (l : List (List ℕ)) → RowsIn bytes ends count l → Left bytes ends count x i from l) where
     pub next-at : i < count → NextEnd bytes ends i from
-    next-at s = next-end i from (some-rows .rows) (left (some-rows .rows) (some-rows .are)) s
+    next-at s = next-end i from (some-rows .rows) (ahead i from (some-rows .rows) (left (some-rows .rows) (some-rows .are)) s)
 
     pub seat-found : i < count → true ≡ equal x (take (getD ends i 0 - from) (drop from bytes)) → SeatIs bytes ends count x (record { place = i; offset = from })
     seat-found s d =
         record {
           low = omega arith;
           inside = left (some-rows .rows) (some-rows .are) .inside;
-          place-is = λ l h. row-found i from l (getD ends i 0) refl (left l h) s d .0;
-          offset-is = λ l h. row-found i from l (getD ends i 0) refl (left l h) s d .1;
+          place-is = λ l h. row-found i from l (getD ends i 0) refl (ahead i from l (left l h) s) d .0;
+          offset-is = λ l h. row-found i from l (getD ends i 0) refl (ahead i from l (left l h) s) d .1;
         }
 
     pub seat-behind : count ≤ i → SeatIs bytes ends count x (record { place = count; offset = from })

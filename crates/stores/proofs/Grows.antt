@@ -1,34 +1,36 @@
 -- A store of one row more, and where its rows stay. Assumes nothing.
-use mathlib.Core.Path.{_≡_, refl, sym, _∙_, ap, subst}
-use mathlib.Core.Bool.{Bool, true, false, cond, _||_}
+use mathlib.Core.Path.{_≡_, refl, sym, _∙_, ap}
+use mathlib.Core.Bool.{Bool, true, false, cond}
 use mathlib.Core.List.{List, [], _∷_, _++_, append-nil, append-assoc}
 use Prim.Native.Nat.{ℕ, suc, _+_}
 use native.Mathlib.Omega.{arith}
 use lib.ListN.{length}
 use Rattle.encoding.specs.Distinct.{equal, has, added, distinct, placeOf, offsetOf}
 use Rattle.encoding.proofs.Stored.{or-parts}
-use Rattle.stores.specs.Promises.{GrowsByOne, PlacesStay, OffsetsStay}
+use Rattle.stores.specs.Promises.{GrowsBehind, GrowsByOne, PlacesStay, OffsetsStay}
 
-grown : (seen l : List (List ℕ)) (x : List ℕ) → added seen (l ++ x ∷ []) ≡ cond (has (seen ++ added seen l) x) (added seen l) (added seen l ++ x ∷ [])
-grown seen [] x = rw (append-nil seen) refl
-grown seen (y ∷ l) x = on (has seen y) (grown seen l x) (grown (seen ++ y ∷ []) l x)
+grown : (seen l more : List (List ℕ)) → added seen (l ++ more) ≡ added seen l ++ added (seen ++ added seen l) more
+grown seen [] more = ap (λ (z : List (List ℕ)). added z more) (sym (append-nil seen))
+grown seen (y ∷ l) more = on (has seen y) (grown seen l more) (grown (seen ++ y ∷ []) l more)
   where
-    inside : (b : Bool) (a c : List (List ℕ)) → y ∷ cond b a c ≡ cond b (y ∷ a) (y ∷ c)
-    inside true a c = refl
-    inside false a c = refl
-
-    on : (b : Bool) → added seen (l ++ x ∷ []) ≡ cond (has (seen ++ added seen l) x) (added seen l) (added seen l ++ x ∷ [])
-        → added (seen ++ y ∷ []) (l ++ x ∷ []) ≡ cond (has ((seen ++ y ∷ []) ++ added (seen ++ y ∷ []) l) x) (added (seen ++ y ∷ []) l) (added (seen ++ y ∷ []) l ++ x ∷ [])
-        → cond b (added seen (l ++ x ∷ [])) (y ∷ added (seen ++ y ∷ []) (l ++ x ∷ []))
-        ≡ cond (has (seen ++ cond b (added seen l) (y ∷ added (seen ++ y ∷ []) l)) x) (cond b (added seen l) (y ∷ added (seen ++ y ∷ []) l)) (cond b (added seen l) (y ∷ added (seen ++ y ∷ []) l) ++ x ∷ [])
+    on : (b : Bool) → added seen (l ++ more) ≡ added seen l ++ added (seen ++ added seen l) more
+        → added (seen ++ y ∷ []) (l ++ more) ≡ added (seen ++ y ∷ []) l ++ added ((seen ++ y ∷ []) ++ added (seen ++ y ∷ []) l) more
+        → cond b (added seen (l ++ more)) (y ∷ added (seen ++ y ∷ []) (l ++ more))
+        ≡ cond b (added seen l) (y ∷ added (seen ++ y ∷ []) l) ++ added (seen ++ cond b (added seen l) (y ∷ added (seen ++ y ∷ []) l)) more
     on true h k = h
     on false h k =
         let m : List (List ℕ) = added (seen ++ y ∷ []) l in
-        ap (λ (z : List (List ℕ)). y ∷ z) k ∙ inside (has ((seen ++ y ∷ []) ++ m) x) m (m ++ x ∷ [])
-        ∙ ap (λ (z : List (List ℕ)). cond (has z x) (y ∷ m) (y ∷ (m ++ x ∷ []))) (append-assoc seen (y ∷ []) m)
+        ap (λ (z : List (List ℕ)). y ∷ z) (k ∙ ap (λ (z : List (List ℕ)). m ++ added z more) (append-assoc seen (y ∷ []) m))
+
+pub grows-behind : GrowsBehind
+grows-behind l more = grown [] l more
 
 pub grows-by-one : GrowsByOne
-grows-by-one l x = grown [] l x
+grows-by-one l x = grows-behind l (x ∷ []) ∙ on (has (distinct l) x)
+  where
+    on : (b : Bool) → distinct l ++ cond b [] (x ∷ []) ≡ cond b (distinct l) (distinct l ++ x ∷ [])
+    on true = append-nil (distinct l)
+    on false = refl
 
 pub places-stay : PlacesStay
 places-stay [] more x e = absurd (let z : _≡_ {A = ℕ} 0 1 = cc in omega arith)

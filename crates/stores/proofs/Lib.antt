@@ -3,3 +3,4 @@ pub mod Compared
 pub mod Found
 pub mod Behind
 pub mod Filing
+pub mod Mentioning

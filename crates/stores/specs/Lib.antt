@@ -1,3 +1,4 @@
 pub mod Rows
 pub mod Filed
+pub mod Mentioned
 pub mod Promises

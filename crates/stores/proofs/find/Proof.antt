@@ -1,13 +1,16 @@
 -- What is left of the rows is known of all rows that the store has. Assumes nothing.
 use mathlib.Core.Path.{refl, sym, _∙_}
 use mathlib.Core.List.{List}
-use Prim.Native.Nat.{ℕ, _-_, _≤_, _<_}
+use Prim.Native.Nat.{ℕ, _-_, _≤_}
 use native.Mathlib.Omega.{arith}
 use borrow.Author.Needs.{needs}
 use Rattle.stores.specs.Rows.{RowsIn}
-use Rattle.stores.proofs.Found.{Left, all-left, next-at, row-passed, seat-found, seat-behind}
+use Rattle.stores.proofs.Found.{Left, NextEnd, all-left, next-at, row-passed, seat-found, seat-behind}
 use Rattle.stores.proofs.find.Statement.{statement}
 use Rattle.stores.proofs.find.Tie as tie
+use Rattle.stores.proofs.find.Reads as reads
+use Rattle.stores.proofs.find.Lts as lts
+use Rattle.stores.proofs.same_row.Reads as same-row-reads
 
 abbrev Inv-loop : tie.InvT-loop
 Inv-loop bytes ends count x i₀ from₀ i from = (i ≤ count) × ((l : List (List ℕ)) → RowsIn bytes ends count l → Left bytes ends count x i from l)
@@ -17,67 +20,35 @@ abbrev μ-loop : tie.MeasureT-loop
 
 loop-holds : tie.Need-loop-holds Inv-loop μ-loop
 loop-holds c =
-    let start = c .before .before .before in
-    let a = start .args in
+    let a = c .before .before .before .args in
     (omega arith, λ l h. all-left (a .bytes .now) (a .ends .now) (a .count) (a .x .now) l h)
 
-mul-to : tie.Need-mul-to Inv-loop μ-loop
-mul-to c =
+-- where the next row ends
+abbrev InLoop : Type 0
+InLoop = lts.In-loop (same-row-reads.Asked, same-row-reads.Learnt) reads.Pre reads.Post Inv-loop μ-loop
+
+next : (c : InLoop) → NextEnd (c .before .before .before .before .before .args .bytes .now) (c .before .before .before .before .before .args .ends .now) (c .before .loop .i) (c .before .loop .from)
+next c =
     let w = c .before in
     let start = w .before .before .before .before in
     let a = start .args in
-    let n = next-at (a .bytes .now) (a .ends .now) (a .count) (a .x .now) (w .loop .i) (w .loop .from) (start .pre) (w .loop .inv .1) (c .loop-test .taken) in
-    search (n, needs)
-
-shared-slice-read-to : tie.Need-shared-slice-read-to Inv-loop μ-loop
-shared-slice-read-to c =
-    let w = c .before .before in
-    let start = w .before .before .before .before in
-    let a = start .args in
-    let n = next-at (a .bytes .now) (a .ends .now) (a .count) (a .x .now) (w .loop .i) (w .loop .from) (start .pre) (w .loop .inv .1) (c .before .loop-test .taken) in
-    search (n, needs)
-
-sub-same-row : tie.Need-sub-same-row Inv-loop μ-loop
-sub-same-row c =
-    let w = c .before .before in
-    let start = w .before .before .before .before in
-    let a = start .args in
-    let n = next-at (a .bytes .now) (a .ends .now) (a .count) (a .x .now) (w .loop .i) (w .loop .from) (start .pre) (w .loop .inv .1) (c .before .loop-test .taken) in
-    search (n, needs)
-
-part-same-row-start : tie.Need-part-same-row-start Inv-loop μ-loop
-part-same-row-start c =
-    let w = c .before .before in
-    let start = w .before .before .before .before in
-    let a = start .args in
-    let n = next-at (a .bytes .now) (a .ends .now) (a .count) (a .x .now) (w .loop .i) (w .loop .from) (start .pre) (w .loop .inv .1) (c .before .loop-test .taken) in
-    search (n, needs)
-
-part-same-row-end : tie.Need-part-same-row-end Inv-loop μ-loop
-part-same-row-end c =
-    let w = c .before .before in
-    let start = w .before .before .before .before in
-    let a = start .args in
-    let n = next-at (a .bytes .now) (a .ends .now) (a .count) (a .x .now) (w .loop .i) (w .loop .from) (start .pre) (w .loop .inv .1) (c .before .loop-test .taken) in
-    search (n, needs)
+    next-at (a .bytes .now) (a .ends .now) (a .count) (a .x .now) (w .loop .i) (w .loop .from) (start .pre) (w .loop .inv .1) (c .loop-test .taken)
 
 returns : tie.Need-returns Inv-loop μ-loop
 returns c =
-    let w = c .before .before .before .before .before in
+    let t = c .before .before .before .before in
+    let w = t .before in
     let start = w .before .before .before .before in
     let a = start .args in
-    let left = w .loop .inv .1 in
-    let taken = c .before .before .before .before .loop-test .taken in
-    seat-found (a .bytes .now) (a .ends .now) (a .count) (a .x .now) (w .loop .i) (w .loop .from) (start .pre) left taken (sym (c .if1 .taken) ∙ c .before .same-row .ensures)
+    seat-found (a .bytes .now) (a .ends .now) (a .count) (a .x .now) (w .loop .i) (w .loop .from) (start .pre) (w .loop .inv .1) (t .loop-test .taken) (sym (c .if1 .taken) ∙ c .before .same-row .ensures)
 
 loop-again : tie.Need-loop-again Inv-loop μ-loop
 loop-again c =
-    let w = c .before .before .before .before .before in
-    let start = w .before .before .before .before in
-    let a = start .args in
-    let taken = c .before .before .before .before .loop-test .taken in (
+    let t = c .before .before .before .before in
+    let w = t .before in
+    let a = w .before .before .before .before .args in (
       search needs,
-      λ l h. row-passed (a .bytes .now) (a .ends .now) (a .count) (a .x .now) (w .loop .i) (w .loop .from) l _ refl (w .loop .inv .1 l h) taken (sym (c .if1 .left) ∙ c .before .same-row .ensures),
+      λ l h. row-passed (a .bytes .now) (a .ends .now) (a .count) (a .x .now) (w .loop .i) (w .loop .from) l _ refl (w .loop .inv .1 l h) (t .loop-test .taken) (sym (c .if1 .left) ∙ c .before .same-row .ensures),
     )
 
 returns-2 : tie.Need-returns-2 Inv-loop μ-loop
@@ -94,14 +65,7 @@ find-spec =
     Inv-loop
     μ-loop
     loop-holds
-    mul-to
-    shared-slice-read-to
-    sub-same-row
-    part-same-row-start
-    part-same-row-end
-    (λ c κs. search needs)
-    returns
-    (λ c. search needs)
-    (λ c. search needs)
-    loop-again
+    (λ c. search (next c, needs)) (λ c. search (next (c .before), needs)) (λ c. search (next (c .before), needs)) (λ c. search (next (c .before), needs)) (λ c. search (next (c .before), needs))
+    (λ c κs. search needs) returns
+    (λ c. search needs) (λ c. search needs) loop-again
     returns-2)
