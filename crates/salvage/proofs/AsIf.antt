@@ -3,7 +3,7 @@
 -- Assumes nothing.
 use mathlib.Core.Path.{_≡_, refl, sym, ap, _∙_, subst}
 use mathlib.Core.Logic.{_⊎_, inl, inr}
-use mathlib.Core.Bool.{Bool, true, false, true≢false}
+use mathlib.Core.Bool.{Bool, true, false}
 use mathlib.Core.List.{List, [], _∷_, _++_}
 use Prim.Native.Nat.{ℕ, suc, _+_, _≤_, _<_}
 use native.Mathlib.Omega.{arith}
@@ -18,7 +18,7 @@ use Rattle.tokens.specs.declared.Answer.the-variants.{Token as Read}
 use Rattle.tokens.specs.Stream.{ReadAs}
 use Rattle.sheet.specs.Sheet.{Sheet}
 use Rattle.runs.specs.Fits.{NamesFit}
-use Rattle.runs.specs.Machine.{Control, before, inside, after, Configuration, fresh-configuration}
+use Rattle.runs.specs.Machine.{Configuration, fresh-configuration}
 use Rattle.runs.specs.Spells.{Token}
 use Rattle.runs.proofs.Execute.{both-true}
 use Rattle.calls.specs.Names.{tokenFor, tokenOf}
@@ -34,8 +34,8 @@ use Rattle.salvage.proofs.Follows.{record-moves, writes-both}
 use Rattle.salvage.proofs.Some.{runs-on}
 use Rattle.salvage.proofs.Before.{token-in, starts-more, token-kept, token-before, record-kept, record-stops}
 use Rattle.salvage.proofs.Main.{root-open}
-use Rattle.salvage.proofs.Inside.{Self, Fine, taken-fine}
-use Rattle.salvage.proofs.Unended.{open-past, broken-fine, whole-fine, stops-so, record-self, refused-there, stops-at}
+use Rattle.salvage.proofs.Inside.{Fine, taken-fine}
+use Rattle.salvage.proofs.Unended.{open-past, broken-fine, whole-fine, stops-so, record-self, root-self, refused-there, stops-at}
 use Rattle.salvage.proofs.NeverSent.{may-lie-in, may-open, as-without}
 
 module _ (a : Sheet) (x : RecordTags) where
@@ -124,11 +124,6 @@ module _ (a : Sheet) (x : RecordTags) where
       abbrev Kept : ℕ → ℕ → Configuration → List ℕ → List LostStretch → ℕ → Configuration → Type 0
       Kept at room z w ds room′ z′ = (ds′ : List LostStretch) × ComesTo a x s′ area (length p) at room z w ds′ room′ z′ × SameStretches (length p) ds ds′
 
-      root-self : (c : Control) → rootOnly c ≡ true → Fine a records x shape c → Self a records x shape (x .root-tag)
-      root-self before b f = absurd (true≢false (sym b))
-      root-self (inside o os) b f = f .0
-      root-self after b f = absurd (true≢false (sym b))
-
       -- the record that lacks its end is refused at the < in both
       unended-kept : (at room room′ : ℕ) (z z′ : Configuration) (w : List ℕ) (ds : List LostStretch) (n to last : ℕ) (y : Configuration) → Fine a records x shape (z .control) → RecordAt a x s at z →
           InRecord a s area at z [] (broken n to y) → damaged n ≡ true → ResumesAt a x s at to (suc last) → to ≡ length p → suc last ≡ length p →
@@ -140,11 +135,11 @@ module _ (a : Sheet) (x : RecordTags) where
           let o₁ = open-past a records x shape s area n to y i (omega (arith, et, el, q .past-start)) in
           let (room₁, stop) = stops-so a records x shape s area n to y i in
           let (is, un) = refused-there a records x shape s (length p) e₀ next₀ m₀ b₀ y o₁ f₁ room₁ n b (subst (λ (k : ℕ). Stop a s false k room₁ y n) et stop) in
-          let self = root-self (z .control) (root-open a x s at z h) f in
+          let self = root-self a records x shape (z .control) (root-open a x s at z h) f in
           let here : MayResume a x s′ (length p) =
           subst (λ (f : List ℕ). Starts f (recordStart a x) ⊎ Starts f (rootEnd a x)) (sym (drop-append-seam p (60 ∷ v))) resume in
-          let (n′, which, stop′) = stops-at a records x shape fit (record-self a records x shape s (length p) e₀ next₀ m₀ b₀) self s′ (length p) y o₁ f₁ un here in
-          let i′ = record-stops a p u v area n to y n′ i (omega (arith, et)) (λ k. subst (λ (j : ℕ). Stop a s′ false j k y n′) (sym et) (stop′ k)) in
+          let (n′, which, stop′) = stops-at a records x shape fit (record-self a records x shape s (length p) e₀ next₀ m₀ b₀) self s′ (length p) y o₁ f₁ here in
+          let i′ = record-stops a p u v area n to y n′ i (omega (arith, et)) (λ k. subst (λ (j : ℕ). Stop a s′ false j k y n′) (sym et) (subst (Stop a s′ false (length p) k y) (un n′) (stop′ k))) in
           let h′ = record-at-kept at z (omega (arith, q .past-start, el)) h in
           let b′ : damaged n′ ≡ true = by n′ which in
           (lost at last n′ ∷ ds, drops-on n′ to last y h′ i′ b′ (resumes-kept at to (suc last) l q) d′, same n′ which is)

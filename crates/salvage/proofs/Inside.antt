@@ -112,7 +112,7 @@ produces-one [] n m q h k = absurd (true≢false (sym h))
 produces-one (d ∷ ds) n m zero h k = eqb-true n (d .nonterm) h ∙ sym (eqb-true m (d .nonterm) k)
 produces-one (d ∷ ds) n m (suc q) h k = produces-one ds n m q h k
 
-produces-in : (g : List Production) (n q : ℕ) → produces g n q ≡ true → q < length g
+pub produces-in : (g : List Production) (n q : ℕ) → produces g n q ≡ true → q < length g
 produces-in [] n q h = absurd (true≢false (sym h))
 produces-in (d ∷ ds) n zero h = omega arith
 produces-in (d ∷ ds) n (suc q) h = let i = produces-in ds n q h in omega arith

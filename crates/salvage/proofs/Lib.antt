@@ -11,4 +11,6 @@ pub mod Later
 pub mod NeverSent
 pub mod Unended
 pub mod AsIf
+pub mod TakenOf
 pub mod Shapes
+pub mod Shaped

@@ -3,7 +3,7 @@
 -- Assumes nothing.
 use mathlib.Core.Path.{_≡_, refl, sym, ap, ap₂, _∙_, subst}
 use mathlib.Core.Logic.{inl, inr}
-use mathlib.Core.Bool.{Bool, true, false, _||_}
+use mathlib.Core.Bool.{Bool, true, false, _||_, true≢false}
 use mathlib.Core.List.{List, [], _∷_, _++_}
 use Prim.Native.Nat.{ℕ, suc, _+_, _-_, _≤_, _<_}
 use native.Mathlib.Omega.{arith}
@@ -23,7 +23,7 @@ use Rattle.salvage.specs.Shape.{RecordTags}
 use Rattle.salvage.specs.Resumption.{MayResume}
 use Rattle.salvage.specs.Salvage.{rootOnly, startsWith, RecordAt, whole, broken, InRecord, goes-on, ends, breaks, LostStretch, lost, Salvage, without-report, reporting, ends-lost, over-stretch, damaged, Salvages, passes, stands, keeps, full, waits, drops, loses, cut-off, over}
 use Rattle.salvage.specs.Cut.{endsReading, cutFrom, cutStream, overInside, RisesIn}
-use Rattle.salvage.specs.Promises.{ReportRises, numberOnCut, SalvageIsCut}
+use Rattle.salvage.specs.Promises.{ReportRises, OverEndsAt, OverEnds, numberOnCut, SalvageIsCut}
 use Rattle.salvage.proofs.One.{damage}
 use Rattle.salvage.proofs.Follows.{stop-in, stop-there, ends-open, NoLF, Clear, clear-sooner, token-in-cut, EndOf, record-moves, record-in-cut}
 
@@ -184,6 +184,25 @@ clear-rises s lo (d ∷ ds) (f, l, e, n, k) = (f, l, e, clear-rises s (suc (d .l
 
 pub report-rises : (a : Sheet) (x : RecordTags) → ReportRises a x
 report-rises a x s area room r d = clear-rises s 0 (r .report) (clear a x s area d (omega arith))
+
+-- with 30 a stretch ends where the run stops
+over-ends-at : (a : Sheet) (x : RecordTags) (s : List ℕ) (area : ℕ) {at room : ℕ} {z : Configuration} {r : Salvage} → Salvages a x s area at room z r → OverEndsAt (r .answer .taken) (r .report)
+over-ends-at a x s area (passes e next z′ w m h t d) = over-ends-at a x s area d
+over-ends-at a x s area (stands n h q) = tt
+over-ends-at a x s area (keeps to next y z′ w h i f d) = over-ends-at a x s area d
+over-ends-at a x s area (full to next y z′ w h i f) = tt
+over-ends-at a x s area (waits to y h i) = tt
+over-ends-at a x s area (drops n to last y h i b q d) = ((λ e. absurd (true≢false (sym e ∙ not-thirty a x s n b))), over-ends-at a x s area d)
+over-ends-at a x s area (loses n to last y h i b q e) = ((λ u. absurd (true≢false (sym u ∙ not-thirty a x s n b))), tt)
+over-ends-at a x s area (cut-off to last y h i e) = ((λ u. absurd (true≢false (sym u))), tt)
+over-ends-at a x s area (over {at} to y h i) = by (ltb at to) refl
+  where
+    by : (b : Bool) → ltb at to ≡ b → OverEndsAt to (onlyIf b (over-stretch at to))
+    by true e = let l = ltb-true at to e in ((λ u. omega (arith, l)), tt)
+    by false e = tt
+
+pub over-ends : (a : Sheet) (x : RecordTags) → OverEnds a x
+over-ends a x s area room r d = over-ends-at a x s area d
 
 -- the salvage run is 01's run on the cut stream
 pub salvage-is-cut : (a : Sheet) (x : RecordTags) → SalvageIsCut a x

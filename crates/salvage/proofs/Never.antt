@@ -3,13 +3,15 @@
 use mathlib.Core.Path.{_≡_, refl, sym, ap, _∙_, subst}
 use mathlib.Core.Logic.{_⊎_, inl, inr}
 use mathlib.Core.Bool.{Bool, true, false}
-use mathlib.Core.List.{List, _++_, append-assoc}
+use mathlib.Core.List.{List, [], _++_, append-assoc}
 use Prim.Native.Nat.{ℕ, _+_, _-_, _≤_, _<_}
 use native.Mathlib.Omega.{arith}
 use lib.Dec.{leb}
 use lib.ListN.{length, length-append}
 use borrow.Author.Tests.{leb-true, leb-false}
+use Rattle.tokens.specs.declared.Event.{Event}
 use Rattle.tokens.specs.declared.Answer.the-variants.{Token}
+use Rattle.tokens.specs.Stream.{ReadAs}
 use Rattle.sheet.specs.Sheet.{Sheet}
 use Rattle.runs.specs.Machine.{Configuration, took}
 use Rattle.calls.specs.Names.{tokenOf}
@@ -18,9 +20,12 @@ use Rattle.calls.specs.Call.{Result, stopped-at, after-writing, roomLeft, stops
 use Rattle.calls.proofs.Answers.{AfterToken, split, to-number, one-run}
 use Rattle.calls.proofs.Steps.{RunToken, takes-one}
 use Rattle.salvage.specs.Shape.{RecordTags}
-use Rattle.salvage.specs.Salvage.{RecordEnd, whole, broken, InRecord, goes-on, ends, breaks, Salvage, without-report, behind-output, damaged, Salvages, passes, stands, keeps, full as full-room, waits, drops, loses, cut-off, over}
-use Rattle.salvage.specs.Promises.{NeverRefused}
-use Rattle.salvage.proofs.One.{damage}
+use Rattle.salvage.specs.Salvage.{beginsRecord, RecordAt, RecordEnd, whole, broken, InRecord, goes-on, ends, breaks, Salvage, without-report, behind-output, damaged, Salvages, passes, stands, keeps, full as full-room, waits, drops, loses, cut-off, over}
+use Rattle.salvage.specs.NeverSent.{there, passes-on, keeps-on}
+use Rattle.salvage.specs.Promises.{LongRecord, NeverRefused}
+use Rattle.salvage.proofs.One.{damage, record-one}
+use Rattle.salvage.proofs.Some.{Numbered, KnownEnd, record-goes}
+use Rattle.salvage.proofs.Before.{token-in}
 use Rattle.salvage.proofs.Follows.{taken-in, refused-in, writes-both}
 
 module _ (a : Sheet) (z : Configuration) (room room′ : ℕ) (k : RunToken) where
@@ -104,47 +109,132 @@ module _ (a : Sheet) (s : List ℕ) (area : ℕ) where
   in-a-run (breaks {at} {y} {v} n (no-token x k m p)) room q r z =
       inl (sym (ap (λ (j : Result). j .number) (to-number a s false at room y q x k p (split a s false r x m))) ∙ z)
 
-  module _ (x : RecordTags) where
-    abbrev Same : Salvage → Result → Type 0
-    Same r q = (r ≡ without-report q) ⊎ ((r .answer .number ≡ 17) × (area < length (q .output)))
+module _ (a : Sheet) (s : List ℕ) (area : ℕ) (x : RecordTags) where
+  -- a record that is whole in another area is so in this one, where its output fits
+  whole-fits : (big : ℕ) {at : ℕ} {y : Configuration} {v : List ℕ} (to next : ℕ) (y₁ z : Configuration) (w : List ℕ) → InRecord a s big at y v (whole to y₁ next z w) →
+      (u : List ℕ) × (w ≡ v ++ u) × (length w ≤ area → InRecord a s area at y v (whole to y₁ next z w))
+  whole-fits big to next y₁ z w (goes-on {at} {y} {v} e nx y′ u m t h d) =
+      let (u′, q, f) = whole-fits big to next y₁ z w d in (
+        u ++ u′,
+        q ∙ append-assoc v u u′,
+        (λ l. goes-on e nx y′ u m (taken-in a y (roomLeft big v) (roomLeft area v) (tokenOf a s e) y′ u t (omega (arith, l, ap length q, length-append (v ++ u) u′, length-append v u))) h (f l)),
+      )
+  whole-fits big to next y₁ z w (ends {at} {y} {v} e nx z′ u m t h) =
+      (u, refl, (λ l. ends e nx z′ u m (taken-in a y (roomLeft big v) (roomLeft area v) (tokenOf a s e) z′ u t (omega (arith, l, length-append v u))) h))
 
-    after-it : (w : List ℕ) (r : Salvage) (q q′ : Result) → q ≡ after-writing w q′ → Same r q′ → Same (behind-output w r) q
-    after-it w r q q′ e (inl h) = inl (ap (behind-output w) h ∙ ap without-report (sym e))
-    after-it w r q q′ e (inr (h, l)) = inr (h, omega (arith, l, length-append w (q′ .output), ap (λ (p : Result). length (p .output)) e))
+  abbrev Same : ℕ → ℕ → Configuration → Salvage → Result → Type 0
+  Same at room z r q = (r ≡ without-report q) ⊎ ((r .answer .number ≡ 17) × LongRecord a x s area at room z)
 
-    not-zero : (n : ℕ) (l : ℕ) → damaged n ≡ true → (n ≡ 0) ⊎ ((n ≡ 17) × (area < l)) → ⊥
-    not-zero n l b (inl h) = let u = damage n b in omega (arith, u .0, h)
-    not-zero n l b (inr h) = let u = damage n b in omega (arith, u .0, h .0)
+  passed : (at room : ℕ) (z : Configuration) (e : Event) (next : ℕ) (z′ : Configuration) (w : List ℕ) → ReadAs false s at (Token e (record { at = next })) →
+      beginsRecord x (z .control) (tokenOf a s e) ≡ false → oneToken a z room (tokenOf a s e) ≡ taken z′ w → LongRecord a x s area next (roomLeft room w) z′ → LongRecord a x s area at room z
+  passed at room z e next z′ w m h t k =
+      record {
+        at = k .at;
+        written = w ++ k .written;
+        left = k .left;
+        stands-in = k .stands-in;
+        comes = passes-on e next z′ w m h t (k .comes);
+        is-record = k .is-record;
+        wide = k .wide;
+        to = k .to;
+        next = k .next;
+        ends-in = k .ends-in;
+        goes-on-in = k .goes-on-in;
+        output = k .output;
+        is-whole = k .is-whole;
+        longer = k .longer;
+      }
 
-    never : {at room : ℕ} {z : Configuration} {r : Salvage} → Salvages a x s area at room z r → (q : Result) → Runs a s false at room z q → q .number ≡ 0 → Same r q
-    never (passes {at} {room} {z} {r} e next z′ w m h t d) q k n =
-        let (q′, k′, p) = subst (AfterToken a s false at room z next q) t (split a s false k (Token e (record { at = next })) m) in
-        after-it w r q q′ p (never d q′ k′ (sym (ap (λ (j : Result). j .number) p) ∙ n))
-    never (stands n h st) q k z = inl (ap without-report (one-run a s false (halts st) k))
-    never (keeps {at} {room} {z} {r} to next y z′ w h i f d) q k n =
-        let (u, q′, e, l, k′, p) = in-a-run i room q k n in
-        after-it w r q q′ (p ∙ ap (λ (j : List ℕ). after-writing j q′) (sym e))
-        (never d q′ (subst (λ (j : List ℕ). Runs a s false next (roomLeft room j) z′ q′) (sym e) k′) (sym (ap (λ (j : Result). j .number) p) ∙ n))
-    never (full-room {at} {room} to next y z′ w h i f) q k n =
-        let (u, q′, e, l, k′, p) = in-a-run i room q k n in
-        absurd (omega (arith, l, f, ap length e))
-    never (waits {at} {room} to y h i) q k n = by (in-a-run i room q k n)
-      where
-        by : _≡_ {A = ℕ} 17 0 ⊎ (_≡_ {A = ℕ} 17 17 × (area < 0 + length (q .output))) → Same (without-report (stopped-at 17 to y)) q
-        by (inl e) = absurd (omega (arith, e))
-        by (inr (e, l)) = inr (refl, omega (arith, l))
-    never (drops {at} {room} n to last y h i b p d) q k z = absurd (not-zero n (0 + length (q .output)) b (in-a-run i room q k z))
-    never (loses {at} {room} n to last y h i b p e) q k z = absurd (not-zero n (0 + length (q .output)) b (in-a-run i room q k z))
-    never (cut-off {at} {room} to last y h i e) q k z = absurd (by (in-a-run i room q k z))
-      where
-        by : _≡_ {A = ℕ} 27 0 ⊎ (_≡_ {A = ℕ} 27 17 × (area < 0 + length (q .output))) → ⊥
-        by (inl e) = omega (arith, e)
-        by (inr (e, l)) = omega (arith, e)
-    never (over {at} {room} to y h i) q k z = absurd (by (in-a-run i room q k z))
-      where
-        by : _≡_ {A = ℕ} 30 0 ⊎ (_≡_ {A = ℕ} 30 17 × (area < 0 + length (q .output))) → ⊥
-        by (inl e) = omega (arith, e)
-        by (inr (e, l)) = omega (arith, e)
+  kept : (at room : ℕ) (z : Configuration) (to next : ℕ) (y z′ : Configuration) (w : List ℕ) → RecordAt a x s at z → InRecord a s area at z [] (whole to y next z′ w) → length w ≤ room →
+      LongRecord a x s area next (roomLeft room w) z′ → LongRecord a x s area at room z
+  kept at room z to next y z′ w h i l k =
+      record {
+        at = k .at;
+        written = w ++ k .written;
+        left = k .left;
+        stands-in = k .stands-in;
+        comes = keeps-on to next y z′ w h i l (k .comes);
+        is-record = k .is-record;
+        wide = k .wide;
+        to = k .to;
+        next = k .next;
+        ends-in = k .ends-in;
+        goes-on-in = k .goes-on-in;
+        output = k .output;
+        is-whole = k .is-whole;
+        longer = k .longer;
+      }
+
+  after-it : (w : List ℕ) (at room next : ℕ) (z z′ : Configuration) (r : Salvage) (q q′ : Result) → q ≡ after-writing w q′ →
+      (LongRecord a x s area next (roomLeft room w) z′ → LongRecord a x s area at room z) → Same next (roomLeft room w) z′ r q′ → Same at room z (behind-output w r) q
+  after-it w at room next z z′ r q q′ e f (inl h) = inl (ap (behind-output w) h ∙ ap without-report (sym e))
+  after-it w at room next z z′ r q q′ e f (inr (h, l)) = inr (h, f l)
+
+  not-zero : (n : ℕ) (l : ℕ) → damaged n ≡ true → (n ≡ 0) ⊎ ((n ≡ 17) × (area < l)) → ⊥
+  not-zero n l b (inl h) = let u = damage n b in omega (arith, u .0, h)
+  not-zero n l b (inr h) = let u = damage n b in omega (arith, u .0, h .0)
+
+  never : {at room : ℕ} {z : Configuration} {r : Salvage} → Salvages a x s area at room z r → (q : Result) → Runs a s false at room z q → q .number ≡ 0 → Same at room z r q
+  never (passes {at} {room} {z} {r} e next z′ w m h t d) q k n =
+      let (q′, k′, p) = subst (AfterToken a s false at room z next q) t (split a s false k (Token e (record { at = next })) m) in
+      after-it w at room next z z′ r q q′ p (passed at room z e next z′ w m h t) (never d q′ k′ (sym (ap (λ (j : Result). j .number) p) ∙ n))
+  never (stands n h st) q k z = inl (ap without-report (one-run a s false (halts st) k))
+  never (keeps {at} {room} {z} {r} to next y z′ w h i f d) q k n =
+      let (u, q′, e, l, k′, p) = in-a-run a s area i room q k n in
+      after-it w at room next z z′ r q q′ (p ∙ ap (λ (j : List ℕ). after-writing j q′) (sym e)) (kept at room z to next y z′ w h i f)
+      (never d q′ (subst (λ (j : List ℕ). Runs a s false next (roomLeft room j) z′ q′) (sym e) k′) (sym (ap (λ (j : Result). j .number) p) ∙ n))
+  never (full-room {at} {room} to next y z′ w h i f) q k n =
+      let (u, q′, e, l, k′, p) = in-a-run a s area i room q k n in
+      absurd (omega (arith, l, f, ap length e))
+  never (waits {at} {room} {z} to y h i) q k n =
+      let l = token-in s at (h .event) (h .next) (h .reads) in
+      let (o, d, f) = record-goes a x s (length (q .output)) at (omega (arith, l .0, l .1)) z h in
+      inr (refl, by o d f (in-a-run a s (length (q .output)) d room q k n))
+    where
+      no-zero : (m : ℕ) → Numbered m → m ≡ 0 → ⊥
+      no-zero m (inl e) g = omega (arith, e, g)
+      no-zero m (inr (inl b)) g = let u = damage m b in omega (arith, u .0, g)
+      no-zero m (inr (inr (inl e))) g = omega (arith, e, g)
+      no-zero m (inr (inr (inr e))) g = omega (arith, e, g)
+
+      by : (o : RecordEnd) → InRecord a s (length (q .output)) at z [] o → KnownEnd a s (length (q .output)) o → EndsIn a s (length (q .output)) room z [] q o → LongRecord a x s area at room z
+      by (broken m to₁ y₁) d f (inl e) = absurd (no-zero m f e)
+      by (broken m to₁ y₁) d f (inr (e, l)) = absurd (omega (arith, l))
+      by (whole to₁ y₁ next z′ w) d f g = on (leb (length w) area) refl
+        where
+          on : (b : Bool) → leb (length w) area ≡ b → LongRecord a x s area at room z
+          on true e =
+              let c = record-one a s area i (whole-fits (length (q .output)) to₁ next y₁ z′ w d .2 (leb-true (length w) area e)) in
+              absurd (let j : _≡_ {A = ℕ} 0 1 = cc in omega arith)
+          on false e =
+              record {
+                at = at;
+                written = [];
+                left = room;
+                stands-in = z;
+                comes = there;
+                is-record = h;
+                wide = length (q .output);
+                to = to₁;
+                next = next;
+                ends-in = y₁;
+                goes-on-in = z′;
+                output = w;
+                is-whole = d;
+                longer = leb-false (length w) area e;
+              }
+  never (drops {at} {room} n to last y h i b p d) q k z = absurd (not-zero n (0 + length (q .output)) b (in-a-run a s area i room q k z))
+  never (loses {at} {room} n to last y h i b p e) q k z = absurd (not-zero n (0 + length (q .output)) b (in-a-run a s area i room q k z))
+  never (cut-off {at} {room} to last y h i e) q k z = absurd (by (in-a-run a s area i room q k z))
+    where
+      by : _≡_ {A = ℕ} 27 0 ⊎ (_≡_ {A = ℕ} 27 17 × (area < 0 + length (q .output))) → ⊥
+      by (inl e) = omega (arith, e)
+      by (inr (e, l)) = omega (arith, e)
+  never (over {at} {room} to y h i) q k z = absurd (by (in-a-run a s area i room q k z))
+    where
+      by : _≡_ {A = ℕ} 30 0 ⊎ (_≡_ {A = ℕ} 30 17 × (area < 0 + length (q .output))) → ⊥
+      by (inl e) = omega (arith, e)
+      by (inr (e, l)) = omega (arith, e)
 
 -- a stream that is never refused
 pub never-refused : (a : Sheet) (x : RecordTags) → NeverRefused a x

@@ -40,7 +40,7 @@ use Rattle.salvage.proofs.Main.{record-begins, resumes-in}
 use Rattle.salvage.proofs.Depths.{openIn, Leaves, TokenLeaves, token-leaves}
 
 -- the numbers inside a record
-abbrev Numbered : ℕ → Type 0
+abbrev pub Numbered : ℕ → Type 0
 Numbered n = (n ≡ 17) ⊎ ((damaged n ≡ true) ⊎ ((n ≡ 27) ⊎ (n ≡ 30)))
 
 damaged-by : (n : ℕ) → 20 ≤ n → n ≤ 25 → damaged n ≡ true
@@ -111,16 +111,16 @@ start-leaves t (literal c) d d′ e h l = omega arith
 start-leaves t (reference c) d d′ e h l = omega arith
 
 module _ (a : Sheet) (s : List ℕ) (area : ℕ) where
-  abbrev Fine : RecordEnd → Type 0
-  Fine (whole to y next z w) = Unit {0}
-  Fine (broken n to y) = Numbered n
+  abbrev pub KnownEnd : RecordEnd → Type 0
+  KnownEnd (whole to y next z w) = Unit {0}
+  KnownEnd (broken n to y) = Numbered n
 
   -- behind the token at `at` an element is open still
   abbrev StaysIn : ℕ → Configuration → Type 0
   StaysIn at y = (e : Event) (next : ℕ) → ReadAs false s at (Token e (record { at = next })) → (z : Configuration) → stepToken a y (tokenOf a s e) ≡ took z → 1 ≤ openIn (z .control)
 
-  abbrev Goes : ℕ → Configuration → List ℕ → Type 0
-  Goes at y v = (o : RecordEnd) × InRecord a s area at y v o × Fine o
+  abbrev pub Goes : ℕ → Configuration → List ℕ → Type 0
+  Goes at y v = (o : RecordEnd) × InRecord a s area at y v o × KnownEnd o
 
   stays-in : (at : ℕ) (y : Configuration) → 2 ≤ openIn (y .control) → StaysIn at y
   stays-in at y h e next m z t =
@@ -221,6 +221,22 @@ module _ (a : Sheet) (x : RecordTags) (s : List ℕ) where
     abbrev Goes-on : ℕ → ℕ → Configuration → Type 0
     Goes-on at room z = (r : Salvage) × Salvages a x s area at room z r
 
+    pub record-goes : (at : ℕ) → at ≤ length s → (z : Configuration) → RecordAt a x s at z → Goes a s area at z []
+    record-goes at l z h =
+        let b = both-true (rootOnly (z .control)) (startsWith (x .record-tag) (tokenOf a s (h .event))) (h .begins) in
+        let one = one-open (z .control) (b .0) in
+        some-record a s area (length s) at l (omega arith) z [] one
+        (λ e next m z′ t. start-leaves (x .record-tag) (tokenOf a s e) (openIn (z .control)) (openIn (z′ .control)) (begins e next m) one
+        (subst (TokenLeaves (tokenOf a s e) (openIn (z .control))) t (token-leaves a z one (tokenOf a s e))))
+      where
+        begins : (e : Event) (next : ℕ) → ReadAs false s at (Token e (record { at = next })) → startsWith (x .record-tag) (tokenOf a s e) ≡ true
+        begins e next m =
+            let q : Token (h .event) (record { at = h .next }) ≡ Token e (record { at = next }) =
+            read-one false s at (Token (h .event) (record { at = h .next })) (Token e (record { at = next })) (h .reads) m in
+            let c : h .event ≡ e = cc in
+            subst (λ (k : Event). startsWith (x .record-tag) (tokenOf a s k) ≡ true) c
+            (both-true (rootOnly (z .control)) (startsWith (x .record-tag) (tokenOf a s (h .event))) (h .begins) .1)
+
     module _ (at : ℕ) (l : at ≤ length s) (rest : (next : ℕ) → at < next → next ≤ length s → (room : ℕ) (z : Configuration) → Goes-on next room z) where
       from-lost : (room : ℕ) (z : Configuration) (n to : ℕ) (y : Configuration) → RecordAt a x s at z → InRecord a s area at z [] (broken n to y) → damaged n ≡ true →
           Found at to → Goes-on at room z
@@ -232,7 +248,7 @@ module _ (a : Sheet) (x : RecordTags) (s : List ℕ) where
           let j = record-begins a x s at z h l in
           (_, loses n to (length s - 1) y h i b q (omega (arith, j)))
 
-      from-end : (room : ℕ) (z : Configuration) → RecordAt a x s at z → (o : RecordEnd) → InRecord a s area at z [] o → Fine a s area o → Goes-on at room z
+      from-end : (room : ℕ) (z : Configuration) → RecordAt a x s at z → (o : RecordEnd) → InRecord a s area at z [] o → KnownEnd a s area o → Goes-on at room z
       from-end room z h (whole to y next z′ w) i f = by (leb (length w) room) refl
         where
           by : (b : Bool) → leb (length w) room ≡ b → Goes-on at room z
@@ -249,21 +265,7 @@ module _ (a : Sheet) (x : RecordTags) (s : List ℕ) where
       from-end room z h (broken n to y) i (inr (inr (inr e))) = (_, over to y h (subst (λ (k : ℕ). InRecord a s area at z [] (broken k to y)) e i))
 
       from-record : (room : ℕ) (z : Configuration) (h : RecordAt a x s at z) → Goes-on at room z
-      from-record room z h =
-          let b = both-true (rootOnly (z .control)) (startsWith (x .record-tag) (tokenOf a s (h .event))) (h .begins) in
-          let one = one-open (z .control) (b .0) in
-          let (o, i, f) = some-record a s area (length s) at l (omega arith) z [] one
-          (λ e next m z′ t. start-leaves (x .record-tag) (tokenOf a s e) (openIn (z .control)) (openIn (z′ .control)) (begins e next m) one
-          (subst (TokenLeaves (tokenOf a s e) (openIn (z .control))) t (token-leaves a z one (tokenOf a s e)))) in
-          from-end room z h o i f
-        where
-          begins : (e : Event) (next : ℕ) → ReadAs false s at (Token e (record { at = next })) → startsWith (x .record-tag) (tokenOf a s e) ≡ true
-          begins e next m =
-              let q : Token (h .event) (record { at = h .next }) ≡ Token e (record { at = next }) =
-              read-one false s at (Token (h .event) (record { at = h .next })) (Token e (record { at = next })) (h .reads) m in
-              let c : h .event ≡ e = cc in
-              subst (λ (k : Event). startsWith (x .record-tag) (tokenOf a s k) ≡ true) c
-              (both-true (rootOnly (z .control)) (startsWith (x .record-tag) (tokenOf a s (h .event))) (h .begins) .1)
+      from-record room z h = let (o, i, f) = record-goes at l z h in from-end room z h o i f
 
       from-outside : (room : ℕ) (z : Configuration) (e : Event) (next : ℕ) → ReadAs false s at (Token e (record { at = next })) → beginsRecord x (z .control) (tokenOf a s e) ≡ false →
           (u : Taking) → oneToken a z room (tokenOf a s e) ≡ u → Goes-on at room z

@@ -113,10 +113,16 @@ module _ (a : Sheet) (records : ℕ) (x : RecordTags) (shape : OfShape a records
         by (inl h) r = on (sym (start-refused a records x shape y o f room) ∙ ap (oneToken a y room) (sym h) ∙ r)
         by (inr h) r = on (sym (empty-refused a records x shape y o f room) ∙ ap (oneToken a y room) (sym h) ∙ r)
 
+  -- where a record begins the root's tag was read
+  pub root-self : (c : Control) → rootOnly c ≡ true → Fine a records x shape c → Self a records x shape (x .root-tag)
+  root-self before b f = absurd (true≢false (sym b))
+  root-self (inside o os) b f = f .0
+  root-self after b f = absurd (true≢false (sym b))
+
   -- where one of the two byte strings stands
   module _ (fit : NamesFit (a .names)) (record-self : Self a records x shape (x .record-tag)) (root-self : Self a records x shape (x .root-tag)) (s : List ℕ) (at : ℕ) (y : Configuration)
-      (o : rootOnly (y .control) ≡ false) (f : Fine a records x shape (y .control)) (u : Unclosed (y .control)) where
-    pub stops-at : MayResume a x s at → (n : ℕ) × ((n ≡ 22) ⊎ (n ≡ 23)) × ((room : ℕ) → Stop a s false at room y n)
+      (o : rootOnly (y .control) ≡ false) (f : Fine a records x shape (y .control)) where
+    pub stops-at : MayResume a x s at → (n : ℕ) × ((n ≡ 22) ⊎ (n ≡ 23)) × ((room : ℕ) → Stop a s false at room y (unless-closed a records x shape (y .control) n))
     stops-at (inl (r, e)) =
         let name : List ℕ = nameOf (a .names) (x .record-tag) in
         let i = named-is (a .names) name (x .record-tag) record-self in
@@ -125,8 +131,8 @@ module _ (a : Sheet) (records : ℕ) (x : RecordTags) (shape : OfShape a records
         let k = length-append name (62 ∷ []) in (
           23,
           inr refl,
-          (λ room. stops (eventOf at t) (at + length (bytes t)) 23 (token-reads s at t r e (g, tt) (omega (arith, k, l)) false tt)
-              (ap (oneToken a y room) (token-at a s t at r e ∙ ap start-token record-self) ∙ start-refused a records x shape y o f room ∙ ap refuses (u 23))),
+          (λ room. stops (eventOf at t) (at + length (bytes t)) (unless-closed a records x shape (y .control) 23) (token-reads s at t r e (g, tt) (omega (arith, k, l)) false tt)
+              (ap (oneToken a y room) (token-at a s t at r e ∙ ap start-token record-self) ∙ start-refused a records x shape y o f room)),
         )
     stops-at (inr (r, e)) =
         let name : List ℕ = nameOf (a .names) (x .root-tag) in
@@ -136,6 +142,6 @@ module _ (a : Sheet) (records : ℕ) (x : RecordTags) (shape : OfShape a records
         let k = length-append name (62 ∷ []) in (
           22,
           inl refl,
-          (λ room. stops (eventOf at t) (at + length (bytes t)) 22 (token-reads s at t r e (g, tt) (omega (arith, k, l)) false tt)
-              (ap (oneToken a y room) (token-at a s t at r e ∙ ap end-token root-self) ∙ end-refused a records x shape y o f room ∙ ap refuses (u 22))),
+          (λ room. stops (eventOf at t) (at + length (bytes t)) (unless-closed a records x shape (y .control) 22) (token-reads s at t r e (g, tt) (omega (arith, k, l)) false tt)
+              (ap (oneToken a y room) (token-at a s t at r e ∙ ap end-token root-self) ∙ end-refused a records x shape y o f room)),
         )

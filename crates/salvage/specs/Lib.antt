@@ -1,6 +1,8 @@
 pub mod Shape
+pub mod Shaped
 pub mod Resumption
 pub mod Salvage
 pub mod Cut
-pub mod Promises
 pub mod NeverSent
+pub mod TakenOf
+pub mod Promises
