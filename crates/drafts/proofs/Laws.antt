@@ -180,7 +180,8 @@ asks-operand p f q h e =
     let k : SmallFigure loose f × SmallParen tight q = subst (SmallPoint loose) e h in
     let u = k .1 .union in
     let c = k .1 .cat in
-    (record { union = record { nodes = omega arith; depth = omega arith }; cat = record { nodes = omega arith; depth = omega arith }; surround = k .1 .surround }, k .0)
+    let m = k .1 .surround in
+    (record { union = record { nodes = omega arith; depth = omega arith }; cat = record { nodes = omega arith; depth = omega arith }; surround = record { nodes = omega arith; depth = omega arith; least = omega arith } }, k .0)
 
 pub asks-after : (p : Point) (f : Figure) (q : Paren) (w : Figure) → SmallPoint loose p → p ≡ After f q → HeldIs q f w → SmallSurround vast (q .surround) × SmallFigure vast w
 asks-after p f q w h e g =

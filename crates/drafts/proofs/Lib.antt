@@ -1,2 +1,3 @@
 pub mod Laws
 pub mod Small
+pub mod Stays

@@ -1,18 +1,22 @@
 -- The sketch that a draft is, and what a step of it says. Assumes nothing.
 use mathlib.Core.Path.{_≡_}
 use mathlib.Core.Bool.{Bool, true, false}
-use mathlib.Core.Option.{Option}
+use mathlib.Core.Option.{Option, none, some}
 use mathlib.Core.List.{List, [], _∷_}
 use Prim.Native.Nat.{ℕ, zero, suc, _≤_}
 use lib.ListN.{length, getD}
+use Rattle.programs.specs.Limits.{Visit}
+use Rattle.programs.specs.Parsed.{visit}
 use Rattle.sketches.specs.declared.Paren.{Paren}
 use Rattle.sketches.specs.declared.Point.{Point}
+use Rattle.sketches.specs.declared.Point.the-variants.{Beginning, FirstWord, Named, Defined, OwnFront, WantsTag, Tagged, Wants, InFront, After, Behind, Over, Closed, OwnBack, Complete}
 use Rattle.sketches.specs.declared.Move.{Move}
 use Rattle.sketches.specs.Figures.{bare, justOpened}
-use Rattle.sketches.specs.Moves.{Sketch, sketched, sketchIf, nodesThere, depthThere}
+use Rattle.sketches.specs.Moves.{Sketch, sketched, sketchIf, stepSketch, nodesThere, depthThere, programAt, unbraced, textEnds}
 use Rattle.drafts.specs.declared.Draft.{Draft}
 use Rattle.drafts.specs.declared.Stepped.{Stepped}
-use Rattle.paces.specs.Small.{tight, loose, SmallFigure, SmallParen, SmallPoint, SmallSketch}
+use Rattle.drafts.specs.declared.Place.{Place}
+use Rattle.paces.specs.Small.{tight, loose, Counted, SmallFigure, SmallParen, SmallPoint, SmallSketch}
 
 -- the first n, the last of them first
 abbrev pub stacked : List Paren → ℕ → List Paren
@@ -29,9 +33,28 @@ pub record Sound (d : Draft) : Type 0 where
   pub few-open : d .open ≤ tight
   pub small : SmallSketch (sketchOf d)
 
+-- what a point's size does not count, or not where no pair of parentheses is around it, is small by itself
+abbrev pub SmallUncounted : Point → Type 0
+SmallUncounted Beginning = Unit {0}
+SmallUncounted FirstWord = Unit {0}
+SmallUncounted Named = Unit {0}
+SmallUncounted Defined = Unit {0}
+SmallUncounted OwnFront = Unit {0}
+SmallUncounted WantsTag = Unit {0}
+SmallUncounted Tagged = Unit {0}
+SmallUncounted (Wants true p) = SmallParen tight p
+SmallUncounted (Wants false p) = Counted (p .union) × Counted (p .cat)
+SmallUncounted (InFront m) = Unit {0}
+SmallUncounted (After e p) = Unit {0}
+SmallUncounted (Behind e m) = Unit {0}
+SmallUncounted (Over e m) = Unit {0}
+SmallUncounted (Closed n) = Unit {0}
+SmallUncounted (OwnBack n) = Unit {0}
+SmallUncounted (Complete n) = Unit {0}
+
 abbrev pub Ready : Move → Type 0
 Ready Move.Refused = Unit {0}
-Ready (Move.To p) = SmallPoint loose p
+Ready (Move.To p) = SmallPoint loose p × SmallUncounted p
 Ready (Move.Opened p) = SmallParen tight p
 Ready (Move.Closed e) = SmallFigure loose e
 Ready Move.Emptied = Unit {0}
@@ -40,3 +63,28 @@ Ready (Move.Next n) = n ≤ tight
 pub record SizeIs (p : Point) (unclosed : ℕ) (nodes depth : ℕ) : Type 0 where
   pub nodes-are : (ps : List Paren) → length ps ≡ unclosed → nodes ≡ nodesThere p ps
   pub depth-is : (ps : List Paren) → length ps ≡ unclosed → depth ≡ depthThere p ps
+
+-- a token of a kind, outside programs; where it is not taken the draft stays small too
+pub record StepIs (d : Draft) (kind : ℕ) (r : Stepped) : Type 0 where
+  pub same : SteppedIs (stepSketch (sketchOf d) kind) r
+  pub sound : Sound (r .draft)
+
+pub record DraftIs (k : Sketch) (d : Draft) : Type 0 where
+  pub same : sketchOf d ≡ k
+  pub sound : Sound d
+
+abbrev pub programIf : Bool → Bool → Option Visit
+programIf true second = some (visit second)
+programIf false second = none
+
+abbrev pub plainly : Point → Bool → Place
+plainly p e = record { reads = false; second = false; ends = e; behind = p }
+
+abbrev pub reading : Bool → Point → Place
+reading b p = record { reads = true; second = b; ends = false; behind = p }
+
+-- whether a program is being read, for which visit, whether a text may end, and the point behind the program
+pub record PlaceIs (p : Point) (r : Place) : Type 0 where
+  pub program : programAt p ≡ programIf (r .reads) (r .second)
+  pub ends : r .ends ≡ textEnds p
+  pub behind : r .behind ≡ unbraced p

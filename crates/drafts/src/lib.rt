@@ -1,11 +1,12 @@
 // Where a reader of rules stands, in numbers and an array of open parentheses: it steps by kinds of token.
 ghost use mathlib.Core.Path.{_≡_};
-ghost use Prim.Native.Nat.{_≤_};
+ghost use Prim.Native.Nat.{_≤_, _<_};
+ghost use Rattle.lexemes.specs.Kinds.{kinds};
 ghost use Rattle.sketches.specs.declared.Move.{Move};
-ghost use Rattle.sketches.specs.Moves.{after-move, sketchFits};
+ghost use Rattle.sketches.specs.Moves.{after-move, sketchFits, sketchStart, unbracedSketch};
 ghost use Rattle.sketches.specs.Figures.{nodesWith, depthWith};
 ghost use Rattle.paces.specs.Small.{tight, loose, vast, SmallFigure, SmallSurround, SmallParen, SmallPoint};
-ghost use Rattle.drafts.specs.Drafted.{sketchOf, SteppedIs, Ready, Sound, SizeIs};
+ghost use Rattle.drafts.specs.Drafted.{sketchOf, SteppedIs, Ready, Sound, SizeIs, StepIs, DraftIs, plainly, reading, PlaceIs};
 
 // A place in a text: the point, the pairs of parentheses around, outermost first, how many they are, and how many productions and nodes stand
 // before this production.
@@ -222,4 +223,127 @@ fn fits(d: Draft) -> bool
         }
     }
     false
+}
+
+// The start of a text.
+pub fn fresh() -> Draft
+    ensures { λ r. ⌜ DraftIs sketchStart r ⌝ }
+{
+    let paren = sketches::Paren {
+        before: false,
+        union: paces::moves::NOTHING,
+        cat: paces::moves::NOTHING,
+        surround: sketches::Surround {
+            nodes: 0,
+            depth: 0,
+            least: 0,
+            star: false,
+        },
+    };
+    Draft {
+        point: sketches::Point::Beginning,
+        around: [paren; 32],
+        open: 0,
+        productions: 0,
+        earlier: 0,
+    }
+}
+
+// A token of a kind, outside programs.
+pub fn step(d: Draft, kind: usize) -> Stepped
+    requires { ⌜ (kind < kinds) × Sound d ⌝ }
+    ensures { λ r. ⌜ StepIs d kind r ⌝ }
+{
+    let p = d.point;
+    let m = paces::moves::move_of(p, kind);
+    let s = after_move(d, m);
+    if s.taken {
+        let e = s.draft;
+        if fits(e) {
+            return s;
+        }
+    }
+    Stepped {
+        taken: false,
+        draft: d,
+    }
+}
+
+// What a point says besides: whether a program is being read there, whether for the second visit, whether a text may end there, and the point
+// behind the program.
+pub struct Place {
+    pub reads: bool,
+    pub second: bool,
+    pub ends: bool,
+    pub behind: sketches::Point,
+}
+
+fn plain(p: sketches::Point, ends: bool) -> Place
+    ensures { λ r. ⌜ r ≡ plainly p ends ⌝ }
+{
+    Place {
+        reads: false,
+        second: false,
+        ends: ends,
+        behind: p,
+    }
+}
+
+fn program(second: bool, behind: sketches::Point) -> Place
+    ensures { λ r. ⌜ r ≡ reading second behind ⌝ }
+{
+    Place {
+        reads: true,
+        second: second,
+        ends: false,
+        behind: behind,
+    }
+}
+
+pub fn place_of(p: sketches::Point) -> Place
+    ensures { λ r. ⌜ PlaceIs p r ⌝ }
+{
+    match p {
+        sketches::Point::Beginning => plain(p, false),
+        sketches::Point::FirstWord => plain(p, false),
+        sketches::Point::Named => plain(p, false),
+        sketches::Point::Defined => plain(p, false),
+        sketches::Point::WantsTag => plain(p, false),
+        sketches::Point::Tagged => plain(p, false),
+        sketches::Point::Wants(_, _) => plain(p, false),
+        sketches::Point::After(_, _) => plain(p, false),
+        sketches::Point::Over(_, _) => plain(p, false),
+        sketches::Point::Closed(_) => plain(p, true),
+        sketches::Point::Complete(_) => plain(p, true),
+        sketches::Point::OwnFront => program(false, sketches::Point::WantsTag),
+        sketches::Point::InFront(m) => {
+            let q = sketches::Paren {
+                before: true,
+                union: paces::moves::NOTHING,
+                cat: paces::moves::NOTHING,
+                surround: m,
+            };
+            program(false, sketches::Point::Wants(false, q))
+        }
+        sketches::Point::Behind(e, m) => program(true, sketches::Point::Over(e, m)),
+        sketches::Point::OwnBack(n) => program(true, sketches::Point::Complete(n)),
+    }
+}
+
+// Behind the program that was read.
+pub fn unbrace(d: Draft) -> Draft
+    requires { ⌜ Sound d ⌝ }
+    ensures { λ r. ⌜ DraftIs (unbracedSketch (sketchOf d)) r ⌝ }
+{
+    let around = d.around;
+    let p = d.point;
+    let w = place_of(p);
+    let behind = w.behind;
+    Draft {
+        point: behind,
+        around: around,
+        open: d.open,
+        productions: d.productions,
+        earlier: d.earlier,
+    }
 }

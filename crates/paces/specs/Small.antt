@@ -36,11 +36,11 @@ pub record SmallSurround (most : ℕ) (m : Surround) : Type 0 where
   pub depth : m .depth ≤ most
   pub least : m .least ≤ most
 
--- its parts to the left at most so large, what lies around it small
+-- its parts to the left and what lies around it
 pub record SmallParen (most : ℕ) (p : Paren) : Type 0 where
   pub union : SmallBeside most (p .union)
   pub cat : SmallBeside most (p .cat)
-  pub surround : SmallSurround tight (p .surround)
+  pub surround : SmallSurround most (p .surround)
 
 -- what is large stands there, and so counts among the nodes
 abbrev pub Counted : Beside → Type 0
