@@ -1,7 +1,8 @@
 // What is kept of the bytes that were passed: the last of them, and on which lines the open elements began.
 ghost use mathlib.Core.Path.{_≡_};
-ghost use Prim.Native.Nat.{_<_, min};
+ghost use Prim.Native.Nat.{_≤_, _<_, min};
 ghost use lib.ListN.{length};
+use crate::place::CARRIAGE_RETURN;
 use crate::place::ends_line;
 use state::State;
 use std::num::wrapping_add_u64;
@@ -63,16 +64,6 @@ pub struct Lines {
     pub lines: [u64; State::DEPTH],
 }
 
-// The line behind the byte at a place.
-fn line_past(bytes: &[u8], i: usize, line: u64) -> u64
-    requires { ⌜ i < length (now bytes) ⌝ }
-{
-    if ends_line(bytes, i) {
-        return wrapping_add_u64(line, 1);
-    }
-    line
-}
-
 // Whether the tag that starts at a byte is an empty one, with a slash before its end.
 fn is_empty_tag(bytes: &[u8], from: usize) -> bool {
     let mut last = 0;
@@ -88,6 +79,81 @@ fn is_empty_tag(bytes: &[u8], from: usize) -> bool {
     false
 }
 
+// Whether a slash stands behind a byte.
+fn is_end_tag(bytes: &[u8], i: usize) -> bool {
+    if i < bytes.len() {
+        return wrong::byte(bytes, i + 1) == b'/';
+    }
+    false
+}
+
+// What a tag does to the elements that are open.
+const OPENS: u8 = 1;
+
+const CLOSES: u8 = 2;
+
+const NEITHER: u8 = 0;
+
+// What the tag that starts at a byte does; where the bytes end there is none.
+fn kind_of_tag(bytes: &[u8], i: usize) -> u8 {
+    if wrong::byte(bytes, i) != b'<' {
+        return NEITHER;
+    }
+    if is_empty_tag(bytes, i) {
+        return NEITHER;
+    }
+    if is_end_tag(bytes, i) {
+        return CLOSES;
+    }
+    OPENS
+}
+
+// Where the next tag starts, or the bytes end, and on which line.
+struct TagAt {
+    at: usize,
+    line: u64,
+}
+
+fn to_tag(bytes: &[u8], from: usize, line: u64) -> TagAt
+    requires { ⌜ from ≤ length (now bytes) ⌝ }
+    ensures { λ r. ⌜ (from ≤ r .at) × (r .at ≤ length (now (bytes .entry))) ⌝ }
+{
+    let mut here = line;
+    let mut i = from;
+    while i < bytes.len() {
+        let b = bytes[i];
+        if b == b'<' {
+            return TagAt { at: i, line: here };
+        }
+        if b <= CARRIAGE_RETURN {
+            if ends_line(bytes, i) {
+                here = wrapping_add_u64(here, 1);
+            }
+        }
+        i += 1;
+    }
+    TagAt { at: i, line: here }
+}
+
+// Past a tag of a kind: an element that it opens began on that line. Answers how many are open then; no more than there is room for ever are.
+fn note(lines: &mut [u64], depth: usize, kind: u8, line: u64) -> usize
+    ensures { λ _. ⌜ length (now (lines .exit)) ≡ length (now (lines .entry)) ⌝ }
+{
+    if kind == CLOSES {
+        if 0 < depth {
+            return depth - 1;
+        }
+        return 0;
+    }
+    if kind == OPENS {
+        if depth < lines.len() {
+            lines[depth] = line;
+            return depth + 1;
+        }
+    }
+    depth
+}
+
 impl Lines {
     fn none() -> Lines {
         Lines {
@@ -96,68 +162,32 @@ impl Lines {
         }
     }
 
-    // An element began. No more than State::DEPTH are ever open.
-    fn opened(self, line: u64) -> Lines {
-        let depth = self.depth;
-        if depth >= State::DEPTH {
-            return self;
-        }
+    // After some bytes more, which are whole tokens and start on a line: a tag starts with each <
+    fn after(self, passed: &[u8], line: u64) -> Passed {
         let mut lines = self.lines;
-        lines[depth] = line;
-        Lines {
-            depth: depth + 1,
-            lines: lines,
-        }
-    }
-
-    // The innermost element ended.
-    fn closed(self) -> Lines {
-        let depth = self.depth;
-        if depth == 0 {
-            return self;
-        }
-        let lines = self.lines;
-        Lines {
-            depth: depth - 1,
-            lines: lines,
-        }
-    }
-
-    // After the tag that starts at a byte.
-    fn past_tag(self, bytes: &[u8], i: usize, line: u64) -> Lines
-        requires { ⌜ i < length (now bytes) ⌝ }
-    {
-        if wrong::byte(bytes, i + 1) == b'/' {
-            return self.closed();
-        }
-        if is_empty_tag(bytes, i) {
-            return self;
-        }
-        self.opened(line)
-    }
-
-    // After the byte at a place: a tag starts with each <
-    fn past(self, bytes: &[u8], i: usize, line: u64) -> Lines
-        requires { ⌜ i < length (now bytes) ⌝ }
-    {
-        if bytes[i] == b'<' {
-            return self.past_tag(bytes, i, line);
-        }
-        self
-    }
-
-    // After some bytes more, which are whole tokens and start on a line.
-    fn after(self, passed: &[u8], line: u64) -> Lines {
-        let mut next = self;
+        let mut depth = self.depth;
         let mut here = line;
         let mut i = 0;
         while i < passed.len() {
-            next = next.past(passed, i, here);
-            here = line_past(passed, i, here);
-            i += 1;
+            let tag = to_tag(passed, i, here);
+            here = tag.line;
+            depth = note(&mut lines, depth, kind_of_tag(passed, tag.at), here);
+            i = tag.at + 1;
         }
-        next
+        Passed {
+            line: here,
+            lines: Lines {
+                depth: depth,
+                lines: lines,
+            },
+        }
     }
+}
+
+// The line behind some bytes, and the lines of the elements that are open there.
+pub struct Passed {
+    pub line: u64,
+    pub lines: Lines,
 }
 
 pub struct Behind {
@@ -176,15 +206,19 @@ impl Behind {
         }
     }
 
-    // Past some bytes, which are whole tokens and start on a line.
-    pub(crate) fn after(self, passed: &[u8], line: u64) -> Behind {
+    // Past some bytes, which are whole tokens; the lines were counted.
+    pub(crate) fn after(self, passed: &[u8], lines: Lines) -> Behind {
         let old = self.tail;
         let tail = old.after(passed);
-        let were = self.lines;
-        let lines = were.after(passed, line);
         Behind {
             tail: tail,
             lines: lines,
         }
+    }
+
+    // The line behind some bytes that start on a line, and the lines of the elements that are open there.
+    pub(crate) fn lines_after(self, passed: &[u8], line: u64) -> Passed {
+        let lines = self.lines;
+        lines.after(passed, line)
     }
 }

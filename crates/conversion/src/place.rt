@@ -11,7 +11,7 @@ pub struct Place {
 
 const LINE_FEED: u8 = 10;
 
-const CARRIAGE_RETURN: u8 = 13;
+pub(crate) const CARRIAGE_RETURN: u8 = 13;
 
 // Whether a byte is a character's second, third or fourth: those are 80 to BF.
 pub(crate) fn goes_on(b: u8) -> bool {
@@ -35,19 +35,6 @@ pub(crate) fn ends_line(bytes: &[u8], i: usize) -> bool
         return true;
     }
     bytes[next] != LINE_FEED
-}
-
-// How many lines end in some bytes.
-fn line_ends(bytes: &[u8]) -> u64 {
-    let mut n: u64 = 0;
-    let mut i = 0;
-    while i < bytes.len() {
-        if ends_line(bytes, i) {
-            n = wrapping_add_u64(n, 1);
-        }
-        i += 1;
-    }
-    n
 }
 
 // Where the last line of some bytes starts.
@@ -87,13 +74,14 @@ impl Place {
         }
     }
 
-    // Past some bytes. A line ends with a line feed that is handed on: LF, CR LF or CR. No file is so long that a number here would begin again from 0.
-    pub(crate) fn after(self, bytes: &[u8]) -> Place {
+    // Past some bytes, behind which it is that line. A line ends with a line feed that is handed on: LF, CR LF or CR. No file is so long that a number here would
+    // begin again from 0.
+    pub(crate) fn after(self, bytes: &[u8], line: u64) -> Place {
         let from = last_line(bytes);
         let column = if from == 0 { self.column } else { 1 };
         Place {
             offset: wrapping_add_u64(self.offset, bytes.len() as u64),
-            line: wrapping_add_u64(self.line, line_ends(bytes)),
+            line: line,
             column: wrapping_add_u64(column, characters(&bytes[from..])),
         }
     }

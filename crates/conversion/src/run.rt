@@ -94,8 +94,9 @@ fn go_on(part: &mut [u8], held: usize, s: Standing, r: Reply) -> Standing {
     let taken = files::within(r.taken, part);
     let place = s.place;
     let was = s.behind;
-    let past = place.after(&part[..taken]);
-    let behind = was.after(&part[..taken], place.line);
+    let passed = was.lines_after(&part[..taken], place.line);
+    let past = place.after(&part[..taken], passed.line);
+    let behind = was.after(&part[..taken], passed.lines);
     let left = files::move_to_front(part, taken, held);
     s.answered(r, past, behind, left)
 }

@@ -1,45 +1,55 @@
--- The bytes are passed one by one.
-use Prim.Native.Nat.{_≤_, _-_}
+-- The bytes are passed tag by tag.
+use mathlib.Core.Path.{_≡_}
+use Prim.Native.Nat.{suc, _≤_, _-_}
 use lib.ListN.{length}
 use borrow.Author.Needs.{needs}
 use Rattle.conversion.proofs.behind.Lines.after.Statement.{statement}
 use Rattle.conversion.proofs.behind.Lines.after.Tie as tie
 use Rattle.conversion.proofs.behind.Lines.after.Reads as reads
 use Rattle.conversion.proofs.behind.Lines.after.Lts as lts
-use Rattle.conversion.proofs.behind.Lines.past.Reads as past-reads
-use Rattle.conversion.proofs.behind.line_past.Reads as line-past-reads
+use Rattle.conversion.proofs.behind.kind_of_tag.Reads as kind-of-tag-reads
+use Rattle.conversion.proofs.behind.note.Reads as note-reads
+use Rattle.conversion.proofs.behind.to_tag.Reads as to-tag-reads
 
 abbrev Inv-loop : tie.InvT-loop
-Inv-loop passed line next₀ here₀ i₀ next here i = i ≤ length passed
+Inv-loop passed line lines₀ depth₀ here₀ i₀ lines depth here i = (i ≤ suc (length passed)) × (length lines ≡ 32)
 
 abbrev μ-loop : tie.MeasureT-loop
-μ-loop passed line next₀ here₀ i₀ next here i = length passed - i
+μ-loop passed line lines₀ depth₀ here₀ i₀ lines depth here i = suc (length passed) - i
 
--- src/behind.rt:152:9
+-- src/behind.rt:171:9
 loop-holds : tie.Need-loop-holds Inv-loop μ-loop
 loop-holds c = search needs
 
--- src/behind.rt:153:13
-past-requires : tie.Need-past-requires Inv-loop μ-loop
-past-requires c κs = search needs
+-- src/behind.rt:172:17
+to-tag-requires : tie.Need-to-tag-requires Inv-loop μ-loop
+to-tag-requires c κs = search needs
 
--- src/behind.rt:154:13
-line-past-requires : tie.Need-line-past-requires Inv-loop μ-loop
-line-past-requires c κs = search needs
+-- src/behind.rt:174:26
+slice-aggregate-note : tie.Need-slice-aggregate-note Inv-loop μ-loop
+slice-aggregate-note c = search needs
 
--- src/behind.rt:155:13
+-- src/behind.rt:174:45
+kind-of-tag-requires : tie.Need-kind-of-tag-requires Inv-loop μ-loop
+kind-of-tag-requires c κs = search needs
+
+-- src/behind.rt:174:13
+note-requires : tie.Need-note-requires Inv-loop μ-loop
+note-requires c κs = search needs
+
+-- src/behind.rt:175:17
 add-i : tie.Need-add-i Inv-loop μ-loop
 add-i c = search needs
 
--- src/behind.rt:152:9
+-- src/behind.rt:171:9
 loop-less : tie.Need-loop-less Inv-loop μ-loop
 loop-less c = search needs
 
--- src/behind.rt:152:9
+-- src/behind.rt:171:9
 loop-again : tie.Need-loop-again Inv-loop μ-loop
 loop-again c = search needs
 
--- src/behind.rt:148:5
+-- src/behind.rt:166:5
 returns : tie.Need-returns Inv-loop μ-loop
 returns c = search needs
 
@@ -50,8 +60,10 @@ after-spec =
     Inv-loop
     μ-loop
     loop-holds
-    past-requires
-    line-past-requires
+    to-tag-requires
+    slice-aggregate-note
+    kind-of-tag-requires
+    note-requires
     add-i
     loop-less
     loop-again
