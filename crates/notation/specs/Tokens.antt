@@ -8,7 +8,7 @@ use Rattle.text.specs.Chars.{pick, utf8}
 use Rattle.text.specs.Characters.{AllChar, utf8s}
 use Rattle.text.specs.Names.{Name}
 
--- the words of the grammar; EMPTY is none while no kind of a sheet's node stands for it
+-- the words of the grammar; EMPTY, for the empty node that a sheet can have (kind 6), is not one of them yet
 pub data Word : Type 0 where
   CHAR ECHO ECHO-OFF REJECT PRINT IF THEN ELSE BEGIN END AND OR NOT : Word
 

@@ -28,7 +28,7 @@ characterNumber in-string (suc n) Begun = some 6
 characterNumber (in-stream more) left Bad = some 20
 characterNumber in-string left Bad = some 6
 
--- of a stream's bytes 20, exactly where they neither start with a character nor begin one
+-- of what reading a character of a stream answers 20, exactly where the bytes neither start with one nor begin one (a whole character may still be refused: a bare > is 20 too)
 abbrev pub TwentyExactly : Type 0
 TwentyExactly = (more : Bool) (f : List ℕ) (d : Decoded) → DecodedIs f d → (characterNumber (in-stream more) (length f) d ≡ some 20) ↔ ((c : ℕ) → Char c → Apart f (utf8 c))
 
