@@ -6,7 +6,7 @@
    run at the same time.
 
    The library is for x86-64 and needs of a C library memcpy and memset alone; it allocates nothing, opens nothing and has no variables. Its
-   stack is bounded by the sheet's limits: a call takes at most 23 kB of it, most of them for expressions nested 12 deep (bench/stack adds them up). */
+   stack is bounded by the sheet's limits: a call takes at most 24 kB of it, most of them for expressions nested 12 deep (bench/stack adds them up). */
 #ifndef WICKPOLLEN_H
 #define WICKPOLLEN_H
 #include <stddef.h>
