@@ -1,2 +1,4 @@
 pub mod Readers
 pub mod Passes
+pub mod Strides
+pub mod Rulings
