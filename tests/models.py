@@ -70,13 +70,20 @@ def content(c):
     return (5, e)
 
 
-def pattern(e):
+def is_leaf(e):
+    return e is None or e[0] in (1, 2, 6)
+
+
+def letter(e):
+    """What a leaf stands for: nothing, a child by its name, or a character."""
     if e is None or e[0] == 6:
         return ''
-    if e[0] == 1:
-        return e[1]
-    if e[0] == 2:
-        return 't'
+    return e[1] if e[0] == 1 else 't'
+
+
+def pattern(e):
+    if is_leaf(e):
+        return letter(e)
     if e[0] == 3:
         return pattern(e[1]) + pattern(e[2])
     if e[0] == 4:
@@ -362,12 +369,8 @@ def some_word(lot, c):
 
 
 def grown(lot, e):
-    if e is None or e[0] == 6:
-        return ''
-    if e[0] == 1:
-        return e[1]
-    if e[0] == 2:
-        return 't'
+    if is_leaf(e):
+        return letter(e)
     if e[0] == 3:
         return grown(lot, e[1]) + grown(lot, e[2])
     if e[0] == 4:
