@@ -33,7 +33,7 @@ use Rattle.scripts.specs.Promises.{ScriptIs, MachineStepped}
 use Rattle.scripts.proofs.Machines.{start-of-machine, step-of-machine, end-of-machine}
 use Rattle.rulings.specs.declared.Reader.{Reader}
 use Rattle.rulings.specs.declared.Answer.{Answer}
-use Rattle.rulings.specs.Readers.{Holds, Firm, ReadsFor, Reads, Plain, Answered, goes, stays, AnswerIs}
+use Rattle.rulings.specs.Readers.{Holds, Firm, ReadsFor, ReadsAny, Plain, Answered, goes, stays, AnswerIs}
 
 abbrev reader : Draft → Script → Reader
 reader d s = record { draft = d; script = s }
@@ -130,7 +130,7 @@ outside-refuses r kind x h i y = record {
 }
 
 -- the sign that ends a program
-pub unbraced-takes : (r : Reader) (b : Bool) (d : Draft) → Firm r × Reads r → b ≡ endsHere (outlineOf (r .script)) → b ≡ true → DraftIs (unbracedSketch (sketchOf (r .draft))) d → AnswerIs r 28 (yes-to (reader d (r .script)))
+pub unbraced-takes : (r : Reader) (b : Bool) (d : Draft) → Firm r × ReadsAny r → b ≡ endsHere (outlineOf (r .script)) → b ≡ true → DraftIs (unbracedSketch (sketchOf (r .draft))) d → AnswerIs r 28 (yes-to (reader d (r .script)))
 unbraced-takes r b d h i y k = record {
   firm = record { sound = k .sound; standing = h .0 .standing };
   told = λ s t u w e.
@@ -147,7 +147,7 @@ no-end : (s s′ : Progress) (r : Reader) (v : Visit) (q : Listing) (t : Token) 
 no-end s s′ r v q t k h e (goes-on q′ i w f n l) = none-some (stepStatements v q t) q′ (ap (stepStatements v q) e ∙ no-unbrace v q) i
 no-end s s′ r v q t k h e (ends p i j n l) = true≢false (sym (ap given j) ∙ h)
 
-pub unbraced-refuses : (r : Reader) (b : Bool) → Firm r × Reads r → b ≡ endsHere (outlineOf (r .script)) → b ≡ false → AnswerIs r 28 (no-to r)
+pub unbraced-refuses : (r : Reader) (b : Bool) → Firm r × ReadsAny r → b ≡ endsHere (outlineOf (r .script)) → b ≡ false → AnswerIs r 28 (no-to r)
 unbraced-refuses r b h i y = record {
   firm = h .0;
   told = λ s t u w e. stays (λ g.
@@ -198,7 +198,7 @@ within-refuses r kind b x h i y = record {
 }
 
 -- what the place says
-pub asks-unbraced : (r : Reader) (kind : ℕ) (w : Place) → (kind < kinds) × Firm r → PlaceIs (r .draft .point) w → w .reads ≡ true → Firm r × Reads r
+pub asks-unbraced : (r : Reader) (kind : ℕ) (w : Place) → (kind < kinds) × Firm r → PlaceIs (r .draft .point) w → w .reads ≡ true → Firm r × ReadsAny r
 asks-unbraced r kind w h p y = (h .1, (w .second, p .program ∙ ap (λ b. programIf b (w .second)) y))
 
 pub asks-within : (r : Reader) (kind : ℕ) (w : Place) → (kind < kinds) × Firm r → PlaceIs (r .draft .point) w → w .reads ≡ true → (kind ≡ 28 → ⊥) → Firm r × (ReadsFor r (w .second) × (kind ≡ 28 → ⊥))

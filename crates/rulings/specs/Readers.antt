@@ -35,8 +35,8 @@ pub record Firm (r : Reader) : Type 0 where
 abbrev pub ReadsFor : Reader → Bool → Type 0
 ReadsFor r second = programAt (r .draft .point) ≡ some (visit second)
 
-abbrev pub Reads : Reader → Type 0
-Reads r = (second : Bool) × ReadsFor r second
+abbrev pub ReadsAny : Reader → Type 0
+ReadsAny r = (second : Bool) × ReadsFor r second
 
 abbrev pub Plain : Reader → Type 0
 Plain r = programAt (r .draft .point) ≡ none

@@ -5,7 +5,7 @@ ghost use lib.ListN.{length};
 ghost use Rattle.gaps.specs.declared.Skipped.{Skipped};
 ghost use Rattle.gaps.specs.Skipped.{SkippedIs};
 ghost use Rattle.lexemes.specs.Kinds.{kinds};
-ghost use Rattle.rulings.specs.Readers.{Firm, Reads, ReadsFor, Plain, AnswerIs, RowIs, StartIs, EndIs};
+ghost use Rattle.rulings.specs.Readers.{Firm, ReadsAny, ReadsFor, Plain, AnswerIs, RowIs, StartIs, EndIs};
 ghost use Rattle.rulings.specs.Strides.{StrideIs};
 ghost use Rattle.rulings.specs.Rulings.{RulingIs};
 
@@ -22,7 +22,7 @@ pub struct Answer {
 
 // The sign that ends a program.
 fn unbraced(r: Reader) -> Answer
-    requires { ⌜ Firm r × Reads r ⌝ }
+    requires { ⌜ Firm r × ReadsAny r ⌝ }
     ensures { λ a. ⌜ AnswerIs r 28 a ⌝ }
 {
     let d = r.draft;
