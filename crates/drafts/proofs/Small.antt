@@ -53,7 +53,7 @@ unless-ready true m h = tt
 unless-ready false m h = h
 
 wanted-ready : (b : Bool) (p : Paren) (i : Inside) → SmallParen tight p → Ready (wanted b p i)
-wanted-ready b p Inside.Atom s = ((lone-small, s), tt)
+wanted-ready b p Inside.Leaf s = ((lone-small, s), tt)
 wanted-ready b p Inside.Star s = tt
 wanted-ready b p Inside.Dot s = tt
 wanted-ready b p Inside.Bar s = tt
@@ -63,7 +63,7 @@ wanted-ready b p Inside.Brace s = if-ready b (Move.To (InFront (p .surround))) (
 wanted-ready b p Inside.Other s = tt
 
 operand-ready : (e : Figure) (p : Paren) (i : Inside) → SmallFigure tight e → SmallParen tight p → Ready (behindOperand e p i)
-operand-ready e p Inside.Atom h s = tt
+operand-ready e p Inside.Leaf h s = tt
 operand-ready e p Inside.Star h s = ((record { nodes = omega arith; depth = omega arith }, s), tt)
 operand-ready e p Inside.Dot h s =
     let c = join-small (p .cat) e 32 (s .cat) h in
@@ -82,7 +82,7 @@ operand-ready e p Inside.Brace h s =
 operand-ready e p Inside.Other h s = tt
 
 finishing-ready : (e : Figure) (i : Inside) → SmallFigure tight e → Ready (finishing e i)
-finishing-ready e Inside.Atom h = tt
+finishing-ready e Inside.Leaf h = tt
 finishing-ready e Inside.Star h = tt
 finishing-ready e Inside.Dot h = tt
 finishing-ready e Inside.Bar h = tt

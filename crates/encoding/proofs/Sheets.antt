@@ -12,7 +12,7 @@ use Rattle.programs.specs.Program.{Program as SheetProgram}
 use Rattle.programs.specs.Limits.{StatementFits, StatementsFit, IsProgram, Visit, first, second, statementAllowed, allowed}
 use Rattle.sheet.specs.Sheet.{Sheet}
 use Rattle.notation.specs.Program.{Statement, become, copy, recall, reject, print-start, print-end, print-text, echo, branch, Program, done, step, statementIn, programIn}
-use Rattle.notation.specs.Rules.{Visits, Tree, node, Form, atom, cat, alt, star, expression, expressionOf, visits, visitsOf, contentOf, visitsIn, Rule, Rules}
+use Rattle.notation.specs.Rules.{Visits, Tree, node, Form, atom, cat, alt, star, empty, expression, expressionOf, visits, visitsOf, contentOf, visitsIn, Rule, Rules}
 use Rattle.notation.specs.Limits.{ProgramWithin, OptionWithin, VisitsWithin, AllWithin, RuleWithin, EachWithin}
 use Rattle.notation.specs.Tokens.{TagName}
 use Rattle.notation.specs.RuleText.{RuleText}
@@ -90,6 +90,7 @@ mutual
   form-length (cat l m) = ap suc (simp length-append (ap₂ _+_ (tree-length l) (tree-length m)))
   form-length (alt l m) = ap suc (simp length-append (ap₂ _+_ (tree-length l) (tree-length m)))
   form-length (star e) = ap suc (tree-length e)
+  form-length empty = refl
 
 content-length : (r : Rules) (o : Option Tree) → length (each r (visitsIn o)) ≡ nodesOf (contentOf o)
 content-length r none = refl
@@ -144,6 +145,7 @@ module _ (r : Rules) where
     form-keeps (alt l m) s w h =
         keep-append (visits l) (visits m) (tree-keeps l (s .0) (within-front (visits l) (visits m) w) (front (inTree l) (inTree m) h)) (tree-keeps m (s .1) (within-back (visits l) (visits m) w) (back (inTree l) (inTree m) h))
     form-keeps (star e) s w h = tree-keeps e s w h
+    form-keeps empty s w h = tt
 
   content-keeps : (o : Option Tree) → SoundContent o → AllWithin (visitsIn o) → Stored (inContent o) → AllKeep (sheetOf r) (each r (visitsIn o))
   content-keeps none s w h = tt
@@ -209,6 +211,7 @@ mutual
   form-named (cat l m) s = named-append (inTree l) (inTree m) (tree-named l (s .0)) (tree-named m (s .1))
   form-named (alt l m) s = named-append (inTree l) (inTree m) (tree-named l (s .0)) (tree-named m (s .1))
   form-named (star e) s = tree-named e s
+  form-named empty s = tt
 
 content-named : (o : Option Tree) → SoundContent o → Named (inContent o)
 content-named none s = tt

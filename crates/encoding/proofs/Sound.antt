@@ -16,7 +16,7 @@ use Rattle.notation.specs.Rules.{Visits, Tree, node, Form, atom, cat, alt, star
 use Rattle.notation.specs.Tokens.{Token, TagName, StringOf}
 use Rattle.notation.specs.Conditions.{CurrentIs, of-either, of-first, of-second, OperandIs, a-value, a-current, a-recalled, ConditionIs, no-or, or, BothIs, no-and, and, SingleIs, compared, not, parenthesised}
 use Rattle.notation.specs.Statements.{only, assigned, ItemIs, a-start, an-end, both-tags, a-text, ItemsAre, StatementIs, echo-on, echo-off, rejects, prints, assigns, if-then, if-else, BranchIs, bare, block, ListIs, empty, SomeAre, BracesAre, absent, braces}
-use Rattle.notation.specs.Expressions.{AtMostOne, inner, outer, UnionIs, no-bar, bar, CatIs, no-dot, dot, StarredIs, no-star, stars, PrimaryIs, a-nonterminal, a-character, InsideIs, inside}
+use Rattle.notation.specs.Expressions.{AtMostOne, inner, outer, UnionIs, no-bar, bar, CatIs, no-dot, dot, StarredIs, no-star, stars, PrimaryIs, a-nonterminal, a-character, an-empty, InsideIs, inside}
 use Rattle.encoding.specs.Sound.{SoundStatement, Sound, SoundIf, SoundTree, SoundContent, SoundRule, AllSound, SoundRules}
 use Rattle.notation.specs.Productions.{ContentIs, nothing, something, ProductionIs, production, ProductionsAre, one, more, RulesAre, start-alone, start-first}
 
@@ -114,6 +114,7 @@ mutual
   primary-sound : {p : ℕ} {ts : List Token} {e : Tree} → PrimaryIs p ts e → SoundTree e
   primary-sound (a-nonterminal h) = (tt, (tt, h))
   primary-sound a-character = (tt, (tt, tt))
+  primary-sound an-empty = (tt, (tt, tt))
   primary-sound (PrimaryIs.parenthesised i e) = inside-sound i
 
   inside-sound : {p : ℕ} {ts : List Token} {e : Tree} → InsideIs p ts e → SoundTree e

@@ -3,7 +3,7 @@ use mathlib.Core.List.{List, [], _∷_, _++_}
 use mathlib.Core.Option.{Option, none, some}
 use Prim.Native.Nat.{ℕ}
 use Rattle.notation.specs.Program.{Statement, become, copy, recall, reject, print-start, print-end, print-text, echo, branch, Program, done, step}
-use Rattle.notation.specs.Rules.{Visits, Tree, node, Form, atom, cat, alt, star, Rule, Rules}
+use Rattle.notation.specs.Rules.{Visits, Tree, node, Form, atom, cat, alt, star, empty, Rule, Rules}
 
 pub data Mention : Type 0 where
   a-tag : List ℕ → Mention
@@ -41,6 +41,7 @@ abbrev mutual
   inForm (cat l r) = inTree l ++ inTree r
   inForm (alt l r) = inTree l ++ inTree r
   inForm (star e) = inTree e
+  inForm empty = []
 
 abbrev pub inContent : Option Tree → List Mention
 inContent none = []

@@ -11,7 +11,7 @@ use Rattle.expressions.specs.Expr.{Atom, nonterminal, anychar}
 use Rattle.expressions.specs.Grammar.{nonterminals}
 use Rattle.programs.specs.Limits.{Attribute, Value, ConditionFits, Visit, first, second, isFirst, isSecond, conditionAllowed}
 use Rattle.notation.specs.Program.{Statement, become, copy, recall, reject, print-start, print-end, print-text, echo, branch, Program, done, step}
-use Rattle.notation.specs.Rules.{Tree, node, Form, atom, cat, alt, star, Rule, Rules}
+use Rattle.notation.specs.Rules.{Tree, node, Form, atom, cat, alt, star, empty, Rule, Rules}
 use Rattle.notation.specs.Tokens.{TagName}
 
 abbrev mutual
@@ -47,6 +47,7 @@ abbrev mutual
   SoundForm (cat l r) = SoundTree l × SoundTree r
   SoundForm (alt l r) = SoundTree l × SoundTree r
   SoundForm (star e) = SoundTree e
+  SoundForm empty = Unit {0}
 
 abbrev pub SoundContent : Option Tree → Type 0
 SoundContent none = Unit {0}

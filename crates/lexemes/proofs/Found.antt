@@ -10,7 +10,7 @@ use lib.ListN.{length, take, drop, getD, take-append-drop}
 use lib.Seq.{take-take}
 use Rattle.text.specs.Names.{nameByte}
 use Rattle.programs.specs.Bounds.{bounds, attributesIn, valuesIn}
-use Rattle.notation.specs.Tokens.{Mark, plain, left, right, Token, nonterminal, value, attribute, name, start-tag, end-tag, empty-tag, string, word, Word, CHAR, ECHO, ECHO-OFF, REJECT, PRINT, IF, THEN, ELSE, BEGIN, END, AND, OR, NOT, sign, Sign, DEFINED, ASSIGNED, OPEN, CLOSE, BRACE, UNBRACE, DOT, BAR, STAR, SEMICOLON, EQUALS, decimal, all-in-quotes, bytesOf, TagName}
+use Rattle.notation.specs.Tokens.{Mark, plain, left, right, Token, nonterminal, value, attribute, name, start-tag, end-tag, empty-tag, string, word, Word, CHAR, ECHO, ECHO-OFF, REJECT, PRINT, IF, THEN, ELSE, BEGIN, END, AND, OR, NOT, EMPTY, sign, Sign, DEFINED, ASSIGNED, OPEN, CLOSE, BRACE, UNBRACE, DOT, BAR, STAR, SEMICOLON, EQUALS, decimal, all-in-quotes, bytesOf, TagName}
 use Rattle.notation.specs.Spelled.{wordByte, joins, MayFollow}
 use Rattle.lexing.specs.declared.Tried.{Tried}
 use Rattle.lexemes.specs.declared.Lexeme.{Lexeme}
@@ -56,7 +56,7 @@ mark-range plain = (omega arith, omega arith)
 mark-range left = (omega arith, omega arith)
 mark-range right = (omega arith, omega arith)
 
-word-range : (w : Word) → (10 ≤ wordNumber w) × (wordNumber w ≤ 22)
+word-range : (w : Word) → (10 ≤ wordNumber w) × (wordNumber w ≤ 34)
 word-range CHAR = (omega arith, omega arith)
 word-range ECHO = (omega arith, omega arith)
 word-range ECHO-OFF = (omega arith, omega arith)
@@ -70,6 +70,7 @@ word-range END = (omega arith, omega arith)
 word-range AND = (omega arith, omega arith)
 word-range OR = (omega arith, omega arith)
 word-range NOT = (omega arith, omega arith)
+word-range EMPTY = (omega arith, omega arith)
 
 sign-range : (s : Sign) → (23 ≤ signNumber s) × (signNumber s ≤ 33)
 sign-range DEFINED = (omega arith, omega arith)
@@ -83,6 +84,22 @@ sign-range BAR = (omega arith, omega arith)
 sign-range STAR = (omega arith, omega arith)
 sign-range SEMICOLON = (omega arith, omega arith)
 sign-range EQUALS = (omega arith, omega arith)
+
+word-apart : (w : Word) (s : Sign) → wordNumber w ≡ signNumber s → ⊥
+word-apart CHAR s e = omega (arith, e, sign-range s)
+word-apart ECHO s e = omega (arith, e, sign-range s)
+word-apart ECHO-OFF s e = omega (arith, e, sign-range s)
+word-apart REJECT s e = omega (arith, e, sign-range s)
+word-apart PRINT s e = omega (arith, e, sign-range s)
+word-apart IF s e = omega (arith, e, sign-range s)
+word-apart THEN s e = omega (arith, e, sign-range s)
+word-apart ELSE s e = omega (arith, e, sign-range s)
+word-apart BEGIN s e = omega (arith, e, sign-range s)
+word-apart END s e = omega (arith, e, sign-range s)
+word-apart AND s e = omega (arith, e, sign-range s)
+word-apart OR s e = omega (arith, e, sign-range s)
+word-apart NOT s e = omega (arith, e, sign-range s)
+word-apart EMPTY s e = omega (arith, e, sign-range s)
 
 pub kind-below : (t : Token) → kindOf t < kinds
 kind-below (nonterminal n) = omega arith
@@ -119,7 +136,7 @@ signFrom (w ∷ ws) v zero = w
 signFrom (w ∷ ws) v (suc n) = signFrom ws v n
 
 wordAt : ℕ → Word
-wordAt n = wordFrom (CHAR ∷ ECHO ∷ ECHO-OFF ∷ REJECT ∷ PRINT ∷ IF ∷ THEN ∷ ELSE ∷ BEGIN ∷ END ∷ AND ∷ OR ∷ NOT ∷ []) NOT (n - 10)
+wordAt n = wordFrom (CHAR ∷ ECHO ∷ ECHO-OFF ∷ REJECT ∷ PRINT ∷ IF ∷ THEN ∷ ELSE ∷ BEGIN ∷ END ∷ AND ∷ OR ∷ NOT ∷ []) EMPTY (n - 10)
 
 signAt : ℕ → Sign
 signAt n = signFrom (DEFINED ∷ ASSIGNED ∷ OPEN ∷ CLOSE ∷ BRACE ∷ UNBRACE ∷ DOT ∷ BAR ∷ STAR ∷ SEMICOLON ∷ EQUALS ∷ []) EQUALS (n - 23)
@@ -139,6 +156,7 @@ word-at END = refl
 word-at AND = refl
 word-at OR = refl
 word-at NOT = refl
+word-at EMPTY = refl
 
 sign-at : (s : Sign) → signAt (signNumber s) ≡ s
 unfolding signAt
@@ -171,7 +189,7 @@ word-only z (end-tag n) h = absurd (omega (arith, h .kind, word-range z))
 word-only z (empty-tag n) h = absurd (omega (arith, h .kind, word-range z))
 word-only z (string cs) h = absurd (omega (arith, h .kind, word-range z))
 word-only z (word w) h = ap word (one-word w z (h .kind))
-word-only z (sign s) h = absurd (omega (arith, h .kind, sign-range s, word-range z))
+word-only z (sign s) h = absurd (word-apart z s (sym (h .kind)))
 
 sign-only : (u : Sign) (t : Token) → OfKind (signNumber u) t → t ≡ sign u
 sign-only u (nonterminal n) h = absurd (omega (arith, h .kind, sign-range u))
@@ -182,7 +200,7 @@ sign-only u (start-tag n) h = absurd (omega (arith, h .kind, sign-range u))
 sign-only u (end-tag n) h = absurd (omega (arith, h .kind, sign-range u))
 sign-only u (empty-tag n) h = absurd (omega (arith, h .kind, sign-range u))
 sign-only u (string cs) h = absurd (omega (arith, h .kind, sign-range u))
-sign-only u (word w) h = absurd (omega (arith, h .kind, word-range w, sign-range u))
+sign-only u (word w) h = absurd (word-apart w u (h .kind))
 sign-only u (sign s) h = ap sign (one-sign s u (h .kind))
 
 word-sort : (v : Word) → SortOf (OfKind (wordNumber v)) (OneSpelling (bytesOf (word v) ++ []) 0) (stopsAt true)
@@ -491,7 +509,7 @@ last-varied k h n0 n1 n2 n3 n4 n5 n6 n7 n8 =
     let g8 : 9 ≤ k = more 8 k g7 n8 in
     same 9 k g8 h
 
--- the word, the sign of a kind
+-- the word (but for EMPTY, whose kind is the last), the sign of a kind
 word-of-12 : (k : ℕ) → 22 ≤ k → k < 23 → (v : Word) × (k ≡ wordNumber v)
 word-of-12 k l h = (NOT, omega arith)
 
@@ -658,35 +676,37 @@ wordRow = 67 ∷ 72 ∷ 65 ∷ 82 ∷ 32 ∷ 32 ∷ 32 ∷ 32 ∷ 69 ∷ 67 ∷ 
 abbrev pub wordLengths : List ℕ
 wordLengths = 4 ∷ 4 ∷ 8 ∷ 6 ∷ 5 ∷ 2 ∷ 4 ∷ 4 ∷ 5 ∷ 3 ∷ 3 ∷ 2 ∷ 3 ∷ []
 
-word-length : (v : Word) → getD wordLengths (wordNumber v - 10) 0 ≡ length (bytesOf (word v))
-word-length CHAR = refl
-word-length ECHO = refl
-word-length ECHO-OFF = refl
-word-length REJECT = refl
-word-length PRINT = refl
-word-length IF = refl
-word-length THEN = refl
-word-length ELSE = refl
-word-length BEGIN = refl
-word-length END = refl
-word-length AND = refl
-word-length OR = refl
-word-length NOT = refl
+word-length : (v : Word) → wordNumber v < 23 → getD wordLengths (wordNumber v - 10) 0 ≡ length (bytesOf (word v))
+word-length CHAR h = refl
+word-length ECHO h = refl
+word-length ECHO-OFF h = refl
+word-length REJECT h = refl
+word-length PRINT h = refl
+word-length IF h = refl
+word-length THEN h = refl
+word-length ELSE h = refl
+word-length BEGIN h = refl
+word-length END h = refl
+word-length AND h = refl
+word-length OR h = refl
+word-length NOT h = refl
+word-length EMPTY h = absurd (omega arith)
 
-word-part : (v : Word) → take (length (bytesOf (word v))) (drop (8 * (wordNumber v - 10)) wordRow) ≡ bytesOf (word v)
-word-part CHAR = refl
-word-part ECHO = refl
-word-part ECHO-OFF = refl
-word-part REJECT = refl
-word-part PRINT = refl
-word-part IF = refl
-word-part THEN = refl
-word-part ELSE = refl
-word-part BEGIN = refl
-word-part END = refl
-word-part AND = refl
-word-part OR = refl
-word-part NOT = refl
+word-part : (v : Word) → wordNumber v < 23 → take (length (bytesOf (word v))) (drop (8 * (wordNumber v - 10)) wordRow) ≡ bytesOf (word v)
+word-part CHAR h = refl
+word-part ECHO h = refl
+word-part ECHO-OFF h = refl
+word-part REJECT h = refl
+word-part PRINT h = refl
+word-part IF h = refl
+word-part THEN h = refl
+word-part ELSE h = refl
+word-part BEGIN h = refl
+word-part END h = refl
+word-part AND h = refl
+word-part OR h = refl
+word-part NOT h = refl
+word-part EMPTY h = absurd (omega arith)
 
 abbrev pub signRow : List ℕ
 signRow = 58 ∷ 58 ∷ 61 ∷ 58 ∷ 61 ∷ 32 ∷ 40 ∷ 32 ∷ 32 ∷ 41 ∷ 32 ∷ 32 ∷ 123 ∷ 32 ∷ 32 ∷ 125 ∷ 32 ∷ 32 ∷ 46 ∷ 32 ∷ 32 ∷ 124 ∷ 32 ∷ 32 ∷ 42 ∷ 32 ∷ 32 ∷ 59 ∷ 32 ∷ 32 ∷ 61 ∷ 32 ∷ 32 ∷ []
@@ -737,9 +757,10 @@ word-short END = omega arith
 word-short AND = omega arith
 word-short OR = omega arith
 word-short NOT = omega arith
+word-short EMPTY = omega arith
 
 pub word-long : (k : ℕ) → 10 ≤ k → k < 23 → getD wordLengths (k - 10) 0 ≤ 8
-word-long k l h = let o = word-of-0 k l h in subst (λ z. z ≤ 8) (sym (ap (λ z. getD wordLengths (z - 10) 0) (o .1) ∙ word-length (o .0))) (word-short (o .0))
+word-long k l h = let o = word-of-0 k l h in subst (λ z. z ≤ 8) (sym (ap (λ z. getD wordLengths (z - 10) 0) (o .1) ∙ word-length (o .0) (subst (λ z. z < 23) (o .1) h))) (word-short (o .0))
 
 pub word-cut : (k : ℕ) (x : List ℕ) (r : Tried) → 10 ≤ k → k < 23 → ReadIs (OneSpelling (take (8 * (k - 10) + getD wordLengths (k - 10) 0 - 8 * (k - 10)) (drop (8 * (k - 10)) wordRow) ++ []) 0) (stopsAt true) x r → TriedIs (OfKind k) x r
 word-cut k x r l h i = word-read (o .0) k x r (o .1) (subst (λ z. ReadIs (OneSpelling (z ++ []) 0) (stopsAt true) x r) part i)
@@ -747,10 +768,13 @@ word-cut k x r l h i = word-read (o .0) k x r (o .1) (subst (λ z. ReadIs (OneSp
     o : (v : Word) × (k ≡ wordNumber v)
     o = word-of-0 k l h
 
+    low : wordNumber (o .0) < 23
+    low = subst (λ z. z < 23) (o .1) h
+
     part : take (8 * (k - 10) + getD wordLengths (k - 10) 0 - 8 * (k - 10)) (drop (8 * (k - 10)) wordRow) ≡ bytesOf (word (o .0))
     part =
-        ap (λ z. take z (drop (8 * (k - 10)) wordRow)) (added-off (8 * (k - 10)) (getD wordLengths (k - 10) 0) ∙ ap (λ z. getD wordLengths (z - 10) 0) (o .1) ∙ word-length (o .0))
-        ∙ ap (λ z. take (length (bytesOf (word (o .0)))) (drop (8 * (z - 10)) wordRow)) (o .1) ∙ word-part (o .0)
+        ap (λ z. take z (drop (8 * (k - 10)) wordRow)) (added-off (8 * (k - 10)) (getD wordLengths (k - 10) 0) ∙ ap (λ z. getD wordLengths (z - 10) 0) (o .1) ∙ word-length (o .0) low)
+        ∙ ap (λ z. take (length (bytesOf (word (o .0)))) (drop (8 * (z - 10)) wordRow)) (o .1) ∙ word-part (o .0) low
 
 sign-short : (v : Sign) → length (bytesOf (sign v)) ≤ 3
 sign-short DEFINED = omega arith

@@ -6,13 +6,13 @@ use Prim.Native.Nat.{ℕ, _+_, _<_}
 use lib.ListN.{length, getD}
 use Rattle.text.specs.Characters.{utf8s}
 use Rattle.programs.specs.Limits.{Attribute, Value}
-use Rattle.notation.specs.Tokens.{Mark, plain, left, right, Token, nonterminal, value, attribute, name, start-tag, end-tag, empty-tag, string, word, Word, CHAR, ECHO, ECHO-OFF, REJECT, PRINT, IF, THEN, ELSE, BEGIN, END, AND, OR, NOT, sign, Sign, DEFINED, ASSIGNED, OPEN, CLOSE, BRACE, UNBRACE, DOT, BAR, STAR, SEMICOLON, EQUALS, bytesOf, TagName, StringOf}
+use Rattle.notation.specs.Tokens.{Mark, plain, left, right, Token, nonterminal, value, attribute, name, start-tag, end-tag, empty-tag, string, word, Word, CHAR, ECHO, ECHO-OFF, REJECT, PRINT, IF, THEN, ELSE, BEGIN, END, AND, OR, NOT, EMPTY, sign, Sign, DEFINED, ASSIGNED, OPEN, CLOSE, BRACE, UNBRACE, DOT, BAR, STAR, SEMICOLON, EQUALS, bytesOf, TagName, StringOf}
 use Rattle.lexing.specs.declared.Tried.{Tried}
 use Rattle.lexemes.specs.declared.Lexeme.{Lexeme}
 use Rattle.lexing.specs.Front.{Whole, Stuck}
 
 abbrev pub kinds : ℕ
-kinds = 34
+kinds = 35
 
 abbrev pub markNumber : Mark → ℕ
 markNumber plain = 2
@@ -33,6 +33,7 @@ wordNumber END = 19
 wordNumber AND = 20
 wordNumber OR = 21
 wordNumber NOT = 22
+wordNumber EMPTY = 34
 
 abbrev pub signNumber : Sign → ℕ
 signNumber DEFINED = 23

@@ -32,7 +32,7 @@ fn cut(x: &[u8], row: &[u8], from: usize, to: usize, joins: bool) -> lexing::Tri
     lexing::plain(x, &row[from..to], joins)
 }
 
-// A word: kinds 10 to 22, each in eight bytes of one row.
+// A word but for EMPTY: kinds 10 to 22, each in eight bytes of one row.
 fn word(x: &[u8], k: usize) -> lexing::Tried
     requires { ⌜ (10 ≤ k) × (k < 23) ⌝ }
     ensures { λ r. ⌜ TriedIs (OfKind k) (now (x .entry)) r ⌝ }
@@ -51,7 +51,7 @@ fn word(x: &[u8], k: usize) -> lexing::Tried
 
 // A sign: kinds 23 to 33, each in three bytes of one row.
 fn sign(x: &[u8], k: usize) -> lexing::Tried
-    requires { ⌜ (23 ≤ k) × (k < kinds) ⌝ }
+    requires { ⌜ (23 ≤ k) × (k < 34) ⌝ }
     ensures { λ r. ⌜ TriedIs (OfKind k) (now (x .entry)) r ⌝ }
 {
     let lengths: [usize; 11] = [3, 2, 1, 1, 1, 1, 1, 1, 1, 1, 1];
@@ -72,7 +72,10 @@ fn of_kind(x: &[u8], k: usize, may: bool) -> lexing::Tried
         if k < 23 {
             return word(x, k);
         }
-        return sign(x, k);
+        if k < 34 {
+            return sign(x, k);
+        }
+        return lexing::plain(x, b"EMPTY", true);
     }
     lexing::Tried::Stuck(0)
 }
@@ -85,12 +88,12 @@ pub enum Lexeme {
 }
 
 // The token that x begins with, where those of some kinds may stand.
-pub fn lex(x: &[u8], may: [bool; 34]) -> Lexeme
+pub fn lex(x: &[u8], may: [bool; 35]) -> Lexeme
     ensures { λ r. ⌜ Lexed may (now (x .entry)) r ⌝ }
 {
     let mut best = 0;
     let mut k = 0;
-    while k < 34 {
+    while k < 35 {
         match of_kind(x, k, may[k]) {
             lexing::Tried::Whole(n, len) => return Lexeme::Token(k, n, len),
             lexing::Tried::Stuck(j) => best = lexing::larger(best, j),

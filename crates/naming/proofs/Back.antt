@@ -8,7 +8,7 @@ use native.Mathlib.Omega.{arith}
 use lib.ListN.{length, take, drop}
 use Rattle.runs.specs.Execute.{nameOf}
 use Rattle.notation.specs.Program.{Statement, become, copy, recall, reject, print-start, print-end, print-text, echo, branch, Program, done, step, statementIn, programIn}
-use Rattle.notation.specs.Rules.{Visits, Tree, node, Form, atom, cat, alt, star, visits, visitsOf, visitsIn, Rule, Rules}
+use Rattle.notation.specs.Rules.{Visits, Tree, node, Form, atom, cat, alt, star, empty, visits, visitsOf, visitsIn, Rule, Rules}
 use Rattle.encoding.specs.Mentions.{Mention, a-tag, a-string, a-program, inStatement, inProgram, inBraces, inTree, inForm, inContent, inRule, inRules, tagsIn, stringsIn}
 use Rattle.encoding.specs.Distinct.{equal, has, placeOf, offsetOf}
 use Rattle.encoding.specs.Encoded.{tagsOf, stringsOf, programOf, maybe, bothOf, each, ruleOf, rulesOf, sheetOf}
@@ -74,6 +74,7 @@ module _ (r : Rules) where
     form-back (cat l m) h = back-append (visits l) (visits m) (tree-back l (front (inTree l) (inTree m) h)) (tree-back m (back (inTree l) (inTree m) h))
     form-back (alt l m) h = back-append (visits l) (visits m) (tree-back l (front (inTree l) (inTree m) h)) (tree-back m (back (inTree l) (inTree m) h))
     form-back (star e) h = tree-back e h
+    form-back empty h = refl
 
   content-back : (o : Option Tree) → Stored (inContent o) → Back (visitsIn o)
   content-back none h = refl

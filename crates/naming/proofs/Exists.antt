@@ -1,5 +1,5 @@
--- A sheet without a node of kind 6 is rules: each tree is built from its expression and its nodes' programs. Assumes nothing.
-use mathlib.Core.Path.{_≡_, refl, sym, _∙_, ap, ap₂, subst}
+-- A sheet is rules: each tree is built from its expression and its nodes' programs. Assumes nothing.
+use mathlib.Core.Path.{_≡_, refl, sym, _∙_, ap, ap₂}
 use mathlib.Core.List.{List, [], _∷_, _++_, append-assoc, append-nil}
 use mathlib.Core.Option.{Option, none, some}
 use Prim.Native.Nat.{ℕ, suc, _+_, _≤_}
@@ -14,11 +14,11 @@ use Rattle.sheet.specs.Fields.{Visits as SheetVisits}
 use Rattle.sheet.specs.Sheet.{Rule as SheetRule, Sheet, From, NodeIs, RuleAt}
 use Rattle.sheet.proofs.SheetLaws.{from-counted}
 use Rattle.runs.specs.Execute.{nameOf}
-use Rattle.notation.specs.Rules.{Visits, Tree, node, Form, atom, cat, alt, star, expression, expressionOf, visits, visitsOf, contentOf, visitsIn, Rule, Rules}
+use Rattle.notation.specs.Rules.{Visits, Tree, node, atom, cat, alt, star, empty, expression, visits, contentOf, visitsIn, Rule, Rules}
 use Rattle.encoding.proofs.Sheets.{tree-length}
 use Rattle.packing.specs.Packs.{Packs}
-use Rattle.naming.specs.ByName.{visitsNamed, eachNamed, RuleByName, EachByName, ByName, NoEmpty, NoEmptyIn, NoEmptyNode}
-use Rattle.naming.specs.Promises.{UnlessEmpty}
+use Rattle.naming.specs.ByName.{visitsNamed, eachNamed, RuleByName, EachByName, ByName}
+use Rattle.naming.specs.Promises.{SheetsAreRules}
 
 -- a tree of an expression, and the programs that are left
 record Built (e : Exp) (vs : List Visits) : Type 0 where
@@ -30,34 +30,35 @@ record Built (e : Exp) (vs : List Visits) : Type 0 where
 enough : (e : Exp) (v : Visits) (vs : List Visits) (n : ℕ) (b : Built e vs) → suc (nodes e + n) ≤ length (v ∷ vs) → n ≤ length (b .rest)
 enough e v vs n b h = omega (arith, h, ap length (b .parts), length-append (visits (b .it)) (b .rest), tree-length (b .it), ap nodes (b .expressed))
 
-build : (e : Exp) (vs : List Visits) → NoEmpty e → nodes e ≤ length vs → Built e vs
-build (Exp.atom k) [] n h = absurd (omega arith)
-build (Exp.atom k) (v ∷ vs) n h = record { it = node (v .first-visit) (v .second-visit) (atom k); rest = vs; expressed = refl; parts = refl }
-build (Exp.cat l r) [] n h = absurd (omega arith)
-build (Exp.cat l r) (v ∷ vs) n h =
-    let x = build l vs (n .0) (omega arith) in
-    let y = build r (x .rest) (n .1) (enough l v vs (nodes r) x h) in
+build : (e : Exp) (vs : List Visits) → nodes e ≤ length vs → Built e vs
+build (Exp.atom k) [] h = absurd (omega arith)
+build (Exp.atom k) (v ∷ vs) h = record { it = node (v .first-visit) (v .second-visit) (atom k); rest = vs; expressed = refl; parts = refl }
+build (Exp.cat l r) [] h = absurd (omega arith)
+build (Exp.cat l r) (v ∷ vs) h =
+    let x = build l vs (omega arith) in
+    let y = build r (x .rest) (enough l v vs (nodes r) x h) in
     record {
       it = node (v .first-visit) (v .second-visit) (cat (x .it) (y .it));
       rest = y .rest;
       expressed = ap₂ Exp.cat (x .expressed) (y .expressed);
       parts = ap (λ z. v ∷ z) (x .parts ∙ ap (λ z. visits (x .it) ++ z) (y .parts) ∙ sym (append-assoc (visits (x .it)) (visits (y .it)) (y .rest)));
     }
-build (Exp.alt l r) [] n h = absurd (omega arith)
-build (Exp.alt l r) (v ∷ vs) n h =
-    let x = build l vs (n .0) (omega arith) in
-    let y = build r (x .rest) (n .1) (enough l v vs (nodes r) x h) in
+build (Exp.alt l r) [] h = absurd (omega arith)
+build (Exp.alt l r) (v ∷ vs) h =
+    let x = build l vs (omega arith) in
+    let y = build r (x .rest) (enough l v vs (nodes r) x h) in
     record {
       it = node (v .first-visit) (v .second-visit) (alt (x .it) (y .it));
       rest = y .rest;
       expressed = ap₂ Exp.alt (x .expressed) (y .expressed);
       parts = ap (λ z. v ∷ z) (x .parts ∙ ap (λ z. visits (x .it) ++ z) (y .parts) ∙ sym (append-assoc (visits (x .it)) (visits (y .it)) (y .rest)));
     }
-build (Exp.star e) [] n h = absurd (omega arith)
-build (Exp.star e) (v ∷ vs) n h =
-    let x = build e vs n (omega arith) in
+build (Exp.star e) [] h = absurd (omega arith)
+build (Exp.star e) (v ∷ vs) h =
+    let x = build e vs (omega arith) in
     record { it = node (v .first-visit) (v .second-visit) (star (x .it)); rest = x .rest; expressed = ap Exp.star (x .expressed); parts = ap (λ z. v ∷ z) (x .parts) }
-build Exp.empty vs n h = absurd n
+build Exp.empty [] h = absurd (omega arith)
+build Exp.empty (v ∷ vs) h = record { it = node (v .first-visit) (v .second-visit) empty; rest = vs; expressed = refl; parts = refl }
 
 record Inside (c : Content) (vs : List Visits) : Type 0 where
   it : Option Tree
@@ -68,10 +69,10 @@ none-left : (l : List Visits) → length l ≡ 0 → l ≡ []
 none-left [] h = refl
 none-left (v ∷ l) h = absurd (omega arith)
 
-inside : (c : Content) (vs : List Visits) → NoEmptyIn c → length vs ≡ nodesOf c → Inside c vs
-inside nothing vs n h = record { it = none; content = refl; all = sym (none-left vs h) }
-inside (tree e) vs n h =
-    let b = build e vs n (omega (arith, h)) in
+inside : (c : Content) (vs : List Visits) → length vs ≡ nodesOf c → Inside c vs
+inside nothing vs h = record { it = none; content = refl; all = sym (none-left vs h) }
+inside (tree e) vs h =
+    let b = build e vs (omega (arith, h)) in
     let left : b .rest ≡ [] = none-left (b .rest) (omega (arith, h, ap length (b .parts), length-append (visits (b .it)) (b .rest), tree-length (b .it), ap nodes (b .expressed))) in
     record { it = some (b .it); content = ap tree (b .expressed); all = sym (b .parts ∙ ap (λ z. visits (b .it) ++ z) left ∙ append-nil (visits (b .it))) }
 
@@ -84,42 +85,22 @@ content-nodes s q nothing h = sym h
 content-nodes s q (tree e) h = h .1
 
 module _ (s : List ℕ) (a : Sheet) (ps : List SheetProgram) where
-  rule-there : (q : ℕ) (x : SheetRule) → RuleAt s ps q x → NoEmptyIn (x .production .content) → (d : Rule) × RuleByName a x d
-  rule-there q x h n =
-      let i = inside (x .production .content) (eachNamed a (x .of-nodes)) n
+  rule-there : (q : ℕ) (x : SheetRule) → RuleAt s ps q x → (d : Rule) × RuleByName a x d
+  rule-there q x h =
+      let i = inside (x .production .content) (eachNamed a (x .of-nodes))
       (omega (arith, named-length a (x .of-nodes), from-counted (NodeIs s ps) (firstNodeOf s q) (firstNodeOf s q + nodeCountOf s q) (x .of-nodes) (h .nodes-are), content-nodes s q (x .production .content) (h .production-is .content-is))) in (
         record { nonterminal = x .production .nonterm; tag = nameOf (a .names) (x .production .tagno); own = visitsNamed a (x .own); inside = i .it },
         record { nonterminal-is = refl; tag-is = refl; nodes-are = i .content; own-are = refl; of-nodes-are = i .all },
       )
 
-  rules-there : (i k : ℕ) (xs : List SheetRule) → From (RuleAt s ps) i k xs → NoEmptyNode xs → (ds : List Rule) × EachByName a xs ds
-  rules-there i k [] f n = ([], tt)
-  rules-there i k (x ∷ xs) f n =
-      let d = rule-there i x (f .0) (n .0) in
-      let ds = rules-there (suc i) k xs (f .1) (n .1) in
+  rules-there : (i k : ℕ) (xs : List SheetRule) → From (RuleAt s ps) i k xs → (ds : List Rule) × EachByName a xs ds
+  rules-there i k [] f = ([], tt)
+  rules-there i k (x ∷ xs) f =
+      let d = rule-there i x (f .0) in
+      let ds = rules-there (suc i) k xs (f .1) in
       (d .0 ∷ ds .0, (d .1, ds .1))
 
-mutual
-  tree-no-empty : (t : Tree) → NoEmpty (expression t)
-  tree-no-empty (node f g k) = form-no-empty k
-
-  form-no-empty : (k : Form) → NoEmpty (expressionOf k)
-  form-no-empty (atom k) = tt
-  form-no-empty (cat l r) = (tree-no-empty l, tree-no-empty r)
-  form-no-empty (alt l r) = (tree-no-empty l, tree-no-empty r)
-  form-no-empty (star e) = tree-no-empty e
-
-content-no-empty : (o : Option Tree) → NoEmptyIn (contentOf o)
-content-no-empty none = tt
-content-no-empty (some t) = tree-no-empty t
-
-no-empty : (a : Sheet) (xs : List SheetRule) (ds : List Rule) → EachByName a xs ds → NoEmptyNode xs
-no-empty a [] ds h = tt
-no-empty a (x ∷ xs) [] h = absurd h
-no-empty a (x ∷ xs) (d ∷ ds) h = (subst NoEmptyIn (h .0 .nodes-are) (content-no-empty (d .inside)), no-empty a xs ds (h .1))
-
-pub unless-empty : UnlessEmpty
-unless-empty s a p = (
-  λ n. let ds = rules-there s a (p .programs .programs) 0 (productionCount s) (a .rules) (p .rules-are) n in (record { start = a .start-nonterminal; productions = ds .0 }, record { start-is = refl; rules-are = ds .1 }),
-  λ x. no-empty a (a .rules) (x .0 .productions) (x .1 .rules-are),
-)
+pub sheets-are-rules : SheetsAreRules
+sheets-are-rules s a p =
+    let ds = rules-there s a (p .programs .programs) 0 (productionCount s) (a .rules) (p .rules-are) in
+    (record { start = a .start-nonterminal; productions = ds .0 }, record { start-is = refl; rules-are = ds .1 })

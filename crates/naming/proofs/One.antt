@@ -6,7 +6,7 @@ use Prim.Native.Nat.{ℕ}
 use native.Mathlib.Omega.{arith}
 use Rattle.expressions.specs.Expr.{Exp}
 use Rattle.sheet.specs.Sheet.{Rule as SheetRule, Sheet}
-use Rattle.notation.specs.Rules.{Visits, Tree, node, Form, atom, cat, alt, star, expression, expressionOf, visits, visitsOf, contentOf, visitsIn, Rule, Rules}
+use Rattle.notation.specs.Rules.{Visits, Tree, node, Form, atom, cat, alt, star, empty, expression, expressionOf, visits, visitsOf, contentOf, visitsIn, Rule, Rules}
 use Rattle.naming.specs.ByName.{RuleByName, EachByName, ByName}
 use Rattle.naming.specs.Promises.{OneByName}
 
@@ -46,6 +46,7 @@ mutual
       let p = tree-one u w x y i h in
       let a : u ≡ w = p .0 in
       (cc, p .1)
+  form-one empty empty x y e h = (refl, h)
   form-one (atom a) (cat l r) x y e h = absurd (let z : _≡_ {A = ℕ} 0 1 = cc in omega arith)
   form-one (atom a) (alt l r) x y e h = absurd (let z : _≡_ {A = ℕ} 0 1 = cc in omega arith)
   form-one (atom a) (star u) x y e h = absurd (let z : _≡_ {A = ℕ} 0 1 = cc in omega arith)
@@ -58,6 +59,14 @@ mutual
   form-one (star u) (atom a) x y e h = absurd (let z : _≡_ {A = ℕ} 0 1 = cc in omega arith)
   form-one (star u) (cat l r) x y e h = absurd (let z : _≡_ {A = ℕ} 0 1 = cc in omega arith)
   form-one (star u) (alt l r) x y e h = absurd (let z : _≡_ {A = ℕ} 0 1 = cc in omega arith)
+  form-one empty (atom a) x y e h = absurd (let z : _≡_ {A = ℕ} 0 1 = cc in omega arith)
+  form-one empty (cat l r) x y e h = absurd (let z : _≡_ {A = ℕ} 0 1 = cc in omega arith)
+  form-one empty (alt l r) x y e h = absurd (let z : _≡_ {A = ℕ} 0 1 = cc in omega arith)
+  form-one empty (star u) x y e h = absurd (let z : _≡_ {A = ℕ} 0 1 = cc in omega arith)
+  form-one (atom a) empty x y e h = absurd (let z : _≡_ {A = ℕ} 0 1 = cc in omega arith)
+  form-one (cat l r) empty x y e h = absurd (let z : _≡_ {A = ℕ} 0 1 = cc in omega arith)
+  form-one (alt l r) empty x y e h = absurd (let z : _≡_ {A = ℕ} 0 1 = cc in omega arith)
+  form-one (star u) empty x y e h = absurd (let z : _≡_ {A = ℕ} 0 1 = cc in omega arith)
 
 content-one : (o u : Option Tree) → contentOf o ≡ contentOf u → visitsIn o ≡ visitsIn u → o ≡ u
 content-one none none e h = refl

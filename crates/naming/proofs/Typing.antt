@@ -26,7 +26,7 @@ use Rattle.sheet.proofs.SheetLaws.{from-counted, grammar-from}
 use Rattle.runs.specs.Execute.{nameOf}
 use Rattle.runs.proofs.SheetFits.{one-of-all}
 use Rattle.notation.specs.Program.{Statement, Program, statementIn, programIn}
-use Rattle.notation.specs.Rules.{Visits, Tree, node, Form, atom, cat, alt, star, expression, expressionOf, visits, visitsOf, contentOf, visitsIn, Rule, Rules}
+use Rattle.notation.specs.Rules.{Visits, Tree, node, Form, atom, cat, alt, star, empty, expression, expressionOf, visits, visitsOf, contentOf, visitsIn, Rule, Rules}
 use Rattle.notation.specs.Tokens.{TagName}
 use Rattle.notation.specs.Limits.{OptionWithin, VisitsWithin, AllWithin, depthOf, ContentWithin, RuleWithin, EachWithin, nodesInAll, Within}
 use Rattle.encoding.specs.Mentions.{Mention, a-tag, a-string, a-program, inStatement, inProgram, inBraces, inTree, inForm, inContent, inRule, inRules, tagsIn, programsIn as programsMentioned}
@@ -213,6 +213,7 @@ module _ (a : Sheet) (r : Rules) (ps : List SheetProgram) (all : AllPrograms (le
         let j = tree-good m (good-back (visits l) (visits m) h) (n .1) in
         record { sound = (i .sound, j .sound); known = known-append (inTree l) (inTree m) (i .known) (j .known) }
     form-good (star e) h n = let i = tree-good e h n in record { sound = i .sound; known = i .known }
+    form-good empty h n = record { sound = tt; known = tt }
 
   record InsideGood (o : Option Tree) : Type 0 where
     sound : SoundContent o

@@ -3,7 +3,6 @@ use mathlib.Core.Path.{_≡_}
 use mathlib.Core.List.{List, [], _∷_}
 use mathlib.Core.Option.{Option, none, some}
 use lib.ListN.{take, drop}
-use Rattle.expressions.specs.Expr.{Exp, Content, nothing, tree}
 use Rattle.programs.specs.Program.{Statement as SheetStatement, Program as SheetProgram}
 use Rattle.sheet.specs.Fields.{Visits as SheetVisits}
 use Rattle.sheet.specs.Sheet.{Rule as SheetRule, Sheet}
@@ -53,25 +52,9 @@ EachByName a [] (d ∷ ds) = ⊥
 EachByName a (r ∷ rs) [] = ⊥
 EachByName a (r ∷ rs) (d ∷ ds) = RuleByName a r d × EachByName a rs ds
 
--- a sheet with a node of kind 6 is no rules (NoEmptyNode), since no text writes that node yet
 pub record ByName (a : Sheet) (r : Rules) : Type 0 where
   pub start-is : r .start ≡ a .start-nonterminal
   pub rules-are : EachByName a (a .rules) (r .productions)
-
-abbrev pub NoEmpty : Exp → Type 0
-NoEmpty (Exp.atom k) = Unit {0}
-NoEmpty (Exp.cat l r) = NoEmpty l × NoEmpty r
-NoEmpty (Exp.alt l r) = NoEmpty l × NoEmpty r
-NoEmpty (Exp.star e) = NoEmpty e
-NoEmpty Exp.empty = ⊥
-
-abbrev pub NoEmptyIn : Content → Type 0
-NoEmptyIn nothing = Unit {0}
-NoEmptyIn (tree e) = NoEmpty e
-
-abbrev pub NoEmptyNode : List SheetRule → Type 0
-NoEmptyNode [] = Unit {0}
-NoEmptyNode (r ∷ rs) = NoEmptyIn (r .production .content) × NoEmptyNode rs
 
 -- two sheets have the same start, the same productions in order with tags by name, the same nodes, and in each program field none or programs with equal
 -- statements, tags by name and strings by bytes

@@ -2,7 +2,6 @@
 use mathlib.Core.Path.{_≡_}
 use mathlib.Core.Bool.{Bool}
 use mathlib.Core.List.{List}
-use mathlib.Core.Logic.{_↔_}
 use Prim.Native.Nat.{ℕ, _≤_}
 use lib.Dec.{leb}
 use lib.ListN.{length}
@@ -15,15 +14,15 @@ use Rattle.encoding.specs.Distinct.{run-together}
 use Rattle.encoding.specs.Encoded.{stringsOf, Room, sheetOf}
 use Rattle.encoding.specs.Sound.{SoundRules}
 use Rattle.packing.specs.Packs.{Packs}
-use Rattle.naming.specs.ByName.{ByName, NoEmptyNode}
+use Rattle.naming.specs.ByName.{ByName}
 
 -- a sheet is one rules at most
 abbrev pub OneByName : Type 0
 OneByName = (a : Sheet) (r q : Rules) → ByName a r → ByName a q → r ≡ q
 
--- and one exactly where it keeps numbers 1 to 6 and has no node of kind 6
-abbrev pub UnlessEmpty : Type 0
-UnlessEmpty = (s : List ℕ) (a : Sheet) → Packs s a → NoEmptyNode (a .rules) ↔ ((r : Rules) × ByName a r)
+-- and one that keeps numbers 1 to 6 is some
+abbrev pub SheetsAreRules : Type 0
+SheetsAreRules = (s : List ℕ) (a : Sheet) → Packs s a → (r : Rules) × ByName a r
 
 -- the sheet of rules is those rules
 abbrev pub SheetIsItsRules : Type 0

@@ -8,8 +8,8 @@ use Rattle.expressions.specs.Expr.{Atom, anychar}
 use Rattle.expressions.specs.Grammar.{nonterminals}
 use Rattle.programs.specs.Limits.{first, second}
 use Rattle.notation.specs.Program.{Program}
-use Rattle.notation.specs.Rules.{Tree, node, Form, atom, cat, alt, star}
-use Rattle.notation.specs.Tokens.{Token, nonterminal, word, CHAR, sign, OPEN, CLOSE, DOT, BAR, STAR}
+use Rattle.notation.specs.Rules.{Tree, node, Form, atom, cat, alt, star, empty}
+use Rattle.notation.specs.Tokens.{Token, nonterminal, word, CHAR, EMPTY, sign, OPEN, CLOSE, DOT, BAR, STAR}
 use Rattle.notation.specs.Statements.{BracesAre}
 
 -- at most one of the two is there, and this is it: two programs for one visit of a node are refused
@@ -34,6 +34,7 @@ mutual
   pub data PrimaryIs : ℕ → List Token → Tree → Type 0 where
     a-nonterminal : {p n : ℕ} → n < nonterminals → PrimaryIs p (nonterminal n ∷ []) (node none none (atom (Atom.nonterminal n)))
     a-character : {p : ℕ} → PrimaryIs p (word CHAR ∷ []) (node none none (atom anychar))
+    an-empty : {p : ℕ} → PrimaryIs p (word EMPTY ∷ []) (node none none empty)
     parenthesised : {p : ℕ} {ts ws : List Token} {e : Tree} → InsideIs p ts e → ws ≡ sign OPEN ∷ (ts ++ sign CLOSE ∷ []) → PrimaryIs (suc p) ws e
 
   -- the programs are those of the node of the whole expression between the parentheses

@@ -20,6 +20,7 @@ mutual
     atom : Atom → Form
     cat alt : Tree → Tree → Form
     star : Tree → Form
+    empty : Form  -- EMPTY, the empty node
 
 -- its expression
 abbrev mutual
@@ -31,6 +32,7 @@ abbrev mutual
   expressionOf (cat l r) = Exp.cat (expression l) (expression r)
   expressionOf (alt l r) = Exp.alt (expression l) (expression r)
   expressionOf (star e) = Exp.star (expression e)
+  expressionOf empty = Exp.empty
 
 -- its nodes' programs, in preorder
 abbrev mutual
@@ -42,6 +44,7 @@ abbrev mutual
   visitsOf (cat l r) = visits l ++ visits r
   visitsOf (alt l r) = visits l ++ visits r
   visitsOf (star e) = visits e
+  visitsOf empty = []
 
 -- what stands between a tag's parentheses
 abbrev pub contentOf : Option Tree → Content

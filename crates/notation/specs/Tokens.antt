@@ -8,9 +8,9 @@ use Rattle.text.specs.Chars.{pick, utf8}
 use Rattle.text.specs.Characters.{AllChar, utf8s}
 use Rattle.text.specs.Names.{Name}
 
--- the words of the grammar; EMPTY, for the empty node that a sheet can have (kind 6), is not one of them yet
+-- the words of the grammar
 pub data Word : Type 0 where
-  CHAR ECHO ECHO-OFF REJECT PRINT IF THEN ELSE BEGIN END AND OR NOT : Word
+  CHAR ECHO ECHO-OFF REJECT PRINT IF THEN ELSE BEGIN END AND OR NOT EMPTY : Word
 
 -- ::=  :=  (  )  {  }  .  |  *  ;  =
 pub data Sign : Type 0 where
@@ -46,6 +46,7 @@ wordBytes END = 101 ∷ 110 ∷ 100 ∷ []
 wordBytes AND = 97 ∷ 110 ∷ 100 ∷ []
 wordBytes OR = 111 ∷ 114 ∷ []
 wordBytes NOT = 110 ∷ 111 ∷ 116 ∷ []
+wordBytes EMPTY = 69 ∷ 77 ∷ 80 ∷ 84 ∷ 89 ∷ []
 
 abbrev pub signBytes : Sign → List ℕ
 signBytes DEFINED = 58 ∷ 58 ∷ 61 ∷ []

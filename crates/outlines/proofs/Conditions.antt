@@ -10,7 +10,7 @@ use lib.ListN.{length}
 use Rattle.programs.specs.Program.{Operand, constant, current, recalled, Condition, equal}
 use Rattle.programs.specs.Limits.{Attribute, Value, Visit, first, second}
 use Rattle.notation.specs.Statements.{parentheses}
-use Rattle.notation.specs.Tokens.{Mark, plain, left, right, Token, nonterminal, value, attribute, name, start-tag, end-tag, empty-tag, string, word, Word, CHAR, ECHO, ECHO-OFF, REJECT, PRINT, IF, THEN, ELSE, BEGIN, END, AND, OR, NOT, sign, Sign, DEFINED, ASSIGNED, OPEN, CLOSE, BRACE, UNBRACE, DOT, BAR, STAR, SEMICOLON, EQUALS}
+use Rattle.notation.specs.Tokens.{Mark, plain, left, right, Token, nonterminal, value, attribute, name, start-tag, end-tag, empty-tag, string, word, Word, CHAR, ECHO, ECHO-OFF, REJECT, PRINT, IF, THEN, ELSE, BEGIN, END, AND, OR, NOT, EMPTY, sign, Sign, DEFINED, ASSIGNED, OPEN, CLOSE, BRACE, UNBRACE, DOT, BAR, STAR, SEMICOLON, EQUALS}
 use Rattle.reading.specs.Conditions as reading
 use Rattle.reading.specs.Conditions.{Part, operand, a-not, an-and, an-or, an-open, a-close, an-equals, other, partIf, value?, attribute?, attributeOf, attributePart, wordPart, signPart, partOf, Level, Reading, wants, compares, wants-other, after, around, disjoined, negatedBy, stepPart, stepCondition, valueOf, finishedOf}
 use Rattle.lexemes.specs.Kinds.{kindOf, wordNumber, signNumber, markNumber, TokenFits}
@@ -59,6 +59,7 @@ word-asked v END = refl
 word-asked v AND = refl
 word-asked v OR = refl
 word-asked v NOT = refl
+word-asked v EMPTY = refl
 
 sign-asked : (v : Visit) (s : Sign) → ofKind v (signNumber s) ≡ ofPart (signPart s)
 sign-asked v DEFINED = refl

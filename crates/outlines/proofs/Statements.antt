@@ -9,7 +9,7 @@ use Rattle.programs.specs.Program.{Operand, Condition}
 use Rattle.programs.specs.Limits.{Attribute, Visit, first, second, isFirst}
 use Rattle.notation.specs.Program.{Statement, echo, Program, done, _then_}
 use Rattle.notation.specs.Statements.{only, assigned, parentheses}
-use Rattle.notation.specs.Tokens.{Mark, plain, left, right, Token, nonterminal, value, attribute, name, start-tag, end-tag, empty-tag, string, word, Word, CHAR, ECHO, ECHO-OFF, REJECT, PRINT, IF, THEN, ELSE, BEGIN, END, AND, OR, NOT, sign, Sign, DEFINED, ASSIGNED, OPEN, CLOSE, BRACE, UNBRACE, DOT, BAR, STAR, SEMICOLON, EQUALS, TagName, StringOf}
+use Rattle.notation.specs.Tokens.{Mark, plain, left, right, Token, nonterminal, value, attribute, name, start-tag, end-tag, empty-tag, string, word, Word, CHAR, ECHO, ECHO-OFF, REJECT, PRINT, IF, THEN, ELSE, BEGIN, END, AND, OR, NOT, EMPTY, sign, Sign, DEFINED, ASSIGNED, OPEN, CLOSE, BRACE, UNBRACE, DOT, BAR, STAR, SEMICOLON, EQUALS, TagName, StringOf}
 use Rattle.reading.specs.Tests.{tagName?, string?}
 use Rattle.reading.specs.Conditions.{Part, operand, a-not, an-and, an-or, an-open, a-close, an-equals, other, attribute?, partOf, Reading, stepCondition, valueOf, finishedOf}
 use Rattle.reading.specs.Statements as reading
@@ -79,6 +79,7 @@ start-word v END = record { seen = refl; simple = tt }
 start-word v AND = record { seen = refl; simple = tt }
 start-word v OR = record { seen = refl; simple = tt }
 start-word v NOT = record { seen = refl; simple = tt }
+start-word v EMPTY = record { seen = refl; simple = tt }
 
 start-attribute : (v : Visit) (m : Mark) (a : ℕ) (d : Dec (Attribute a)) → Attribute a → StartSeen (beginsKind v (markNumber m)) (targetIf d (current? v m) a)
 start-attribute v m a (no h) g = absurd (h g)
@@ -153,6 +154,7 @@ next-word END = seen-end
 next-word AND = seen-nothing
 next-word OR = seen-nothing
 next-word NOT = seen-nothing
+next-word EMPTY = seen-nothing
 
 next-sign : (s : Sign) → NextSeen (followsKind (signNumber s)) (nextSign s)
 next-sign DEFINED = seen-nothing

@@ -80,8 +80,8 @@ finishing-close e i h = rw h
 pub wanted-open : (b : Bool) (p : Paren) (i : Inside) → i ≡ Inside.Open → Move.Opened p ≡ wanted b p i
 wanted-open b p i h = rw h
 
-pub wanted-atom : (b : Bool) (p : Paren) (i : Inside) → i ≡ Inside.Atom → Move.To (After lone p) ≡ wanted b p i
-wanted-atom b p i h = rw h
+pub wanted-leaf : (b : Bool) (p : Paren) (i : Inside) → i ≡ Inside.Leaf → Move.To (After lone p) ≡ wanted b p i
+wanted-leaf b p i h = rw h
 
 pub wanted-brace : (b : Bool) (p : Paren) (i : Inside) → b ≡ true → i ≡ Inside.Brace → Move.To (InFront (p .surround)) ≡ wanted b p i
 wanted-brace b p i h j = rw (j, h)
@@ -122,8 +122,8 @@ operand-close e w p i m h j k = k ∙ ap (shut (p .before)) (j .same) ∙ sym (a
 pub operand-brace : (e w : Figure) (p : Paren) (i : Inside) (m : Move) → i ≡ Inside.Brace → WholeIs p e w → m ≡ backedBy (p .before) (p .surround) w → m ≡ behindOperand e p i
 operand-brace e w p i m h j k = k ∙ ap (backedBy (p .before) (p .surround)) (j .same) ∙ sym (ap (behindOperand e p) h)
 
-pub operand-atom : (e : Figure) (p : Paren) (i : Inside) → i ≡ Inside.Atom → Move.Refused ≡ behindOperand e p i
-operand-atom e p i h = rw h
+pub operand-leaf : (e : Figure) (p : Paren) (i : Inside) → i ≡ Inside.Leaf → Move.Refused ≡ behindOperand e p i
+operand-leaf e p i h = rw h
 
 pub operand-open : (e : Figure) (p : Paren) (i : Inside) → i ≡ Inside.Open → Move.Refused ≡ behindOperand e p i
 operand-open e p i h = rw h

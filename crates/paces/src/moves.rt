@@ -31,8 +31,8 @@ fn inside(kind: usize) -> sketches::Inside
     requires { ⌜ kind < kinds ⌝ }
     ensures { λ r. ⌜ r ≡ insideOf kind ⌝ }
 {
-    let row: [sketches::Inside; 34] = [
-        sketches::Inside::Atom,
+    let row: [sketches::Inside; 35] = [
+        sketches::Inside::Leaf,
         sketches::Inside::Other,
         sketches::Inside::Other,
         sketches::Inside::Other,
@@ -42,7 +42,7 @@ fn inside(kind: usize) -> sketches::Inside
         sketches::Inside::Other,
         sketches::Inside::Other,
         sketches::Inside::Other,
-        sketches::Inside::Atom,
+        sketches::Inside::Leaf,
         sketches::Inside::Other,
         sketches::Inside::Other,
         sketches::Inside::Other,
@@ -66,6 +66,7 @@ fn inside(kind: usize) -> sketches::Inside
         sketches::Inside::Star,
         sketches::Inside::Other,
         sketches::Inside::Other,
+        sketches::Inside::Leaf,
     ];
     row[kind]
 }
@@ -75,7 +76,7 @@ fn outside(kind: usize) -> sketches::Outside
     requires { ⌜ kind < kinds ⌝ }
     ensures { λ r. ⌜ r ≡ outsideOf kind ⌝ }
 {
-    let row: [sketches::Outside; 34] = [
+    let row: [sketches::Outside; 35] = [
         sketches::Outside::Nonterminal,
         sketches::Outside::Other,
         sketches::Outside::Other,
@@ -110,6 +111,7 @@ fn outside(kind: usize) -> sketches::Outside
         sketches::Outside::Other,
         sketches::Outside::Other,
         sketches::Outside::Other,
+        sketches::Outside::Other,
     ];
     row[kind]
 }
@@ -119,7 +121,7 @@ fn wanted(b: bool, p: sketches::Paren, i: sketches::Inside) -> sketches::Move
     ensures { λ r. ⌜ r ≡ wanted b p i ⌝ }
 {
     match i {
-        sketches::Inside::Atom => sketches::Move::To(sketches::Point::After(LONE, p)),
+        sketches::Inside::Leaf => sketches::Move::To(sketches::Point::After(LONE, p)),
         sketches::Inside::Open => sketches::Move::Opened(p),
         sketches::Inside::Close => {
             if b {
@@ -249,7 +251,7 @@ fn behind_operand(e: sketches::Figure, p: sketches::Paren, i: sketches::Inside) 
             let m = p.surround;
             backed(p.before, m, crate::figures::whole(p, e))
         }
-        sketches::Inside::Atom => sketches::Move::Refused,
+        sketches::Inside::Leaf => sketches::Move::Refused,
         sketches::Inside::Open => sketches::Move::Refused,
         sketches::Inside::Other => sketches::Move::Refused,
     }
@@ -265,7 +267,7 @@ fn finishing(e: sketches::Figure, i: sketches::Inside) -> sketches::Move
         sketches::Inside::Dot => sketches::Move::Refused,
         sketches::Inside::Bar => sketches::Move::Refused,
         sketches::Inside::Brace => sketches::Move::Refused,
-        sketches::Inside::Atom => sketches::Move::Refused,
+        sketches::Inside::Leaf => sketches::Move::Refused,
         sketches::Inside::Open => sketches::Move::Refused,
         sketches::Inside::Other => sketches::Move::Refused,
     }

@@ -14,7 +14,7 @@ use Rattle.trees.specs.Trees.{TreeAt}
 use Rattle.sheet.specs.Fields.{Visits as SheetVisits, FieldsAre}
 use Rattle.sheet.specs.Sheet.{From, NodeIs}
 use Rattle.notation.specs.Program.{Program}
-use Rattle.notation.specs.Rules.{Visits, Tree, node, Form, atom, cat, alt, star, expression, expressionOf, visits, visitsOf, contentOf, visitsIn, Rules}
+use Rattle.notation.specs.Rules.{Visits, Tree, node, Form, atom, cat, alt, star, empty, expression, expressionOf, visits, visitsOf, contentOf, visitsIn, Rules}
 use Rattle.encoding.specs.Mentions.{inBraces, inTree, inForm, inContent}
 use Rattle.encoding.specs.Encoded.{Room, maybe, bothOf, each, sheetOf}
 use Rattle.encoding.specs.Keeps.{ProgramKeeps, VisitsKeep, AllKeep}
@@ -41,6 +41,7 @@ mutual
   form-length r (cat l m) = simp length-append (omega (arith, tree-length r l, tree-length r m))
   form-length r (alt l m) = simp length-append (omega (arith, tree-length r l, tree-length r m))
   form-length r (star e) = omega (arith, tree-length r e)
+  form-length r empty = refl
 
 pub content-length : (r : Rules) (o : Option Tree) → length (contentBytes r o) ≡ 6 * nodesOf (contentOf o)
 content-length r none = refl
@@ -118,3 +119,4 @@ module _ (r : Rules) (room : Room r) (s : List ℕ) where
     form-at (star e) i a b h s′ w m =
         let z = tree-at e (suc i) h s′ w m in
         ((a, b, z .0), from-to (NodeIs s (storedPrograms r)) (suc i) (suc i + nodes (expression e)) (i + suc (nodes (expression e))) (each r (visits e)) (omega arith) (z .1))
+    form-at empty i a b h s′ w m = ((a, b), omega arith)

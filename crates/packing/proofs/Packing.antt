@@ -20,7 +20,7 @@ use Rattle.sheet.specs.Grounded.{Grounded}
 use Rattle.sheet.specs.Defect.{DefectIs, well-formed, its-size, its-sections, a-tag, a-production, a-tree, a-program, not-grounded}
 use Rattle.sheet.specs.Sheet.{Rule as SheetRule, Sheet, From, NodeIs, RuleAt, IsSheet}
 use Rattle.sheet.proofs.SheetLaws.{one-name}
-use Rattle.notation.specs.Rules.{Visits, Tree, node, Form, atom, cat, alt, star, visits, visitsOf, visitsIn, Rule, Rules}
+use Rattle.notation.specs.Rules.{Visits, Tree, node, Form, atom, cat, alt, star, empty, visits, visitsOf, visitsIn, Rule, Rules}
 use Rattle.notation.specs.Limits.{nodesInAll}
 use Rattle.notation.specs.Tokens.{Token, TagName}
 use Rattle.notation.specs.Productions.{ProductionsAre, one, more, RulesAre, start-alone, start-first}
@@ -52,6 +52,7 @@ module _ (r : Rules) where
     good-form (cat l m) h = good-append r (inTree l) (inTree m) (good-tree l (keep-front r (visits l) (visits m) h)) (good-tree m (keep-back r (visits l) (visits m) h))
     good-form (alt l m) h = good-append r (inTree l) (inTree m) (good-tree l (keep-front r (visits l) (visits m) h)) (good-tree m (keep-back r (visits l) (visits m) h))
     good-form (star e) h = good-tree e h
+    good-form empty h = tt
 
   good-content : (o : Option Tree) → AllKeep (sheetOf r) (each r (visitsIn o)) → Good r (inContent o)
   good-content none h = tt

@@ -7,7 +7,7 @@ use Rattle.expressions.specs.Expr.{Atom, nonterminal, anychar, nodesOf}
 use Rattle.programs.specs.Program.{programBytes}
 use Rattle.sheet.specs.Tags.{tagRecord}
 use Rattle.notation.specs.Program.{Program}
-use Rattle.notation.specs.Rules.{Visits, Tree, node, Form, atom, cat, alt, star, contentOf, Rule, Rules}
+use Rattle.notation.specs.Rules.{Visits, Tree, node, Form, atom, cat, alt, star, empty, contentOf, Rule, Rules}
 use Rattle.notation.specs.Limits.{nodesInAll}
 use Rattle.encoding.specs.Distinct.{placeOf, offsetOf, run-together}
 use Rattle.encoding.specs.Encoded.{tagsOf, stringsOf, programsOf, programOf}
@@ -31,6 +31,7 @@ kind (atom anychar) = 2
 kind (cat l m) = 3
 kind (alt l m) = 4
 kind (star e) = 5
+kind empty = 6
 
 abbrev pub argument : Form → ℕ
 argument (atom (nonterminal n)) = n
@@ -38,6 +39,7 @@ argument (atom anychar) = 0
 argument (cat l m) = 0
 argument (alt l m) = 0
 argument (star e) = 0
+argument empty = 0
 
 abbrev pub nodeRecord : Rules → Option Program → Option Program → Form → List ℕ
 nodeRecord r f g k = kind k ∷ argument k ∷ fields r f g []
@@ -52,6 +54,7 @@ abbrev mutual
   formBytes r (cat l m) = treeBytes r l ++ treeBytes r m
   formBytes r (alt l m) = treeBytes r l ++ treeBytes r m
   formBytes r (star e) = treeBytes r e
+  formBytes r empty = []
 
 abbrev pub contentBytes : Rules → Option Tree → List ℕ
 contentBytes r none = []

@@ -10,11 +10,11 @@ use borrow.Author.Tests.{ltb-false}
 use Rattle.expressions.specs.Expr.{Atom, nonterminal, anychar, depth}
 use Rattle.programs.specs.Limits.{Visit, first, second}
 use Rattle.notation.specs.Program.{Program}
-use Rattle.notation.specs.Rules.{Visits, Tree, node, Form, atom, cat, alt, star, expression, expressionOf, visits, visitsOf}
+use Rattle.notation.specs.Rules.{Visits, Tree, node, Form, atom, cat, alt, star, empty, expression, expressionOf, visits, visitsOf}
 use Rattle.notation.specs.Limits.{ProgramWithin, OptionWithin, AllWithin}
-use Rattle.notation.specs.Tokens.{Token, word, CHAR, sign, Sign, OPEN, CLOSE, DOT, BAR, STAR, bytesOf}
+use Rattle.notation.specs.Tokens.{Token, word, CHAR, EMPTY, sign, Sign, OPEN, CLOSE, DOT, BAR, STAR, bytesOf}
 use Rattle.notation.specs.Statements.{BracesAre, absent}
-use Rattle.notation.specs.Expressions.{AtMostOne, inner, outer, UnionIs, no-bar, bar, CatIs, no-dot, dot, StarredIs, no-star, stars, PrimaryIs, a-nonterminal, a-character, parenthesised, InsideIs, inside}
+use Rattle.notation.specs.Expressions.{AtMostOne, inner, outer, UnionIs, no-bar, bar, CatIs, no-dot, dot, StarredIs, no-star, stars, PrimaryIs, a-nonterminal, a-character, an-empty, parenthesised, InsideIs, inside}
 use Rattle.printed.specs.Spacing.{inParentheses, inParenthesesIf}
 use Rattle.printed.specs.Programs.{programText}
 use Rattle.printed.specs.Expressions.{programInFront, programBehind, hasOne, binds, atomToken, treeText, formText}
@@ -53,6 +53,7 @@ Own p (atom k) ts = PrimaryIs p ts (node none none (atom k))
 Own p (cat l r) ts = CatIs p ts (node none none (cat l r))
 Own p (alt l r) ts = UnionIs p ts (node none none (alt l r))
 Own p (star e) ts = StarredIs p ts (node none none (star e))
+Own p empty ts = PrimaryIs p ts (node none none empty)
 
 -- what a place asks for
 abbrev Place : ℕ → ℕ → Tree → List Token → Type 0
@@ -69,6 +70,7 @@ primary-place (suc (suc (suc n))) p t ts h = h
 
 own-place : (asked p : ℕ) (k : Form) (ts : List Token) → ltb (binds k) asked ≡ false → Own p k ts → Place asked p (node none none k) ts
 own-place asked p (atom k) ts e h = primary-place asked p (node none none (atom k)) ts h
+own-place asked p empty ts e h = primary-place asked p (node none none empty) ts h
 own-place zero p (cat l r) ts e h = no-bar h
 own-place (suc zero) p (cat l r) ts e h = h
 own-place (suc (suc n)) p (cat l r) ts e h = absurd (let z = ltb-false 1 (suc (suc n)) e in omega arith)
@@ -84,6 +86,7 @@ as-union p (atom k) ts h = no-bar (no-dot (no-star h))
 as-union p (cat l r) ts h = no-bar h
 as-union p (alt l r) ts h = h
 as-union p (star e) ts h = no-bar (no-dot h)
+as-union p empty ts h = no-bar (no-dot (no-star h))
 
 at-most : (o : Option Program) → AtMostOne o none o
 at-most none = inner
@@ -119,6 +122,7 @@ deep (atom k) = omega arith
 deep (cat l r) = omega arith
 deep (alt l r) = omega arith
 deep (star e) = omega arith
+deep empty = omega arith
 
 -- two parts with a sign between them
 signed : (s : Sign) (ts us : List Token) (x y : List ℕ) → ((z : List ℕ) → Rattle.printed.proofs.Phrases.Quiet (bytesOf (sign s) ++ z)) → Phrase ts x → Phrase us y → Phrase (ts ++ sign s ∷ us) (x ++ (bytesOf (sign s) ++ y))
@@ -133,6 +137,7 @@ mutual
   pub form-said : (p : ℕ) (k : Form) → SoundForm k → AllWithin (visitsOf k) → depth (expressionOf k) ≤ suc p → Said (Own p k) (formText k)
   form-said p (atom (nonterminal n)) h w d = record { tokens = Token.nonterminal n ∷ []; are = a-nonterminal h; phrase = a-word (Token.nonterminal n) (λ b. refl) }
   form-said p (atom anychar) h w d = record { tokens = word CHAR ∷ []; are = a-character; phrase = a-word (word CHAR) (λ b. refl) }
+  form-said p empty h w d = record { tokens = word EMPTY ∷ []; are = an-empty; phrase = a-word (word EMPTY) (λ b. refl) }
   form-said p (cat l r) h w d =
       let a = all-within (visits l) (visits r) w in
       let s = tree-said l 1 p (h .0) (a .0) (omega (arith, d)) in

@@ -7,8 +7,8 @@ use Prim.Native.Nat.{ℕ}
 use lib.Dec.{ltb}
 use Rattle.expressions.specs.Expr.{Atom, nonterminal, anychar}
 use Rattle.notation.specs.Program.{Program}
-use Rattle.notation.specs.Rules.{Tree, node, Form, atom, cat, alt, star}
-use Rattle.notation.specs.Tokens.{Token, word, CHAR, DOT, BAR, STAR, signBytes, bytesOf}
+use Rattle.notation.specs.Rules.{Tree, node, Form, atom, cat, alt, star, empty}
+use Rattle.notation.specs.Tokens.{Token, word, CHAR, EMPTY, DOT, BAR, STAR, signBytes, bytesOf}
 use Rattle.printed.specs.Spacing.{_␣_, inParenthesesIf}
 use Rattle.printed.specs.Programs.{programText}
 
@@ -25,12 +25,13 @@ abbrev pub hasOne : Option Program → Bool
 hasOne none = false
 hasOne (some p) = true
 
--- how tightly it binds: under * everything but an atom has parentheses, right of . a concatenation, under . and right of | a union
+-- how tightly it binds: under * everything but an atom and EMPTY has parentheses, right of . a concatenation, under . and right of | a union
 abbrev pub binds : Form → ℕ
 binds (alt l r) = 0
 binds (cat l r) = 1
 binds (star e) = 2
 binds (atom k) = 3
+binds empty = 3
 
 abbrev pub atomToken : Atom → Token
 atomToken (nonterminal n) = Token.nonterminal n
@@ -46,6 +47,7 @@ abbrev mutual
   formText (cat l r) = treeText 1 l ++ (signBytes DOT ++ treeText 2 r)
   formText (alt l r) = treeText 0 l ++ (signBytes BAR ++ treeText 1 r)
   formText (star e) = treeText 3 e ++ signBytes STAR
+  formText empty = bytesOf (word EMPTY)
 
 -- between a tag's parentheses
 abbrev pub contentText : Option Tree → List ℕ

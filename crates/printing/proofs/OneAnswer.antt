@@ -4,6 +4,7 @@ use mathlib.Core.List.{List, _++_}
 use Prim.Native.Nat.{ℕ, _≤_, _<_}
 use native.Mathlib.Omega.{arith}
 use lib.ListN.{length, drop}
+use Rattle.limits.specs.Limits.{mostStringBytes}
 use Rattle.programs.specs.Program.{Program}
 use Rattle.programs.proofs.Sections.{one-filling}
 use Rattle.layout.specs.Layout.{tagCount, productionCount, programsIn, stringsIn}
@@ -13,11 +14,13 @@ use Rattle.sheet.specs.Defect.{DefectIs, well-formed, its-size, its-sections, a
 use Rattle.sheet.proofs.SheetLaws.{one-from, one-name, one-rule, sheet-by}
 use Rattle.sheet.proofs.DefectLaws.{one-defect}
 use Rattle.notation.specs.Rules.{Rules}
+use Rattle.encoding.specs.Distinct.{run-together}
+use Rattle.encoding.specs.Encoded.{stringsOf}
 use Rattle.packing.specs.Packs.{Packs}
 use Rattle.printed.specs.Text.{textOf}
 use Rattle.naming.specs.ByName.{ByName}
 use Rattle.naming.proofs.One.{one-by-name}
-use Rattle.printing.specs.Printed.{HasText, PrintedAs, no-sheet, no-text, too-short, printed}
+use Rattle.printing.specs.Printed.{HasText, PrintedAs, no-sheet, no-room, too-short, printed}
 use Rattle.printing.specs.Promises.{OnePrinting}
 
 -- bytes are one sheet at most
@@ -30,9 +33,15 @@ one-packed s a b h g =
     sheet-by (one-from (TagAt s) (one-name s) 0 (tagCount s) (a .names) (b .names) (h .names-are) (g .names-are)) (one-from (RuleAt s ps) (one-rule s ps) 0 (productionCount s) (a .rules) (b .rules) (h .rules-are) rules)
     (h .strings-are ∙ sym (g .strings-are)) (h .start-is ∙ sym (g .start-is))
 
--- and have one text at most
+-- and one rules, whose text is theirs
+its-rules : (s : List ℕ) (a : Sheet) (r q : Rules) → Packs s a → ByName a r → HasText s q → r ≡ q
+its-rules s a r q p b h = one-by-name (h .its-sheet) r q (subst (λ z. ByName z r) (one-packed s a (h .its-sheet) p (h .packed)) b) (h .by-name)
+
 pub one-text : (s : List ℕ) (r q : Rules) → HasText s r → HasText s q → r ≡ q
-one-text s r q h k = one-by-name (h .its-sheet) r q (h .by-name) (subst (λ a. ByName a q) (one-packed s (k .its-sheet) (h .its-sheet) (k .packed) (h .packed)) (k .by-name))
+one-text s r q h k = its-rules s (h .its-sheet) r q (h .packed) (h .by-name) k
+
+no-text : (s : List ℕ) (a : Sheet) (r q : Rules) → Packs s a → ByName a r → mostStringBytes < length (run-together (stringsOf r)) → HasText s q → ⊥
+no-text s a r q p b t h = omega (arith, t, h .short, ap (λ z. length (run-together (stringsOf z))) (its-rules s a r q p b h))
 
 -- what keeps 1 to 6 has none of these numbers
 none-of-six : (s : List ℕ) (a : Sheet) (d : ℕ) → Packs s a → DefectIs s d → 1 ≤ d → d ≤ 6 → ⊥
@@ -50,18 +59,18 @@ same-length s r q h k = ap (λ z. length (textOf z)) (one-text s r q h k)
 
 pub one-printing : OnePrinting
 one-printing s area m n j k x y (no-sheet d i l) (no-sheet e i′ l′) = (one-defect d e, refl, refl)
-one-printing s area m n j k x y (no-sheet d i l) (no-text a p t) = absurd (none-of-six s a m p d i l)
+one-printing s area m n j k x y (no-sheet d i l) (no-room a r p b t) = absurd (none-of-six s a m p d i l)
 one-printing s area m n j k x y (no-sheet d i l) (too-short r h t) = absurd (none-of-six s (h .its-sheet) m (h .packed) d i l)
 one-printing s area m n j k x y (no-sheet d i l) (printed r h t) = absurd (none-of-six s (h .its-sheet) m (h .packed) d i l)
-one-printing s area m n j k x y (no-text a p t) (no-sheet e i l) = absurd (none-of-six s a n p e i l)
-one-printing s area m n j k x y (no-text a p t) (no-text b q u) = (refl, refl, refl)
-one-printing s area m n j k x y (no-text a p t) (too-short r h u) = absurd (t r h)
-one-printing s area m n j k x y (no-text a p t) (printed r h u) = absurd (t r h)
+one-printing s area m n j k x y (no-room a r p b t) (no-sheet e i l) = absurd (none-of-six s a n p e i l)
+one-printing s area m n j k x y (no-room a r p b t) (no-room a′ q p′ b′ u) = (refl, refl, refl)
+one-printing s area m n j k x y (no-room a r p b t) (too-short q h u) = absurd (no-text s a r q p b t h)
+one-printing s area m n j k x y (no-room a r p b t) (printed q h u) = absurd (no-text s a r q p b t h)
 one-printing s area m n j k x y (too-short r h t) (no-sheet e i l) = absurd (none-of-six s (h .its-sheet) n (h .packed) e i l)
-one-printing s area m n j k x y (too-short r h t) (no-text b q u) = absurd (u r h)
+one-printing s area m n j k x y (too-short r h t) (no-room a q p b u) = absurd (no-text s a q r p b u h)
 one-printing s area m n j k x y (too-short r h t) (too-short q g u) = (refl, same-length s r q h g, refl)
 one-printing s area m n j k x y (too-short r h t) (printed q g u) = absurd (omega (arith, same-length s r q h g))
 one-printing s area m n j k x y (printed r h t) (no-sheet e i l) = absurd (none-of-six s (h .its-sheet) n (h .packed) e i l)
-one-printing s area m n j k x y (printed r h t) (no-text b q u) = absurd (u r h)
+one-printing s area m n j k x y (printed r h t) (no-room a q p b u) = absurd (no-text s a q r p b u h)
 one-printing s area m n j k x y (printed r h t) (too-short q g u) = absurd (omega (arith, same-length s r q h g))
 one-printing s area m n j k x y (printed r h t) (printed q g u) = (refl, same-length s r q h g, ap (λ z. textOf z ++ drop (length (textOf z)) area) (one-text s r q h g))

@@ -16,17 +16,17 @@ use Rattle.naming.specs.ByName.{ByName}
 abbrev pub StringsFit : Rules → Type 0
 StringsFit r = length (run-together (stringsOf r)) ≤ mostStringBytes
 
--- the sheet's rules, where they have a text that keeps the limits
+-- the sheet's rules, where their text keeps the limits
 pub record HasText (sheet : List ℕ) (r : Rules) : Type 0 where
   pub its-sheet : Sheet
   pub packed : Packs sheet its-sheet
   pub by-name : ByName its-sheet r
   pub short : StringsFit r
 
--- 1 to 6 as the checker's; 42 where the sheet has no such text; 43 with the length needed; 0 with the length written, and then every byte past it is as lent.
+-- 1 to 6 as the checker's; 42 where the different strings that the sheet's rules print have no room in a sheet; 43 with the length needed; 0 with the length written, and then every byte past it is as lent.
 -- With any other number all bytes are
 pub data PrintedAs (sheet area : List ℕ) : ℕ → ℕ → List ℕ → Type 0 where
   no-sheet : {d : ℕ} → DefectIs sheet d → 1 ≤ d → d ≤ 6 → PrintedAs sheet area d 0 area
-  no-text : (a : Sheet) → Packs sheet a → ((r : Rules) → HasText sheet r → ⊥) → PrintedAs sheet area 42 0 area
+  no-room : (a : Sheet) (r : Rules) → Packs sheet a → ByName a r → mostStringBytes < length (run-together (stringsOf r)) → PrintedAs sheet area 42 0 area
   too-short : (r : Rules) → HasText sheet r → length area < length (textOf r) → PrintedAs sheet area 43 (length (textOf r)) area
   printed : (r : Rules) → HasText sheet r → length (textOf r) ≤ length area → PrintedAs sheet area 0 (length (textOf r)) (textOf r ++ drop (length (textOf r)) area)

@@ -10,7 +10,7 @@ use lib.ListN.{length}
 use borrow.Author.Tests.{ltb-true}
 use Rattle.programs.specs.Program.{Operand, constant, current, recalled, Condition, equal, negated, both, either}
 use Rattle.programs.specs.Limits.{Visit, first, second, Value, Attribute}
-use Rattle.notation.specs.Tokens.{Mark, plain, left, right, Token, nonterminal, value, attribute, name, start-tag, end-tag, empty-tag, string, word, Word, CHAR, ECHO, ECHO-OFF, REJECT, PRINT, IF, THEN, ELSE, BEGIN, END, AND, OR, NOT, sign, Sign, DEFINED, ASSIGNED, OPEN, CLOSE, BRACE, UNBRACE, DOT, BAR, STAR, SEMICOLON, EQUALS}
+use Rattle.notation.specs.Tokens.{Mark, plain, left, right, Token, nonterminal, value, attribute, name, start-tag, end-tag, empty-tag, string, word, Word, CHAR, ECHO, ECHO-OFF, REJECT, PRINT, IF, THEN, ELSE, BEGIN, END, AND, OR, NOT, EMPTY, sign, Sign, DEFINED, ASSIGNED, OPEN, CLOSE, BRACE, UNBRACE, DOT, BAR, STAR, SEMICOLON, EQUALS}
 use Rattle.notation.specs.Conditions.{CurrentIs, of-either, of-first, of-second, OperandIs, a-value, a-current, a-recalled, ConditionIs, no-or, or, BothIs, no-and, and, SingleIs, compared, not, parenthesised}
 use Rattle.reading.specs.Machine.{andThen, walk}
 use Rattle.reading.specs.Conditions.{Part, operand, a-not, an-and, an-or, an-open, a-close, an-equals, other, partIf, value?, attribute?, attributePart, attributeOf, wordPart, signPart, partOf, Level, level, fresh, disjoined, conjoined, negatedBy, upToAnd, whole, around, Reading, wants, compares, wants-other, after, got, opened, closed, stepPart, stepCondition, valueOf, finishedOf}
@@ -57,6 +57,7 @@ word-part v END = tt
 word-part v AND = refl
 word-part v OR = refl
 word-part v NOT = refl
+word-part v EMPTY = tt
 
 sign-part : (v : Visit) (s : Sign) → PartIs v (sign s) (signPart s)
 sign-part v DEFINED = tt

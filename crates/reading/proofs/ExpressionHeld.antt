@@ -13,18 +13,18 @@ use Rattle.expressions.specs.Grammar.{nonterminals}
 use Rattle.programs.specs.Limits.{first, second}
 use Rattle.notation.specs.Program.{Program}
 use Rattle.notation.specs.Rules.{Tree, node, Form, atom, cat, alt, star}
-use Rattle.notation.specs.Tokens.{Token, nonterminal, value, attribute, name, start-tag, end-tag, empty-tag, string, word, Word, CHAR, ECHO, ECHO-OFF, REJECT, PRINT, IF, THEN, ELSE, BEGIN, END, AND, OR, NOT, sign, Sign, DEFINED, ASSIGNED, OPEN, CLOSE, BRACE, UNBRACE, DOT, BAR, STAR, SEMICOLON, EQUALS}
+use Rattle.notation.specs.Tokens.{Token, nonterminal, value, attribute, name, start-tag, end-tag, empty-tag, string, word, Word, CHAR, ECHO, ECHO-OFF, REJECT, PRINT, IF, THEN, ELSE, BEGIN, END, AND, OR, NOT, EMPTY, sign, Sign, DEFINED, ASSIGNED, OPEN, CLOSE, BRACE, UNBRACE, DOT, BAR, STAR, SEMICOLON, EQUALS}
 use Rattle.notation.specs.Statements.{parentheses, ListIs, BracesAre, absent, braces}
-use Rattle.notation.specs.Expressions.{AtMostOne, inner, outer, UnionIs, no-bar, bar, CatIs, no-dot, dot, StarredIs, no-star, stars, PrimaryIs, a-nonterminal, a-character, parenthesised, InsideIs, inside}
+use Rattle.notation.specs.Expressions.{AtMostOne, inner, outer, UnionIs, no-bar, bar, CatIs, no-dot, dot, StarredIs, no-star, stars, PrimaryIs, a-nonterminal, a-character, an-empty, parenthesised, InsideIs, inside}
 use Rattle.notation.specs.Productions.{ContentIs, nothing, something}
 use Rattle.reading.specs.Statements.{Listing, listStart, stepStatements, valueOfList, finishedList}
-use Rattle.reading.specs.Expressions.{Piece, an-atom, a-star, a-dot, a-bar, an-open, a-close, a-brace, an-unbrace, other, nonterminal?, atomIf, wordPiece, signPiece, pieceOf, Level, level, fresh, joinedCat, joinedAlt, whole, oneOf, frontedWith, fronted, sealedWith, sealed, around, Parsing, wants, in-front, after, behind, over, opened, closed, braced, backed, stepPiece, unbraces, listing, stepExpression, wholeValue, emptyValue, valueOfContent, placeholder, shortestAt, finishedContent}
+use Rattle.reading.specs.Expressions.{Piece, a-leaf, a-star, a-dot, a-bar, an-open, a-close, a-brace, an-unbrace, other, nonterminal?, atomIf, wordPiece, signPiece, pieceOf, Level, level, fresh, joinedCat, joinedAlt, whole, oneOf, frontedWith, fronted, sealedWith, sealed, around, Parsing, wants, in-front, after, behind, over, opened, closed, braced, backed, leafForm, stepPiece, unbraces, listing, stepExpression, wholeValue, emptyValue, valueOfContent, placeholder, shortestAt, finishedContent}
 use Rattle.reading.proofs.Telling.{none≢some, IfSome}
 use Rattle.reading.proofs.StatementHeld.{Held as ListHeld, HeldIf as ListHeldIf, held-step as list-held-step, held-start as list-held-start, held-value as list-held-value, held-shortest as list-held-shortest}
 
 -- what a token is in an expression
 abbrev pub PieceIs : Token → Piece → Type 0
-PieceIs t (an-atom k) = (q : ℕ) → PrimaryIs q (t ∷ []) (node none none (atom k))
+PieceIs t (a-leaf k) = (q : ℕ) → PrimaryIs q (t ∷ []) (node none none (leafForm k))
 PieceIs t a-star = t ≡ sign STAR
 PieceIs t a-dot = t ≡ sign DOT
 PieceIs t a-bar = t ≡ sign BAR
@@ -52,6 +52,7 @@ word-piece END = tt
 word-piece AND = tt
 word-piece OR = tt
 word-piece NOT = tt
+word-piece EMPTY = λ q. an-empty
 
 sign-piece : (s : Sign) → PieceIs (sign s) (signPiece s)
 sign-piece DEFINED = tt
@@ -340,7 +341,7 @@ bar-held q e l ls us ts s h =
     }
 
 piece-held : (s : Parsing) (k : Piece) (t : Token) (ts : List Token) → PieceIs t k → Held s ts → HeldIf (stepPiece s k) (ts ++ t ∷ [])
-piece-held (wants b l ls) (an-atom k) t ts i (q, h, g) = (q, t ∷ [], no-star (i q), longer h (t ∷ []))
+piece-held (wants b l ls) (a-leaf k) t ts i (q, h, g) = (q, t ∷ [], no-star (i q), longer h (t ∷ []))
 piece-held (wants b l ls) a-star t ts i h = tt
 piece-held (wants b l ls) a-dot t ts i h = tt
 piece-held (wants b l ls) a-bar t ts i h = tt
@@ -350,7 +351,7 @@ piece-held (wants b l ls) a-brace t ts i (q, h, g) = rw i (brace-held b ls ts g)
 piece-held (wants b l ls) an-unbrace t ts i h = tt
 piece-held (wants b l ls) other t ts i h = tt
 piece-held (in-front s ls) k t ts i h = tt
-piece-held (after e l ls) (an-atom k) t ts i h = tt
+piece-held (after e l ls) (a-leaf k) t ts i h = tt
 piece-held (after e l ls) a-star t ts i (q, us, s, h) = rw i (q, us ++ sign STAR ∷ [], stars s refl, longer h (sign STAR ∷ []))
 piece-held (after e l ls) a-dot t ts i (q, us, s, h) = rw i (q, dot-held q e l ls us ts s h, tt)
 piece-held (after e l ls) a-bar t ts i (q, us, s, h) = rw i (q, bar-held q e l ls us ts s h, tt)
@@ -360,7 +361,7 @@ piece-held (after e l ls) a-brace t ts i (q, us, s, h) = rw i (back-held (fronte
 piece-held (after e l ls) an-unbrace t ts i h = tt
 piece-held (after e l ls) other t ts i h = tt
 piece-held (behind s f k ls) j t ts i h = tt
-piece-held (over e ls) (an-atom k) t ts i h = tt
+piece-held (over e ls) (a-leaf k) t ts i h = tt
 piece-held (over e ls) a-star t ts i h = tt
 piece-held (over e ls) a-dot t ts i h = tt
 piece-held (over e ls) a-bar t ts i h = tt
@@ -385,7 +386,7 @@ front-held-on ls ts us p i w = (
 
 front-ends : (s : Listing) (ls : List Level) (k : Piece) (o : Option Program) (t : Token) (ts : List Token) → PieceIs t k → valueOfList s ≡ o → Held (in-front s ls) ts
     → HeldIf (unbraces k o (λ p. wants false (level (some p) none none) ls)) (ts ++ t ∷ [])
-front-ends s ls (an-atom k) o t ts i e h = tt
+front-ends s ls (a-leaf k) o t ts i e h = tt
 front-ends s ls a-star o t ts i e h = tt
 front-ends s ls a-dot o t ts i e h = tt
 front-ends s ls a-bar o t ts i e h = tt
@@ -415,7 +416,7 @@ front-step (some r) x ls t ts h k =
 
 behind-ends : (s : Listing) (f : Option Program) (k : Form) (ls : List Level) (j : Piece) (o : Option Program) (t : Token) (ts : List Token) → PieceIs t j → valueOfList s ≡ o → Held (behind s f k ls) ts
     → HeldIf (unbraces j o (λ p. over (node f (some p) k) ls)) (ts ++ t ∷ [])
-behind-ends s f k ls (an-atom j) o t ts i e h = tt
+behind-ends s f k ls (a-leaf j) o t ts i e h = tt
 behind-ends s f k ls a-star o t ts i e h = tt
 behind-ends s f k ls a-dot o t ts i e h = tt
 behind-ends s f k ls a-bar o t ts i e h = tt

@@ -15,7 +15,7 @@ use Rattle.notation.specs.Limits.{ProgramWithin, OptionWithin, VisitsWithin, Al
 use Rattle.notation.specs.Statements.{parentheses}
 use Rattle.notation.specs.Tokens.{Token}
 use Rattle.reading.specs.Statements.{Listing, listStart, stepStatements, valueOfList, finishedList}
-use Rattle.reading.specs.Expressions.{Piece, an-atom, a-star, a-dot, a-bar, an-open, a-close, a-brace, an-unbrace, other, pieceOf, Level, level, fresh, joinedCat, joinedAlt, whole, oneOf, frontedWith, fronted, sealedWith, sealed, around, Parsing, wants, in-front, after, behind, over, opened, closed, braced, backed, stepPiece, unbraces, listing, stepExpression, placeholder, shortestAt, finishedContent}
+use Rattle.reading.specs.Expressions.{Piece, a-leaf, a-star, a-dot, a-bar, an-open, a-close, a-brace, an-unbrace, other, pieceOf, Level, level, fresh, joinedCat, joinedAlt, whole, oneOf, frontedWith, fronted, sealedWith, sealed, around, Parsing, wants, in-front, after, behind, over, opened, closed, braced, backed, leafForm, stepPiece, unbraces, listing, stepExpression, placeholder, shortestAt, finishedContent}
 use Rattle.reading.proofs.Telling.{none≢some}
 use Rattle.reading.proofs.StatementSize.{Under as ListUnder, Grown as ListGrown, step-grows as list-step-grows}
 use Rattle.reading.proofs.Statements.{finished-value}
@@ -204,7 +204,7 @@ back-grows s ls (some (node f none k)) h =
     subst (λ x. UnderContent x (some (around ls (node f (some done) k)))) (sym (h (node f none k) refl)) (around-under ls (behind-more f k done))
 
 piece-grows : (s : Parsing) (k : Piece) → Grown s (stepPiece s k)
-piece-grows (wants b l ls) (an-atom k) = place-grows b l ls (node none none (atom k))
+piece-grows (wants b l ls) (a-leaf k) = place-grows b l ls (node none none (leafForm k))
 piece-grows (wants b l ls) a-star = tt
 piece-grows (wants b l ls) a-dot = tt
 piece-grows (wants b l ls) a-bar = tt
@@ -214,7 +214,7 @@ piece-grows (wants b l ls) a-brace = brace-grows b l ls
 piece-grows (wants b l ls) an-unbrace = tt
 piece-grows (wants b l ls) other = tt
 piece-grows (in-front q ls) k = tt
-piece-grows (after e l ls) (an-atom k) = tt
+piece-grows (after e l ls) (a-leaf k) = tt
 piece-grows (after e l ls) a-star = around-under (l ∷ ls) (in-star e)
 piece-grows (after e l ls) a-dot = around-under ls (sealed-under (l .before) (alt-under (l .alt-left) (left-of-cat (joinedCat (l .cat-left) e) placeholder)))
 piece-grows (after e l ls) a-bar = around-under ls (sealed-under (l .before) (left-of-alt (whole l e) placeholder))
@@ -224,7 +224,7 @@ piece-grows (after e l ls) a-brace = back-grows (after e l ls) ls (fronted (l .b
 piece-grows (after e l ls) an-unbrace = tt
 piece-grows (after e l ls) other = tt
 piece-grows (behind q f k ls) j = tt
-piece-grows (over e ls) (an-atom k) = tt
+piece-grows (over e ls) (a-leaf k) = tt
 piece-grows (over e ls) a-star = tt
 piece-grows (over e ls) a-dot = tt
 piece-grows (over e ls) a-bar = tt
@@ -237,7 +237,7 @@ piece-grows (over e ls) other = tt
 -- inside a machine that holds a list
 module _ {S : Type 0} (More : Option S → Type 0) (nothing-more : More none) (holds : Listing → S) (ended : Program → S) where
   pub ends-grow : (q : Listing) (k : Piece) (o : Option Program) → valueOfList q ≡ o → ((p : Program) → finishedList q ≡ p → More (some (ended p))) → More (unbraces k o ended)
-  ends-grow q (an-atom k) o e h = nothing-more
+  ends-grow q (a-leaf k) o e h = nothing-more
   ends-grow q a-star o e h = nothing-more
   ends-grow q a-dot o e h = nothing-more
   ends-grow q a-bar o e h = nothing-more

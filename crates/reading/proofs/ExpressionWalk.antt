@@ -15,14 +15,14 @@ use Rattle.notation.specs.Program.{Program}
 use Rattle.notation.specs.Rules.{Tree, node, Form, atom, cat, alt, star}
 use Rattle.notation.specs.Tokens.{Token, sign, OPEN, CLOSE, BRACE, UNBRACE, DOT, BAR, STAR}
 use Rattle.notation.specs.Statements.{parentheses, ListIs, BracesAre, absent, braces}
-use Rattle.notation.specs.Expressions.{AtMostOne, inner, outer, UnionIs, no-bar, bar, CatIs, no-dot, dot, StarredIs, no-star, stars, PrimaryIs, a-nonterminal, a-character, parenthesised, InsideIs, inside}
+use Rattle.notation.specs.Expressions.{AtMostOne, inner, outer, UnionIs, no-bar, bar, CatIs, no-dot, dot, StarredIs, no-star, stars, PrimaryIs, a-nonterminal, a-character, an-empty, parenthesised, InsideIs, inside}
 use Rattle.notation.specs.Productions.{ContentIs, nothing, something}
 use Rattle.reading.specs.Machine.{andThen, walk}
 use Rattle.reading.specs.Statements.{Listing, listStart, stepStatements, valueOfList}
-use Rattle.reading.specs.Expressions.{Piece, an-atom, nonterminal?, atomIf, pieceOf, Level, level, fresh, joinedCat, joinedAlt, whole, oneOf, frontedWith, fronted, Parsing, wants, in-front, after, behind, over, opened, closed, braced, backed, stepPiece, stepExpression, wholeValue, emptyValue, valueOfContent}
+use Rattle.reading.specs.Expressions.{Piece, a-leaf, nonterminal?, atomIf, pieceOf, Level, level, fresh, joinedCat, joinedAlt, whole, oneOf, frontedWith, fronted, Parsing, wants, in-front, after, behind, over, opened, closed, braced, backed, stepPiece, stepExpression, wholeValue, emptyValue, valueOfContent}
 use Rattle.reading.proofs.Braces.{braces-walk}
 
-atom-if : {P : Type 0} (d : Dec P) (k : Atom) → P → atomIf d k ≡ an-atom k
+atom-if : {P : Type 0} (d : Dec P) (k : Atom) → P → atomIf d k ≡ a-leaf (some k)
 atom-if (yes h) k p = refl
 atom-if (no h) k p = absurd (h p)
 
@@ -78,6 +78,7 @@ mutual
       → go (wants b l ls) (ts ++ rest) ≡ go (after e l ls) rest
   primary-walk (a-nonterminal {n = n} h) b l ls rest r = ap (λ k. andThen (stepPiece (wants b l ls) k) (λ s. go s rest)) (atom-if (nonterminal? n) (Atom.nonterminal n) h)
   primary-walk a-character b l ls rest r = refl
+  primary-walk an-empty b l ls rest r = refl
   primary-walk (parenthesised {ts = ts} i e) b l ls rest r =
       let w = inside-walk i (l ∷ ls) (sign CLOSE ∷ rest) (omega arith) in
       ap (λ x. go (wants b l ls) (x ++ rest)) e

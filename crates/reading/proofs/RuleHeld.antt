@@ -14,7 +14,7 @@ use Rattle.notation.specs.Statements.{ListIs, BracesAre, absent, braces}
 use Rattle.notation.specs.Productions.{ContentIs, nothing, ProductionIs, production, ProductionsAre, one, more, RulesAre, start-alone, start-first}
 use Rattle.reading.specs.Tests.{tagName?}
 use Rattle.reading.specs.Statements.{Listing, listStart, stepStatements, valueOfList, finishedList}
-use Rattle.reading.specs.Expressions.{Piece, an-atom, a-star, a-dot, a-bar, an-unbrace, Parsing, nonterminal?, pieceOf, unbraces, listing, stepExpression, valueOfContent, finishedContent}
+use Rattle.reading.specs.Expressions.{Piece, a-leaf, a-star, a-dot, a-bar, an-unbrace, Parsing, nonterminal?, pieceOf, unbraces, listing, stepExpression, valueOfContent, finishedContent}
 use Rattle.reading.specs.Rules.{Key, a-nonterminal, a-name, a-definition, an-open, a-close, a-brace, other, keyIf, signKey, keyOf, Head, head, Progress, beginning, first-word, named, defined, own-front, wants-tag, tagged, within, closed, own-back, complete, ruleOf, rulesOf, nextHead, stepKey, closes, parsing, stepRules, valueOfRules, plainRule, finishedRules}
 use Rattle.reading.proofs.Telling.{none≢some, IfSome}
 use Rattle.reading.proofs.StatementHeld.{Held as ListHeld, HeldIf as ListHeldIf, held-step as list-held-step, held-start as list-held-start, held-value as list-held-value, held-shortest as list-held-shortest, a-is-a-name}
@@ -196,7 +196,7 @@ key-held (complete r h) other t ts i s = tt
 -- inside a program: it goes on, or ends with }
 module _ (holds : Listing → Progress) (ended : Program → Progress) (t : Token) (ts : List Token) where
   unbrace-held : (k : Piece) (o : Option Program) → PieceIs t k → ((p : Program) → t ≡ sign UNBRACE → o ≡ some p → Held (ended p) (ts ++ t ∷ [])) → HeldIf (unbraces k o ended) (ts ++ t ∷ [])
-  unbrace-held (an-atom k) o i h = tt
+  unbrace-held (a-leaf k) o i h = tt
   unbrace-held a-star o i h = tt
   unbrace-held a-dot o i h = tt
   unbrace-held a-bar o i h = tt

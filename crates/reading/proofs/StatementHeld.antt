@@ -9,7 +9,7 @@ use lib.ListN.{length}
 use Rattle.programs.specs.Program.{Operand, constant, Condition}
 use Rattle.programs.specs.Limits.{Visit, first, second, isFirst, Attribute}
 use Rattle.notation.specs.Program.{Statement, become, reject, echo, branch, Program, done, step, _then_}
-use Rattle.notation.specs.Tokens.{Mark, plain, left, right, Token, nonterminal, value, attribute, name, start-tag, end-tag, empty-tag, string, word, Word, CHAR, ECHO, ECHO-OFF, REJECT, PRINT, IF, THEN, ELSE, BEGIN, END, AND, OR, NOT, sign, Sign, DEFINED, ASSIGNED, OPEN, CLOSE, BRACE, UNBRACE, DOT, BAR, STAR, SEMICOLON, EQUALS, TagName, StringOf}
+use Rattle.notation.specs.Tokens.{Mark, plain, left, right, Token, nonterminal, value, attribute, name, start-tag, end-tag, empty-tag, string, word, Word, CHAR, ECHO, ECHO-OFF, REJECT, PRINT, IF, THEN, ELSE, BEGIN, END, AND, OR, NOT, EMPTY, sign, Sign, DEFINED, ASSIGNED, OPEN, CLOSE, BRACE, UNBRACE, DOT, BAR, STAR, SEMICOLON, EQUALS, TagName, StringOf}
 use Rattle.notation.specs.Conditions.{CurrentIs, of-either, of-first, of-second, OperandIs, a-value, ConditionIs}
 use Rattle.notation.specs.Statements.{parentheses, only, assigned, ItemIs, a-start, both-tags, a-text, ItemsAre, StatementIs, echo-on, echo-off, rejects, prints, assigns, if-then, if-else, BranchIs, bare, block, ListIs, empty, SomeAre}
 use Rattle.reading.specs.Machine.{andThen, walk}
@@ -52,6 +52,7 @@ word-start v END = refl
 word-start v AND = tt
 word-start v OR = tt
 word-start v NOT = tt
+word-start v EMPTY = tt
 
 attribute-start : (a : ℕ) (v : Visit) (m : Mark) (d : Dec (Attribute a)) → StartIs v (attribute m a) (targetIf d (current? v m) a)
 attribute-start a v plain (yes h) = of-either h
@@ -105,6 +106,7 @@ next-word END = refl
 next-word AND = tt
 next-word OR = tt
 next-word NOT = tt
+next-word EMPTY = tt
 
 next-sign : (s : Sign) → NextIs (sign s) (nextSign s)
 next-sign DEFINED = tt

@@ -10,26 +10,26 @@ use Rattle.expressions.specs.Expr.{Atom, anychar}
 use Rattle.expressions.specs.Grammar.{nonterminals}
 use Rattle.programs.specs.Limits.{Visit, first, second}
 use Rattle.notation.specs.Program.{Program}
-use Rattle.notation.specs.Rules.{Tree, node, Form, atom, cat, alt, star}
+use Rattle.notation.specs.Rules.{Tree, node, Form, atom, cat, alt, star, empty}
 use Rattle.notation.specs.Statements.{parentheses}
-use Rattle.notation.specs.Tokens.{Token, nonterminal, value, attribute, name, start-tag, end-tag, empty-tag, string, word, Word, CHAR, ECHO, ECHO-OFF, REJECT, PRINT, IF, THEN, ELSE, BEGIN, END, AND, OR, NOT, sign, Sign, DEFINED, ASSIGNED, OPEN, CLOSE, BRACE, UNBRACE, DOT, BAR, STAR, SEMICOLON, EQUALS}
+use Rattle.notation.specs.Tokens.{Token, nonterminal, value, attribute, name, start-tag, end-tag, empty-tag, string, word, Word, CHAR, ECHO, ECHO-OFF, REJECT, PRINT, IF, THEN, ELSE, BEGIN, END, AND, OR, NOT, EMPTY, sign, Sign, DEFINED, ASSIGNED, OPEN, CLOSE, BRACE, UNBRACE, DOT, BAR, STAR, SEMICOLON, EQUALS}
 use Rattle.reading.specs.Machine.{Machine}
 use Rattle.reading.specs.Statements.{Listing, listStart, stepStatements, valueOfList, finishedList}
 
 -- what a token is in an expression
 pub data Piece : Type 0 where
-  an-atom : Atom → Piece
+  a-leaf : Option Atom → Piece  -- an operand by itself: an atom, or EMPTY
   a-star a-dot a-bar an-open a-close a-brace an-unbrace other : Piece
 
 abbrev pub nonterminal? : (n : ℕ) → Dec (n < nonterminals)
 nonterminal? n = decLt n nonterminals
 
 abbrev pub atomIf : {P : Type 0} → Dec P → Atom → Piece
-atomIf (yes h) k = an-atom k
+atomIf (yes h) k = a-leaf (some k)
 atomIf (no h) k = other
 
 abbrev pub wordPiece : Word → Piece
-wordPiece CHAR = an-atom anychar
+wordPiece CHAR = a-leaf (some anychar)
 wordPiece ECHO = other
 wordPiece ECHO-OFF = other
 wordPiece REJECT = other
@@ -42,6 +42,7 @@ wordPiece END = other
 wordPiece AND = other
 wordPiece OR = other
 wordPiece NOT = other
+wordPiece EMPTY = a-leaf none
 
 abbrev pub signPiece : Sign → Piece
 signPiece DEFINED = other
@@ -145,8 +146,12 @@ backed none ls = none
 backed (some (node f none k)) ls = some (behind listStart f k ls)
 backed (some (node f (some g) k)) ls = none
 
+abbrev pub leafForm : Option Atom → Form
+leafForm none = empty
+leafForm (some k) = atom k
+
 abbrev pub stepPiece : Parsing → Piece → Option Parsing
-stepPiece (wants b l ls) (an-atom k) = some (after (node none none (atom k)) l ls)
+stepPiece (wants b l ls) (a-leaf k) = some (after (node none none (leafForm k)) l ls)
 stepPiece (wants b l ls) a-star = none
 stepPiece (wants b l ls) a-dot = none
 stepPiece (wants b l ls) a-bar = none
@@ -156,7 +161,7 @@ stepPiece (wants b l ls) a-brace = braced b ls
 stepPiece (wants b l ls) an-unbrace = none
 stepPiece (wants b l ls) other = none
 stepPiece (in-front q ls) k = none
-stepPiece (after e l ls) (an-atom k) = none
+stepPiece (after e l ls) (a-leaf k) = none
 stepPiece (after e l ls) a-star = some (after (node none none (star e)) l ls)
 stepPiece (after e l ls) a-dot = some (wants false (level (l .before) (l .alt-left) (some (joinedCat (l .cat-left) e))) ls)
 stepPiece (after e l ls) a-bar = some (wants false (level (l .before) (some (whole l e)) none) ls)
@@ -166,7 +171,7 @@ stepPiece (after e l ls) a-brace = backed (fronted (l .before) (whole l e)) ls
 stepPiece (after e l ls) an-unbrace = none
 stepPiece (after e l ls) other = none
 stepPiece (behind q f k ls) j = none
-stepPiece (over e ls) (an-atom k) = none
+stepPiece (over e ls) (a-leaf k) = none
 stepPiece (over e ls) a-star = none
 stepPiece (over e ls) a-dot = none
 stepPiece (over e ls) a-bar = none
@@ -178,7 +183,7 @@ stepPiece (over e ls) other = none
 
 -- whether a token is }, which ends a program
 abbrev pub unbraces : {S : Type 0} → Piece → Option Program → (Program → S) → Option S
-unbraces (an-atom k) o f = none
+unbraces (a-leaf k) o f = none
 unbraces a-star o f = none
 unbraces a-dot o f = none
 unbraces a-bar o f = none

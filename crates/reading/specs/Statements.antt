@@ -8,7 +8,7 @@ use Rattle.programs.specs.Program.{Operand, constant, Condition}
 use Rattle.programs.specs.Limits.{Visit, first, second, isFirst}
 use Rattle.notation.specs.Program.{Statement, become, reject, print-start, print-end, print-text, echo, branch, Program, done, step, _then_}
 use Rattle.notation.specs.Statements.{parentheses, only, assigned}
-use Rattle.notation.specs.Tokens.{Mark, plain, left, right, Token, nonterminal, value, attribute, name, start-tag, end-tag, empty-tag, string, word, Word, CHAR, ECHO, ECHO-OFF, REJECT, PRINT, IF, THEN, ELSE, BEGIN, END, AND, OR, NOT, sign, Sign, DEFINED, ASSIGNED, OPEN, CLOSE, BRACE, UNBRACE, DOT, BAR, STAR, SEMICOLON, EQUALS}
+use Rattle.notation.specs.Tokens.{Mark, plain, left, right, Token, nonterminal, value, attribute, name, start-tag, end-tag, empty-tag, string, word, Word, CHAR, ECHO, ECHO-OFF, REJECT, PRINT, IF, THEN, ELSE, BEGIN, END, AND, OR, NOT, EMPTY, sign, Sign, DEFINED, ASSIGNED, OPEN, CLOSE, BRACE, UNBRACE, DOT, BAR, STAR, SEMICOLON, EQUALS}
 use Rattle.reading.specs.Machine.{Machine}
 use Rattle.reading.specs.Tests.{tagName?, string?}
 use Rattle.reading.specs.Conditions.{Part, operand, a-not, an-and, an-or, an-open, a-close, an-equals, other, attribute?, partOf, Reading, fresh, stepCondition, valueOf, finishedOf}
@@ -37,6 +37,7 @@ startWord v END = an-end
 startWord v AND = no-start
 startWord v OR = no-start
 startWord v NOT = no-start
+startWord v EMPTY = no-start
 
 -- an attribute that may be assigned
 abbrev pub current? : Visit → Mark → Bool
@@ -85,6 +86,7 @@ nextWord END = an-end
 nextWord AND = nothing
 nextWord OR = nothing
 nextWord NOT = nothing
+nextWord EMPTY = nothing
 
 abbrev pub nextSign : Sign → Behind
 nextSign DEFINED = nothing

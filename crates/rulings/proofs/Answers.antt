@@ -7,7 +7,7 @@ use native.Mathlib.Omega.{arith}
 use Rattle.programs.specs.Limits.{Visit}
 use Rattle.programs.specs.Parsed.{visit}
 use Rattle.notation.specs.Program.{Program}
-use Rattle.notation.specs.Tokens.{plain, left, right, Token, nonterminal, value, attribute, name, start-tag, end-tag, empty-tag, string, word, CHAR, ECHO, ECHO-OFF, REJECT, PRINT, IF, THEN, ELSE, BEGIN, END, AND, OR, NOT, sign, DEFINED, ASSIGNED, OPEN, CLOSE, BRACE, UNBRACE, DOT, BAR, STAR, SEMICOLON, EQUALS}
+use Rattle.notation.specs.Tokens.{plain, left, right, Token, nonterminal, value, attribute, name, start-tag, end-tag, empty-tag, string, word, CHAR, ECHO, ECHO-OFF, REJECT, PRINT, IF, THEN, ELSE, BEGIN, END, AND, OR, NOT, EMPTY, sign, DEFINED, ASSIGNED, OPEN, CLOSE, BRACE, UNBRACE, DOT, BAR, STAR, SEMICOLON, EQUALS}
 use Rattle.reading.specs.Statements.{Listing, stepStatements, valueOfList}
 use Rattle.reading.specs.Rules.{Progress}
 use Rattle.lexemes.specs.Kinds.{kinds, kindOf, TokenFits}
@@ -69,6 +69,7 @@ unbrace-kind (word END) e = absurd (omega (arith, e))
 unbrace-kind (word AND) e = absurd (omega (arith, e))
 unbrace-kind (word OR) e = absurd (omega (arith, e))
 unbrace-kind (word NOT) e = absurd (omega (arith, e))
+unbrace-kind (word EMPTY) e = absurd (omega (arith, e))
 unbrace-kind (sign DEFINED) e = absurd (omega (arith, e))
 unbrace-kind (sign ASSIGNED) e = absurd (omega (arith, e))
 unbrace-kind (sign OPEN) e = absurd (omega (arith, e))

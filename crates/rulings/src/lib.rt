@@ -120,13 +120,13 @@ pub fn start() -> Reader
 }
 
 // The kinds of token that may come.
-pub fn row(r: Reader) -> [bool; 34]
+pub fn row(r: Reader) -> [bool; 35]
     requires { ⌜ Firm r ⌝ }
     ensures { λ m. ⌜ RowIs r m ⌝ }
 {
-    let mut may = [false; 34];
+    let mut may = [false; 35];
     let mut k = 0;
-    while k < 34 {
+    while k < 35 {
         let a = take(r, k);
         may[k] = a.taken;
         k += 1;

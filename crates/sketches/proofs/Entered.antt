@@ -7,12 +7,12 @@ use Prim.Native.Nat.{ℕ}
 use lib.Dec.{ltb}
 use lib.ListN.{length}
 use Rattle.notation.specs.Program.{Program}
-use Rattle.notation.specs.Rules.{Tree, node, Form, atom, star, visits, Rule}
+use Rattle.notation.specs.Rules.{Tree, node, Form, atom, star, empty, visits, Rule}
 use Rattle.notation.specs.Limits.{OptionWithin, AllWithin, ContentWithin, EachWithin, Within}
 use Rattle.notation.specs.Statements.{parentheses}
 use Rattle.notation.specs.Tokens.{Token}
 use Rattle.reading.specs.Statements.{Listing, listStart}
-use Rattle.reading.specs.Expressions.{Piece, an-atom, a-star, a-dot, a-bar, an-open, a-close, a-brace, an-unbrace, other, pieceOf, Level, level, fresh, joinedCat, whole, fronted, Parsing, wants, in-front, after, behind, over, opened, closed, braced, backed, stepPiece, valueOfContent, finishedContent}
+use Rattle.reading.specs.Expressions.{Piece, a-leaf, a-star, a-dot, a-bar, an-open, a-close, a-brace, an-unbrace, other, pieceOf, Level, level, fresh, joinedCat, whole, fronted, Parsing, wants, in-front, after, behind, over, opened, closed, braced, backed, stepPiece, valueOfContent, finishedContent}
 use Rattle.reading.specs.Rules.{Key, a-nonterminal, a-name, a-definition, keyOf, Head, head, Progress, beginning, first-word, named, defined, own-front, wants-tag, tagged, within, own-back, complete, ruleOf, nextHead, stepKey, closes, parsing, stepRules, finishedRules}
 use Rattle.reading.proofs.Telling.{none≢some}
 use Rattle.reading.proofs.Expressions.{finished-value}
@@ -125,7 +125,8 @@ module _ (f : Option Program) (u : List ℕ) (h : Head) (o : OptionWithin f × E
   back-enters ls (some (node a (some g) j)) w k = tt
 
   piece-enters : (x : Parsing) (p : Piece) → KeptInside x → GoesIn (stepPiece x p)
-  piece-enters (wants b l ls) (an-atom k) w = plainly (within (after (node none none (atom k)) l ls) f u h) refl ((((tt, tt), tt), w), o)
+  piece-enters (wants b l ls) (a-leaf none) w = plainly (within (after (node none none empty) l ls) f u h) refl ((((tt, tt), tt), w), o)
+  piece-enters (wants b l ls) (a-leaf (some k)) w = plainly (within (after (node none none (atom k)) l ls) f u h) refl ((((tt, tt), tt), w), o)
   piece-enters (wants b l ls) a-star w = tt
   piece-enters (wants b l ls) a-dot w = tt
   piece-enters (wants b l ls) a-bar w = tt
@@ -135,7 +136,7 @@ module _ (f : Option Program) (u : List ℕ) (h : Head) (o : OptionWithin f × E
   piece-enters (wants b l ls) an-unbrace w = tt
   piece-enters (wants b l ls) other w = tt
   piece-enters (in-front q ls) p w = tt
-  piece-enters (after e l ls) (an-atom k) w = tt
+  piece-enters (after e l ls) (a-leaf k) w = tt
   piece-enters (after e l ls) a-star w = plainly (within (after (node none none (star e)) l ls) f u h) refl ((((tt, tt), w .0), w .1), o)
   piece-enters (after e l ls) a-dot w =
       plainly (within (wants false (level (l .before) (l .alt-left) (some (joinedCat (l .cat-left) e))) ls) f u h) refl
@@ -147,7 +148,7 @@ module _ (f : Option Program) (u : List ℕ) (h : Head) (o : OptionWithin f × E
   piece-enters (after e l ls) an-unbrace w = tt
   piece-enters (after e l ls) other w = tt
   piece-enters (behind q g j ls) p w = tt
-  piece-enters (over e ls) (an-atom k) w = tt
+  piece-enters (over e ls) (a-leaf k) w = tt
   piece-enters (over e ls) a-star w = tt
   piece-enters (over e ls) a-dot w = tt
   piece-enters (over e ls) a-bar w = tt

@@ -12,9 +12,9 @@ use Rattle.programs.specs.Limits.{Visit, first, second}
 use Rattle.notation.specs.Program.{Program}
 use Rattle.notation.specs.Rules.{Tree, node, Form}
 use Rattle.notation.specs.Limits.{ProgramWithin, OptionWithin, ContentWithin, EachWithin, Within}
-use Rattle.notation.specs.Tokens.{Token, nonterminal, value, attribute, name, start-tag, end-tag, empty-tag, string, word, Word, CHAR, ECHO, ECHO-OFF, REJECT, PRINT, IF, THEN, ELSE, BEGIN, END, AND, OR, NOT, sign, Sign, DEFINED, ASSIGNED, OPEN, CLOSE, BRACE, UNBRACE, DOT, BAR, STAR, SEMICOLON, EQUALS}
+use Rattle.notation.specs.Tokens.{Token, nonterminal, value, attribute, name, start-tag, end-tag, empty-tag, string, word, Word, CHAR, ECHO, ECHO-OFF, REJECT, PRINT, IF, THEN, ELSE, BEGIN, END, AND, OR, NOT, EMPTY, sign, Sign, DEFINED, ASSIGNED, OPEN, CLOSE, BRACE, UNBRACE, DOT, BAR, STAR, SEMICOLON, EQUALS}
 use Rattle.reading.specs.Statements.{Listing, listStart, stepStatements, valueOfList, finishedList}
-use Rattle.reading.specs.Expressions.{Piece, an-atom, a-star, a-dot, a-bar, an-open, a-close, a-brace, an-unbrace, other, pieceOf, nonterminal?, atomIf, unbraces, listing, Parsing, wants, in-front, after, behind, over, level}
+use Rattle.reading.specs.Expressions.{Piece, a-leaf, a-star, a-dot, a-bar, an-open, a-close, a-brace, an-unbrace, other, pieceOf, nonterminal?, atomIf, unbraces, listing, Parsing, wants, in-front, after, behind, over, level}
 use Rattle.reading.specs.Rules.{Key, a-nonterminal, a-name, a-definition, keyOf, Head, Progress, beginning, first-word, named, defined, own-front, wants-tag, tagged, within, closed, own-back, complete, ruleOf, closes, parsing, stepRules, valueOfRules, finishedRules}
 use Rattle.reading.proofs.Telling.{none≢some}
 use Rattle.reading.proofs.Statements.{finished-value}
@@ -165,7 +165,7 @@ module _ (f : Option Program) (u : List ℕ) (h : Head) where
   listing-within : (o : Option Listing) (a : Listing → Parsing) (d : Program → Parsing) (p : Piece) (v : Option Program)
       → parsing (listing o a (unbraces p v d)) none f u h ≡ listing o (λ r. within (a r) f u h) (unbraces p v (λ x. within (d x) f u h))
   listing-within (some r) a d p v = refl
-  listing-within none a d (an-atom k) v = refl
+  listing-within none a d (a-leaf k) v = refl
   listing-within none a d a-star v = refl
   listing-within none a d a-dot v = refl
   listing-within none a d a-bar v = refl
@@ -301,7 +301,7 @@ module _ (s : Progress) (k : Sketch) (d : Drawn s k) (r : ReadsProgram s) where
   -- a brace that is taken ends the program
   braced-taken : (t : Token) (s′ : Progress) (p : Piece) (v : Option Program) → pieceOf t ≡ p → valueOfList (r .list) ≡ v → unbraces p v (r .done) ≡ some s′
       → (pieceOf t ≡ an-unbrace) × ((x : Program) × (valueOfList (r .list) ≡ some x) × (r .done x ≡ s′))
-  braced-taken t s′ (an-atom k) v i j e = absurd (none≢some refl e)
+  braced-taken t s′ (a-leaf k) v i j e = absurd (none≢some refl e)
   braced-taken t s′ a-star v i j e = absurd (none≢some refl e)
   braced-taken t s′ a-dot v i j e = absurd (none≢some refl e)
   braced-taken t s′ a-bar v i j e = absurd (none≢some refl e)
@@ -339,6 +339,7 @@ is-unbrace (word END) e = absurd (let z : _≡_ {A = ℕ} 0 1 = cc in omega arit
 is-unbrace (word AND) e = absurd (let z : _≡_ {A = ℕ} 0 1 = cc in omega arith)
 is-unbrace (word OR) e = absurd (let z : _≡_ {A = ℕ} 0 1 = cc in omega arith)
 is-unbrace (word NOT) e = absurd (let z : _≡_ {A = ℕ} 0 1 = cc in omega arith)
+is-unbrace (word EMPTY) e = absurd (let z : _≡_ {A = ℕ} 0 1 = cc in omega arith)
 is-unbrace (sign DEFINED) e = absurd (let z : _≡_ {A = ℕ} 0 1 = cc in omega arith)
 is-unbrace (sign ASSIGNED) e = absurd (let z : _≡_ {A = ℕ} 0 1 = cc in omega arith)
 is-unbrace (sign OPEN) e = absurd (let z : _≡_ {A = ℕ} 0 1 = cc in omega arith)
@@ -410,7 +411,7 @@ unbrace? t = on (pieceOf t) refl
   where
     on : (p : Piece) → pieceOf t ≡ p → Dec (t ≡ sign UNBRACE)
     on an-unbrace i = yes (is-unbrace t i)
-    on (an-atom x) i = no (λ e. let y : an-unbrace ≡ (an-atom x) = ap pieceOf (sym e) ∙ i in let z : _≡_ {A = ℕ} 0 1 = cc in omega arith)
+    on (a-leaf x) i = no (λ e. let y : an-unbrace ≡ (a-leaf x) = ap pieceOf (sym e) ∙ i in let z : _≡_ {A = ℕ} 0 1 = cc in omega arith)
     on a-star i = no (λ e. let y : an-unbrace ≡ a-star = ap pieceOf (sym e) ∙ i in let z : _≡_ {A = ℕ} 0 1 = cc in omega arith)
     on a-dot i = no (λ e. let y : an-unbrace ≡ a-dot = ap pieceOf (sym e) ∙ i in let z : _≡_ {A = ℕ} 0 1 = cc in omega arith)
     on a-bar i = no (λ e. let y : an-unbrace ≡ a-bar = ap pieceOf (sym e) ∙ i in let z : _≡_ {A = ℕ} 0 1 = cc in omega arith)

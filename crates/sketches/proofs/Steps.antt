@@ -12,9 +12,9 @@ use Rattle.notation.specs.Program.{Program}
 use Rattle.notation.specs.Rules.{Tree, node, Form, Rule}
 use Rattle.notation.specs.Limits.{nodesInAll}
 use Rattle.notation.specs.Statements.{parentheses}
-use Rattle.notation.specs.Tokens.{Mark, Token, nonterminal, value, attribute, name, start-tag, end-tag, empty-tag, string, word, Word, CHAR, ECHO, ECHO-OFF, REJECT, PRINT, IF, THEN, ELSE, BEGIN, END, AND, OR, NOT, sign, Sign, DEFINED, ASSIGNED, OPEN, CLOSE, BRACE, UNBRACE, DOT, BAR, STAR, SEMICOLON, EQUALS, TagName}
+use Rattle.notation.specs.Tokens.{Mark, Token, nonterminal, value, attribute, name, start-tag, end-tag, empty-tag, string, word, Word, CHAR, ECHO, ECHO-OFF, REJECT, PRINT, IF, THEN, ELSE, BEGIN, END, AND, OR, NOT, EMPTY, sign, Sign, DEFINED, ASSIGNED, OPEN, CLOSE, BRACE, UNBRACE, DOT, BAR, STAR, SEMICOLON, EQUALS, TagName}
 use Rattle.reading.specs.Tests.{tagName?}
-use Rattle.reading.specs.Expressions.{Piece, an-atom, a-star, a-dot, a-bar, an-open, a-close, a-brace, an-unbrace, other, pieceOf, nonterminal?, atomIf, Level, whole, fronted, Parsing, wants, in-front, after, behind, over, opened, closed, braced, backed, stepPiece, wholeValue, emptyValue, valueOfContent}
+use Rattle.reading.specs.Expressions.{Piece, a-leaf, a-star, a-dot, a-bar, an-open, a-close, a-brace, an-unbrace, other, pieceOf, nonterminal?, atomIf, Level, whole, fronted, Parsing, wants, in-front, after, behind, over, opened, closed, braced, backed, stepPiece, wholeValue, emptyValue, valueOfContent}
 use Rattle.reading.specs.Rules.{Key, a-nonterminal, a-name, a-definition, keyOf, keyIf, Head, Progress, beginning, first-word, named, defined, own-front, wants-tag, tagged, within, own-back, complete, ruleOf, nextHead, stepKey, closes, parsing, stepRules}
 use Rattle.reading.proofs.RuleSize.{nodes-append}
 use Rattle.reading.proofs.Telling.{none≢some}
@@ -40,7 +40,7 @@ outsideKey Key.a-brace = Outside.Brace
 outsideKey Key.other = Outside.Other
 
 abbrev insidePiece : Piece → Inside
-insidePiece (an-atom k) = Inside.Atom
+insidePiece (a-leaf k) = Inside.Leaf
 insidePiece a-star = Inside.Star
 insidePiece a-dot = Inside.Dot
 insidePiece a-bar = Inside.Bar
@@ -52,7 +52,7 @@ insidePiece other = Inside.Other
 
 -- of a ) alone
 abbrev closeKey : Piece → Key
-closeKey (an-atom k) = Key.other
+closeKey (a-leaf k) = Key.other
 closeKey a-star = Key.other
 closeKey a-dot = Key.other
 closeKey a-bar = Key.other
@@ -62,7 +62,7 @@ closeKey a-brace = Key.other
 closeKey an-unbrace = Key.other
 closeKey other = Key.other
 
-atom-kept : {P : Type 0} (d : Dec P) (k : Atom) → P → atomIf d k ≡ an-atom k
+atom-kept : {P : Type 0} (d : Dec P) (k : Atom) → P → atomIf d k ≡ a-leaf (some k)
 atom-kept (yes h) k p = refl
 atom-kept (no h) k p = absurd (h p)
 
@@ -94,6 +94,7 @@ outside-kind (word END) h = refl
 outside-kind (word AND) h = refl
 outside-kind (word OR) h = refl
 outside-kind (word NOT) h = refl
+outside-kind (word EMPTY) h = refl
 outside-kind (sign DEFINED) h = refl
 outside-kind (sign ASSIGNED) h = refl
 outside-kind (sign OPEN) h = refl
@@ -130,6 +131,7 @@ inside-kind (word END) h = refl
 inside-kind (word AND) h = refl
 inside-kind (word OR) h = refl
 inside-kind (word NOT) h = refl
+inside-kind (word EMPTY) h = refl
 inside-kind (sign DEFINED) h = refl
 inside-kind (sign ASSIGNED) h = refl
 inside-kind (sign OPEN) h = refl
@@ -177,6 +179,7 @@ module _ (o : Option (Option Tree)) (f : Option Program) (u : List ℕ) (h : Hea
   closes-alike (word AND) = refl
   closes-alike (word OR) = refl
   closes-alike (word NOT) = refl
+  closes-alike (word EMPTY) = refl
   closes-alike (sign DEFINED) = refl
   closes-alike (sign ASSIGNED) = refl
   closes-alike (sign OPEN) = refl
@@ -318,7 +321,8 @@ module _ (f : Option Program) (u : List ℕ) (h : Head) where
   over-follows e (l ∷ ls) o = refl
 
   piece-follows : (x : Parsing) (p : Piece) (o : Outside) → listingOf (within x f u h) ≡ none → Follows (within x f u h) (within-steps x p) o (insidePiece p)
-  piece-follows (wants b l ls) (an-atom k) o z = refl
+  piece-follows (wants b l ls) (a-leaf none) o z = refl
+  piece-follows (wants b l ls) (a-leaf (some k)) o z = refl
   piece-follows (wants b l ls) a-star o z = refl
   piece-follows (wants b l ls) a-dot o z = refl
   piece-follows (wants b l ls) a-bar o z = refl
@@ -328,7 +332,7 @@ module _ (f : Option Program) (u : List ℕ) (h : Head) where
   piece-follows (wants b l ls) an-unbrace o z = refl
   piece-follows (wants b l ls) other o z = refl
   piece-follows (in-front q ls) p o z = absurd (none≢some z refl)
-  piece-follows (after e l ls) (an-atom k) o z = refl
+  piece-follows (after e l ls) (a-leaf k) o z = refl
   piece-follows (after e l ls) a-star o z = ap (λ x. some (sketched (After x (parenOf l ls)) (parensOf ls) (length (h .earlier)) (nodesInAll (h .earlier)))) (star-figure e)
   piece-follows (after e l ls) a-dot o z =
       ap (λ x. some (sketched (Wants false (paren (present (l .before)) (besideOf (l .alt-left)) (leftOf x) (surroundOf ls))) (parensOf ls) (length (h .earlier)) (nodesInAll (h .earlier)))) (cat-figure (l .cat-left) e)
@@ -342,7 +346,7 @@ module _ (f : Option Program) (u : List ℕ) (h : Head) where
   piece-follows (after e l ls) an-unbrace o z = refl
   piece-follows (after e l ls) other o z = refl
   piece-follows (behind q g j ls) p o z = absurd (none≢some z refl)
-  piece-follows (over e ls) (an-atom k) o z = refl
+  piece-follows (over e ls) (a-leaf k) o z = refl
   piece-follows (over e ls) a-star o z = refl
   piece-follows (over e ls) a-dot o z = refl
   piece-follows (over e ls) a-bar o z = refl

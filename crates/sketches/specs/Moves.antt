@@ -21,15 +21,15 @@ use Rattle.sketches.specs.Figures.{figure, beside, paren, lone, starred,
 -- what the kinds are, by number
 abbrev pub insides : List Inside
 insides =
-    Inside.Atom ∷ Inside.Other ∷ Inside.Other ∷ Inside.Other ∷ Inside.Other ∷ Inside.Other ∷ Inside.Other ∷ Inside.Other ∷ Inside.Other ∷ Inside.Other
-    ∷ Inside.Atom ∷ Inside.Other ∷ Inside.Other ∷ Inside.Other ∷ Inside.Other ∷ Inside.Other ∷ Inside.Other ∷ Inside.Other ∷ Inside.Other ∷ Inside.Other ∷ Inside.Other ∷ Inside.Other ∷ Inside.Other
-    ∷ Inside.Other ∷ Inside.Other ∷ Inside.Open ∷ Inside.Close ∷ Inside.Brace ∷ Inside.Other ∷ Inside.Dot ∷ Inside.Bar ∷ Inside.Star ∷ Inside.Other ∷ Inside.Other ∷ []
+    Inside.Leaf ∷ Inside.Other ∷ Inside.Other ∷ Inside.Other ∷ Inside.Other ∷ Inside.Other ∷ Inside.Other ∷ Inside.Other ∷ Inside.Other ∷ Inside.Other
+    ∷ Inside.Leaf ∷ Inside.Other ∷ Inside.Other ∷ Inside.Other ∷ Inside.Other ∷ Inside.Other ∷ Inside.Other ∷ Inside.Other ∷ Inside.Other ∷ Inside.Other ∷ Inside.Other ∷ Inside.Other ∷ Inside.Other
+    ∷ Inside.Other ∷ Inside.Other ∷ Inside.Open ∷ Inside.Close ∷ Inside.Brace ∷ Inside.Other ∷ Inside.Dot ∷ Inside.Bar ∷ Inside.Star ∷ Inside.Other ∷ Inside.Other ∷ Inside.Leaf ∷ []
 
 abbrev pub outsides : List Outside
 outsides =
     Outside.Nonterminal ∷ Outside.Other ∷ Outside.Other ∷ Outside.Other ∷ Outside.Other ∷ Outside.Name ∷ Outside.Other ∷ Outside.Other ∷ Outside.Other ∷ Outside.Other
     ∷ Outside.Other ∷ Outside.Other ∷ Outside.Other ∷ Outside.Other ∷ Outside.Other ∷ Outside.Other ∷ Outside.Other ∷ Outside.Other ∷ Outside.Other ∷ Outside.Other ∷ Outside.Other ∷ Outside.Other ∷ Outside.Other
-    ∷ Outside.Definition ∷ Outside.Other ∷ Outside.Open ∷ Outside.Other ∷ Outside.Brace ∷ Outside.Other ∷ Outside.Other ∷ Outside.Other ∷ Outside.Other ∷ Outside.Other ∷ Outside.Other ∷ []
+    ∷ Outside.Definition ∷ Outside.Other ∷ Outside.Open ∷ Outside.Other ∷ Outside.Brace ∷ Outside.Other ∷ Outside.Other ∷ Outside.Other ∷ Outside.Other ∷ Outside.Other ∷ Outside.Other ∷ Outside.Other ∷ []
 
 abbrev pub insideOf : ℕ → Inside
 insideOf k = getD insides k Inside.Other
@@ -47,7 +47,7 @@ unless false m = m
 
 -- where an operand is wanted; just behind a parenthesis a program too, and in the tag's own pair nothing
 abbrev pub wanted : Bool → Paren → Inside → Move
-wanted b p Inside.Atom = Move.To (After lone p)
+wanted b p Inside.Leaf = Move.To (After lone p)
 wanted b p Inside.Star = Move.Refused
 wanted b p Inside.Dot = Move.Refused
 wanted b p Inside.Bar = Move.Refused
@@ -70,7 +70,7 @@ abbrev pub backedBy : Bool → Surround → Figure → Move
 backedBy b m e = unless (clash b e || e .second) (Move.To (Behind (figure (e .nodes) (e .depth) (b || e .first) true) m))
 
 abbrev pub behindOperand : Figure → Paren → Inside → Move
-behindOperand e p Inside.Atom = Move.Refused
+behindOperand e p Inside.Leaf = Move.Refused
 behindOperand e p Inside.Star = Move.To (After (starred e) p)
 behindOperand e p Inside.Dot = Move.To (Wants false (dotted e p))
 behindOperand e p Inside.Bar = Move.To (Wants false (barred e p))
@@ -81,7 +81,7 @@ behindOperand e p Inside.Other = Move.Refused
 
 -- behind the program behind
 abbrev pub finishing : Figure → Inside → Move
-finishing e Inside.Atom = Move.Refused
+finishing e Inside.Leaf = Move.Refused
 finishing e Inside.Star = Move.Refused
 finishing e Inside.Dot = Move.Refused
 finishing e Inside.Bar = Move.Refused

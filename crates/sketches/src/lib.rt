@@ -55,7 +55,7 @@ pub enum Point {
 // What a token is between a tag's parentheses.
 pub enum Inside {
     Other,
-    Atom,
+    Leaf, // a nonterminal, CHAR or EMPTY
     Star,
     Dot,
     Bar,

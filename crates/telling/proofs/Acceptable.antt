@@ -21,7 +21,7 @@ use Rattle.programs.specs.Program.{Operand, Condition}
 use Rattle.programs.specs.Limits.{Visit, first, second, Value, Attribute}
 use Rattle.notation.specs.Program.{Program}
 use Rattle.notation.specs.Rules.{Tree}
-use Rattle.notation.specs.Tokens.{Mark, plain, left, right, Token, nonterminal, value, attribute, name, start-tag, end-tag, empty-tag, string, word, Word, CHAR, ECHO, ECHO-OFF, REJECT, PRINT, IF, THEN, ELSE, BEGIN, END, AND, OR, NOT, sign, Sign, DEFINED, ASSIGNED, OPEN, CLOSE, BRACE, UNBRACE, DOT, BAR, STAR, SEMICOLON, EQUALS, decimal, bytesOf, markBytes, TagName, StringOf}
+use Rattle.notation.specs.Tokens.{Mark, plain, left, right, Token, nonterminal, value, attribute, name, start-tag, end-tag, empty-tag, string, word, Word, CHAR, ECHO, ECHO-OFF, REJECT, PRINT, IF, THEN, ELSE, BEGIN, END, AND, OR, NOT, EMPTY, sign, Sign, DEFINED, ASSIGNED, OPEN, CLOSE, BRACE, UNBRACE, DOT, BAR, STAR, SEMICOLON, EQUALS, decimal, bytesOf, markBytes, TagName, StringOf}
 use Rattle.notation.specs.Statements.{parentheses}
 use Rattle.notation.proofs.Rows.{utf8-some}
 use Rattle.reading.specs.Tests.{tagName?, string?}
@@ -155,6 +155,7 @@ word-some END e = cons≢[] e
 word-some AND e = cons≢[] e
 word-some OR e = cons≢[] e
 word-some NOT e = cons≢[] e
+word-some EMPTY e = cons≢[] e
 
 sign-some : (s : Sign) → bytesOf (sign s) ≡ [] → ⊥
 sign-some DEFINED e = cons≢[] e

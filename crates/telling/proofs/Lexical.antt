@@ -15,7 +15,7 @@ use Rattle.text.specs.Names.{nameFirst, nameByte, blank, All, Name}
 use Rattle.text.proofs.Shapes.{cons≢[], shape1}
 use Rattle.text.proofs.Unique.{char-one}
 use Rattle.text.proofs.NameLaws.{name-all, blank-stops}
-use Rattle.notation.specs.Tokens.{Mark, plain, left, right, Token, nonterminal, value, attribute, name, start-tag, end-tag, empty-tag, string, word, Word, CHAR, ECHO, ECHO-OFF, REJECT, PRINT, IF, THEN, ELSE, BEGIN, END, AND, OR, NOT, sign, Sign, DEFINED, ASSIGNED, OPEN, CLOSE, BRACE, UNBRACE, DOT, BAR, STAR, SEMICOLON, EQUALS, decimal, in-quotes, all-in-quotes, bytesOf, TagName, StringOf}
+use Rattle.notation.specs.Tokens.{Mark, plain, left, right, Token, nonterminal, value, attribute, name, start-tag, end-tag, empty-tag, string, word, Word, CHAR, ECHO, ECHO-OFF, REJECT, PRINT, IF, THEN, ELSE, BEGIN, END, AND, OR, NOT, EMPTY, sign, Sign, DEFINED, ASSIGNED, OPEN, CLOSE, BRACE, UNBRACE, DOT, BAR, STAR, SEMICOLON, EQUALS, decimal, in-quotes, all-in-quotes, bytesOf, TagName, StringOf}
 use Rattle.notation.specs.Spelled.{wordByte, joins, MayFollow}
 use Rattle.notation.proofs.Strings.{same-string}
 use Rattle.telling.proofs.Acceptable.{Proper}
@@ -61,7 +61,7 @@ digit b = leb 48 b && leb b 57
 abbrev lettered : ℕ → List ℕ → Token
 lettered b x =
     cond (eqb b 67) (word CHAR)
-    (cond (eqb b 69) (cond (eqb (length (span wordByte x)) 3) (word ECHO) (word ECHO-OFF))
+    (cond (eqb b 69) (cond (eqb (first-of x) 77) (word EMPTY) (cond (eqb (length (span wordByte x)) 3) (word ECHO) (word ECHO-OFF)))
     (cond (eqb b 114) (word REJECT)
     (cond (eqb b 112) (word PRINT)
     (cond (eqb b 105) (word IF)
@@ -124,6 +124,7 @@ word-lexed END r s = refl
 word-lexed AND r s = refl
 word-lexed OR r s = refl
 word-lexed NOT r s = refl
+word-lexed EMPTY r s = refl
 
 sign-lexed : (s : Sign) (r : List ℕ) → lexed (bytesOf (sign s) ++ r) ≡ sign s
 unfolding first-of
@@ -310,6 +311,7 @@ word-solid END = record { lead = _; others = _; are = refl; no-blank = refl; no-
 word-solid AND = record { lead = _; others = _; are = refl; no-blank = refl; no-sharp = λ e. omega arith }
 word-solid OR = record { lead = _; others = _; are = refl; no-blank = refl; no-sharp = λ e. omega arith }
 word-solid NOT = record { lead = _; others = _; are = refl; no-blank = refl; no-sharp = λ e. omega arith }
+word-solid EMPTY = record { lead = _; others = _; are = refl; no-blank = refl; no-sharp = λ e. omega arith }
 
 sign-solid : (s : Sign) → Solid (bytesOf (sign s))
 sign-solid DEFINED = record { lead = _; others = _; are = refl; no-blank = refl; no-sharp = λ e. omega arith }

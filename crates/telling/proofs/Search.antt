@@ -7,7 +7,7 @@ use Prim.Native.Nat.{ℕ, zero, suc, _+_, _≤_, _<_}
 use native.Mathlib.Omega.{arith}
 use native.Mathlib.Decide.{decLe, decLt, ℕ-discrete}
 use lib.ListN.{length}
-use Rattle.notation.specs.Tokens.{Mark, plain, left, right, Token, nonterminal, value, attribute, name, start-tag, end-tag, empty-tag, string, word, Word, CHAR, ECHO, ECHO-OFF, REJECT, PRINT, IF, THEN, ELSE, BEGIN, END, AND, OR, NOT, sign, Sign, DEFINED, ASSIGNED, OPEN, CLOSE, BRACE, UNBRACE, DOT, BAR, STAR, SEMICOLON, EQUALS}
+use Rattle.notation.specs.Tokens.{Mark, plain, left, right, Token, nonterminal, value, attribute, name, start-tag, end-tag, empty-tag, string, word, Word, CHAR, ECHO, ECHO-OFF, REJECT, PRINT, IF, THEN, ELSE, BEGIN, END, AND, OR, NOT, EMPTY, sign, Sign, DEFINED, ASSIGNED, OPEN, CLOSE, BRACE, UNBRACE, DOT, BAR, STAR, SEMICOLON, EQUALS}
 use Rattle.reading.specs.Tests.{both?, either?}
 
 -- some number below n
@@ -78,9 +78,10 @@ wordAt (suc (suc (suc (suc (suc (suc (suc (suc zero)))))))) = BEGIN
 wordAt (suc (suc (suc (suc (suc (suc (suc (suc (suc zero))))))))) = END
 wordAt (suc (suc (suc (suc (suc (suc (suc (suc (suc (suc zero)))))))))) = AND
 wordAt (suc (suc (suc (suc (suc (suc (suc (suc (suc (suc (suc zero))))))))))) = OR
-wordAt (suc (suc (suc (suc (suc (suc (suc (suc (suc (suc (suc (suc n)))))))))))) = NOT
+wordAt (suc (suc (suc (suc (suc (suc (suc (suc (suc (suc (suc (suc zero)))))))))))) = NOT
+wordAt (suc (suc (suc (suc (suc (suc (suc (suc (suc (suc (suc (suc (suc n))))))))))))) = EMPTY
 
-word-number : (x : Word) → (i : ℕ) × (i < 13) × (wordAt i ≡ x)
+word-number : (x : Word) → (i : ℕ) × (i < 14) × (wordAt i ≡ x)
 unfolding wordAt
 word-number CHAR = (0, omega arith, refl)
 word-number ECHO = (1, omega arith, refl)
@@ -95,6 +96,7 @@ word-number END = (9, omega arith, refl)
 word-number AND = (10, omega arith, refl)
 word-number OR = (11, omega arith, refl)
 word-number NOT = (12, omega arith, refl)
+word-number EMPTY = (13, omega arith, refl)
 
 signAt : ℕ → Sign
 signAt zero = DEFINED
@@ -137,9 +139,9 @@ mark-number right = (2, omega arith, refl)
 -- some token
 module _ (P : Token → Type 0) (d : (t : Token) → Dec (P t)) where
   word? : Dec ((w : Word) × P (word w))
-  word? = on (below? 13 (λ i. P (word (wordAt i))) (λ i. d (word (wordAt i))))
+  word? = on (below? 14 (λ i. P (word (wordAt i))) (λ i. d (word (wordAt i))))
     where
-      on : Dec ((i : ℕ) × (i < 13) × P (word (wordAt i))) → Dec ((w : Word) × P (word w))
+      on : Dec ((i : ℕ) × (i < 14) × P (word (wordAt i))) → Dec ((w : Word) × P (word w))
       on (yes h) = yes (wordAt (h .0), h .2)
       on (no h) = no (λ x. let n = word-number (x .0) in h (n .0, n .1, subst (λ w. P (word w)) (sym (n .2)) (x .1)))
 

@@ -1,5 +1,5 @@
 use borrow.Author.Needs.{needs}
-use Rattle.paces.proofs.Laws.{operand-star, operand-dot, operand-bar, operand-close, operand-brace, operand-atom, operand-open, operand-other}
+use Rattle.paces.proofs.Laws.{operand-star, operand-dot, operand-bar, operand-close, operand-brace, operand-leaf, operand-open, operand-other}
 use Rattle.paces.proofs.moves.behind_operand.Statement.{statement}
 use Rattle.paces.proofs.moves.behind_operand.Tie as tie
 use Rattle.paces.proofs.moves.behind_operand.Reads as reads
@@ -26,7 +26,7 @@ returns-5 : tie.Need-returns-5
 returns-5 c = search (operand-brace, needs)
 
 returns-6 : tie.Need-returns-6
-returns-6 c = search (operand-atom, needs)
+returns-6 c = search (operand-leaf, needs)
 
 returns-7 : tie.Need-returns-7
 returns-7 c = search (operand-open, needs)

@@ -1,5 +1,5 @@
 use borrow.Author.Needs.{needs}
-use Rattle.paces.proofs.Laws.{wanted-atom, wanted-brace, wanted-open}
+use Rattle.paces.proofs.Laws.{wanted-leaf, wanted-brace, wanted-open}
 use Rattle.paces.proofs.moves.wanted.Statement.{statement}
 use Rattle.paces.proofs.moves.wanted.Tie as tie
 use Rattle.paces.proofs.moves.wanted.Reads as reads
@@ -9,7 +9,7 @@ returns-2 : tie.Need-returns-2
 returns-2 c = search (wanted-brace, needs)
 
 returns-3 : tie.Need-returns-3
-returns-3 c = search (wanted-atom, needs)
+returns-3 c = search (wanted-leaf, needs)
 
 returns-4 : tie.Need-returns-4
 returns-4 c = search (wanted-open, needs)
