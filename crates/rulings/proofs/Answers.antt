@@ -44,7 +44,7 @@ yes-to r = record { taken = true; reader = r }
 abbrev no-to : Reader → Answer
 no-to r = record { taken = false; reader = r }
 
-unbrace-kind : (t : Token) → kindOf t ≡ 28 → t ≡ sign UNBRACE
+pub unbrace-kind : (t : Token) → kindOf t ≡ 28 → t ≡ sign UNBRACE
 unbrace-kind (sign UNBRACE) e = refl
 unbrace-kind (nonterminal n) e = absurd (omega (arith, e))
 unbrace-kind (value v) e = absurd (omega (arith, e))
@@ -100,10 +100,10 @@ given-there (some x) h = (x, refl)
 pub same-program : (s : Progress) (r : Reader) → Holds s r → present (listingOf s) ≡ present (programAt (r .draft .point))
 same-program s r h = programs-alike s ∙ ap (λ k. present (programAt (k .point))) (h .drawn .numbers)
 
-no-listing : (s : Progress) (r : Reader) → Holds s r → Plain r → listingOf s ≡ none
+pub no-listing : (s : Progress) (r : Reader) → Holds s r → Plain r → listingOf s ≡ none
 no-listing s r h p = absent (listingOf s) (same-program s r h ∙ ap present p)
 
-a-listing : (s : Progress) (r : Reader) (b : Bool) → Holds s r → ReadsFor r b → (q : Listing) × (listingOf s ≡ some q)
+pub a-listing : (s : Progress) (r : Reader) (b : Bool) → Holds s r → ReadsFor r b → (q : Listing) × (listingOf s ≡ some q)
 a-listing s r b h p = there (listingOf s) (same-program s r h ∙ ap present p)
 
 -- outside programs

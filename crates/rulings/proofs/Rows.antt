@@ -1,65 +1,70 @@
--- A row of answers, kind by kind, is the row of kinds that the machine takes. Assumes nothing.
+-- The row of the draft or of the script is the row of kinds that the machine takes. Assumes nothing.
 use mathlib.Core.Path.{_≡_, refl, sym, _∙_, ap, subst}
-use mathlib.Core.Bool.{Bool, true, false, true≢false}
+use mathlib.Core.Bool.{Bool, true, false}
 use mathlib.Core.Option.{Option, none, some}
-use mathlib.Core.List.{List, _∷_}
-use Prim.Native.Nat.{ℕ, _+_, _≤_, _<_}
-use native.Mathlib.Omega.{arith}
-use lib.Dec.{ltb}
-use lib.ListN.{length, getD, set, length-set}
-use lib.Seq.{getD-set-same, getD-set-other}
-use borrow.Author.Tests.{ltb-true, ltb-false}
+use mathlib.Core.List.{List}
+use Prim.Native.Nat.{ℕ}
+use native.Mathlib.Decide.{ℕ-discrete}
+use lib.ListN.{getD}
 use Rattle.programs.specs.Limits.{Visit}
+use Rattle.programs.specs.Parsed.{visit}
+use Rattle.notation.specs.Limits.{ProgramWithin}
 use Rattle.notation.specs.Tokens.{Token, sign, UNBRACE}
-use Rattle.reading.specs.Statements.{Listing}
+use Rattle.reading.specs.Statements.{Listing, stepStatements, valueOfList, finishedList}
 use Rattle.reading.specs.Rules.{Progress, beginning}
-use Rattle.lexemes.specs.Kinds.{kinds, kindOf, TokenFits, Allowed}
+use Rattle.lexemes.specs.Kinds.{kindOf, TokenFits}
 use Rattle.lexemes.proofs.Found.{kind-below}
-use Rattle.verdicts.specs.Judged.{Goes, Takes}
-use Rattle.verdicts.specs.Steps.{Marks}
+use Rattle.verdicts.specs.Judged.{Takes}
 use Rattle.sketches.specs.Figures.{present}
 use Rattle.sketches.specs.Moves.{Sketch, sketchStart, programAt, textEnds}
 use Rattle.sketches.specs.Sketched.{listingOf}
-use Rattle.sketches.specs.Promises.{Drawn, ProgramTaken, goes-on, ends}
-use Rattle.sketches.proofs.Promises.{drawn-first, ends-alike, plain-takes, program-takes}
+use Rattle.sketches.specs.Promises.{Drawn, ProgramTaken, goes-on, ends, ProgramRow}
+use Rattle.sketches.proofs.Promises.{drawn-first, ends-alike, plain-takes, program-takes, plain-marks, program-marks}
+use Rattle.sketches.proofs.Fitting.{no-unbrace}
 use Rattle.drafts.specs.declared.Draft.{Draft}
 use Rattle.drafts.specs.declared.Place.{Place}
-use Rattle.drafts.specs.Drafted.{sketchOf, DraftIs, PlaceIs}
-use Rattle.outlines.specs.Statements.{outlineStart}
+use Rattle.drafts.specs.Drafted.{sketchOf, DraftIs, programIf, PlaceIs}
+use Rattle.outlines.specs.Statements.{outlineStart, outline}
+use Rattle.outlines.specs.Promises.{given, OutlineKeeps}
+use Rattle.outlines.proofs.Outlines.{keeps-alike}
 use Rattle.scripts.specs.declared.Script.{Script}
 use Rattle.scripts.specs.Scripts.{outlineOf, Standing}
+use Rattle.scripts.specs.Promises.{ScriptIs}
+use Rattle.scripts.proofs.Machines.{end-of-machine}
+use Rattle.rows.specs.Rows.{TextRow, OutlineRow}
 use Rattle.rulings.specs.declared.Reader.{Reader}
-use Rattle.rulings.specs.declared.Answer.{Answer}
-use Rattle.rulings.specs.Readers.{Holds, Firm, Answered, goes, stays, AnswerIs, RowIs, StartIs, EndIs}
-use Rattle.rulings.proofs.Answers.{none-some, there, same-program}
+use Rattle.rulings.specs.Readers.{Holds, ReadsFor, RowIs, StartIs, EndIs}
+use Rattle.rulings.proofs.Answers.{unbrace-kind, none-some, there, same-program, no-listing, a-listing}
 
-abbrev pub MarkIs : Reader → ℕ → Bool → Type 0
-MarkIs r j b = (s : Progress) (t : Token) → Holds s r → TokenFits t → kindOf t ≡ j → (b ≡ true → Takes s t) × (Takes s t → b ≡ true)
+-- outside programs the row is the draft's
+pub row-in-text : (r : Reader) (w : Place) (m : List Bool) → PlaceIs (r .draft .point) w → w .reads ≡ false → TextRow (r .draft) m → RowIs r m
+row-in-text r w m p y h = λ s u. plain-marks s (sketchOf (r .draft)) m (u .drawn) (no-listing s r u (p .program ∙ ap (λ b. programIf b (w .second)) y)) (h .marks)
 
-answered-marks : (s : Progress) (t : Token) (a : Answer) → Answered s t a → (a .taken ≡ true → Takes s t) × (Takes s t → a .taken ≡ true)
-answered-marks s t a (goes s′ g i) = (λ y. (s′, g), λ y. refl)
-answered-marks s t a (stays f) = (λ y. absurd (true≢false (sym y)), λ y. absurd (f y))
+given-present : {A : Type 0} (o : Option A) → given o ≡ present o
+given-present none = refl
+given-present (some x) = refl
 
-pub answer-marks : (r : Reader) (kind : ℕ) (a : Answer) → AnswerIs r kind a → MarkIs r kind (a .taken)
-answer-marks r kind a h = λ s t u w e. answered-marks s t a (h .told s t u w e)
-
-pub record RowTo (r : Reader) (m : List Bool) (k : ℕ) : Type 0 where
-  pub low : k ≤ kinds
-  pub long : length m ≡ kinds
-  pub marks : (j : ℕ) → j < k → MarkIs r j (getD m j false)
-
-pub row-none : (r : Reader) (m : List Bool) → length m ≡ kinds → RowTo r m 0
-row-none r m h = record { low = omega arith; long = h; marks = λ j i. absurd (omega (arith, i)) }
-
-pub row-more : (r : Reader) (m : List Bool) (k : ℕ) (a : Answer) → RowTo r m k → k < kinds → AnswerIs r k a → RowTo r (set m k (a .taken)) (k + 1)
-row-more r m k a h i n = record { low = omega arith; long = length-set m k (a .taken) ∙ h .long; marks = λ j l. at j l (ltb j k) refl }
+-- what the script's row says of the program that is being read
+program-marked : (v : Visit) (q : Listing) (f : Script) (m : List Bool) → ScriptIs q f → OutlineRow v f m → ProgramRow v q m
+program-marked v q f m i h = record { goes-on = goes-further; marked = λ t q′ w e l. on t q′ w e l (ℕ-discrete (kindOf t) 28); brace = h .brace ∙ end-of-machine q f i ∙ given-present (valueOfList q) }
   where
-    at : (j : ℕ) → j < k + 1 → (b : Bool) → ltb j k ≡ b → MarkIs r j (getD (set m k (a .taken)) j false)
-    at j l true e = let f = ltb-true j k e in subst (MarkIs r j) (sym (getD-set-other m k j (a .taken) false (omega (arith, f)))) (h .marks j f)
-    at j l false e =
-        let f = ltb-false j k e in
-        let q : k ≡ j = omega (arith, f, l) in
-        subst (λ x. MarkIs r x (getD (set m k (a .taken)) x false)) q (subst (MarkIs r k) (sym (getD-set-same m k (a .taken) false (omega (arith, i, h .long)))) (answer-marks r k a n))
+    goes-further : (t : Token) → TokenFits t → (t ≡ sign UNBRACE → ⊥) → getD m (kindOf t) false ≡ true → (q′ : Listing) × (stepStatements v q t ≡ some q′) × ProgramWithin (finishedList q′)
+    goes-further t w n e =
+        let x = h .marks (kindOf t) (kind-below t) (λ k. n (unbrace-kind t k)) .0 e in
+        let y = keeps-alike v q t w .1 (x .0) (subst (λ o. OutlineKeeps v o (kindOf t) (x .0)) (i .same) (x .1)) in
+        (y .0, y .1 .taken, y .1 .within)
+
+    on : (t : Token) (q′ : Listing) → TokenFits t → stepStatements v q t ≡ some q′ → ProgramWithin (finishedList q′) → Dec (kindOf t ≡ 28) → getD m (kindOf t) false ≡ true
+    on t q′ w e l (yes k) = absurd (none-some (stepStatements v q t) q′ (ap (stepStatements v q) (unbrace-kind t k) ∙ no-unbrace v q) e)
+    on t q′ w e l (no k) =
+        let y = keeps-alike v q t w .0 q′ (record { taken = e; within = l }) in
+        h .marks (kindOf t) (kind-below t) k .1 (outline q′) (subst (λ o. OutlineKeeps v o (kindOf t) (outline q′)) (sym (i .same)) y)
+
+pub row-in-program : (r : Reader) (w : Place) (m : List Bool) → PlaceIs (r .draft .point) w → w .reads ≡ true → OutlineRow (visit (w .second)) (r .script) m → RowIs r m
+row-in-program r w m p y h = λ s u.
+    let a : ReadsFor r (w .second) = p .program ∙ ap (λ b. programIf b (w .second)) y in
+    let l = a-listing s r (w .second) u a in
+    program-marks s (sketchOf (r .draft)) (visit (w .second)) (l .0) m (u .drawn) (l .1) a (program-marked (visit (w .second)) (l .0) (r .script) m (u .program (l .0) (l .1)) h)
 
 program-fits : (v : Visit) (q : Listing) (t : Token) (k : Sketch) (s′ : Progress) → ProgramTaken v q t k s′ → TokenFits t
 program-fits v q t k s′ (goes-on q′ e w f n l) = f
@@ -74,12 +79,6 @@ taken-fits s r t u g = on (listingOf s) refl
     on (some q) e =
         let v = there (programAt (r .draft .point)) (sym (same-program s r u) ∙ ap present e) in
         program-fits (v .0) q t (sketchOf (r .draft)) (g .0) (program-takes s (g .0) (sketchOf (r .draft)) (v .0) q t (u .drawn) e (v .1) (g .1))
-
-pub row-done : (r : Reader) (m : List Bool) (k : ℕ) → RowTo r m k → kinds ≤ k → RowIs r m
-row-done r m k h i = λ s u. record {
-  taken = λ t a. h .marks (kindOf t) (omega (arith, i, kind-below t)) s t u (a .fit) refl .0 (a .marked);
-  marked = λ t g. let f = taken-fits s r t u g in record { marked = h .marks (kindOf t) (omega (arith, i, kind-below t)) s t u f refl .1 g; fit = f };
-}
 
 pub started : (d : Draft) (f : Script) → DraftIs sketchStart d → (outlineOf f ≡ outlineStart) × Standing f → StartIs (record { draft = d; script = f })
 started d f h i = record {

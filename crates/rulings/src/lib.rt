@@ -124,14 +124,14 @@ pub fn row(r: Reader) -> [bool; 35]
     requires { ⌜ Firm r ⌝ }
     ensures { λ m. ⌜ RowIs r m ⌝ }
 {
-    let mut may = [false; 35];
-    let mut k = 0;
-    while k < 35 {
-        let a = take(r, k);
-        may[k] = a.taken;
-        k += 1;
+    let d = r.draft;
+    let p = d.point;
+    let w = drafts::place_of(p);
+    if w.reads {
+        let s = r.script;
+        return rows::in_program(s, w.second);
     }
-    may
+    rows::in_text(d)
 }
 
 // Whether the text may end.

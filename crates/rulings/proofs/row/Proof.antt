@@ -1,53 +1,25 @@
-use mathlib.Core.Path.{refl}
-use Prim.Native.Nat.{_-_}
-use native.Mathlib.Omega.{arith}
 use borrow.Author.Needs.{needs}
-use Rattle.lexemes.specs.Kinds.{kinds}
-use Rattle.rulings.specs.Readers.{Firm}
-use Rattle.rulings.proofs.Rows.{RowTo, row-none, row-more, row-done}
+use Rattle.rulings.proofs.Rows.{row-in-text, row-in-program}
 use Rattle.rulings.proofs.row.Statement.{statement}
 use Rattle.rulings.proofs.row.Tie as tie
 use Rattle.rulings.proofs.row.Reads as reads
 use Rattle.rulings.proofs.row.Lts as lts
-use Rattle.rulings.proofs.take.Reads as take-reads
+use Rattle.drafts.proofs.place_of.Reads as place-of-reads
+use Rattle.rows.proofs.in_program.Reads as in-program-reads
+use Rattle.rows.proofs.in_text.Reads as in-text-reads
 
-abbrev Inv-loop : tie.InvT-loop
-Inv-loop r may₀ k₀ may k = Firm r × RowTo r may k
+in-program-requires : tie.Need-in-program-requires
+in-program-requires c κs = search needs
 
-abbrev μ-loop : tie.MeasureT-loop
-μ-loop r may₀ k₀ may k = kinds - k
+returns : tie.Need-returns
+returns c = search (row-in-program, needs)
 
-loop-holds : tie.Need-loop-holds Inv-loop μ-loop
-loop-holds c = (c .pre, row-none _ _ refl)
+in-text-requires : tie.Need-in-text-requires
+in-text-requires c κs = search needs
 
-take-requires : tie.Need-take-requires Inv-loop μ-loop
-take-requires c κs = search needs
-
-array-write-may : tie.Need-array-write-may Inv-loop μ-loop
-array-write-may c = search needs
-
-add-k : tie.Need-add-k Inv-loop μ-loop
-add-k c = omega arith
-
-loop-less : tie.Need-loop-less Inv-loop μ-loop
-loop-less c = omega arith
-
-loop-again : tie.Need-loop-again Inv-loop μ-loop
-loop-again c = search (row-more, needs)
-
-returns : tie.Need-returns Inv-loop μ-loop
-returns c = search (row-done, needs)
+returns-2 : tie.Need-returns-2
+returns-2 c = search (row-in-text, needs)
 
 pub row-spec : {M : Type 1} → statement M
 row-spec =
-    tie.close
-    (tie.spec
-    Inv-loop
-    μ-loop
-    loop-holds
-    take-requires
-    array-write-may
-    add-k
-    loop-less
-    loop-again
-    returns)
+    tie.close (tie.spec (λ c κs. search needs) in-program-requires returns in-text-requires returns-2)
