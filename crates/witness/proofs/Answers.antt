@@ -22,7 +22,7 @@ use Rattle.trees.proofs.Grammars.{nth-there, nth-below}
 use Rattle.witness.specs.declared.Row.{Row}
 use Rattle.witness.specs.declared.Pair.{Pair}
 use Rattle.witness.specs.declared.Reason.{Reason}
-use Rattle.witness.specs.Held.{Spells, AreHeld}
+use Rattle.witness.specs.Held.{StringIn, AreHeld}
 use Rattle.witness.specs.Walks.{FirstsAre}
 use Rattle.witness.specs.Answers.{SignBetween, NoWitness, WitnessAs, no-fault, a-fault}
 
@@ -63,7 +63,7 @@ module _ {s : List ℕ} {a : Sheet} (i : IsSheet s a) (q p : ℕ) (x : Symbol) w
           let n = parts (tagsOf g) (d .content) p (nextOf x) α β t in
           let same : r .sign ≡ n .0 = sign .is (d .content) (n .0) α β (k .1) (k .2) (n .1) in
           a-fault a i d m α β e t number-is
-          (subst (λ (z : Row). Spells α z) (sym first-is) (k .1)) (subst (λ (z : Row). Spells β z) (sym second-is) (k .2))
+          (subst (λ (z : Row). StringIn α z) (sym first-is) (k .1)) (subst (λ (z : Row). StringIn β z) (sym second-is) (k .2))
           (subst (λ (z : ℕ). PartAt (d .content) z α β) (sym same) (n .1))
 
       by-fault : WitnessAs s q p x r

@@ -15,7 +15,7 @@ use Rattle.ways.specs.Held.{codeOf, codes}
 use Rattle.ways.proofs.Holds.{length-codes}
 use Rattle.witness.specs.declared.Row.{Row}
 use Rattle.witness.specs.declared.Pair.{Pair}
-use Rattle.witness.specs.Held.{longest, Spells, AreHeld, Holds, BracketIs, JoinedAs, WhenIs, OpenedAs, ClosedAs, EitherAs, BothAs, TurnedAs}
+use Rattle.witness.specs.Held.{longest, StringIn, AreHeld, Holds, BracketIs, JoinedAs, WhenIs, OpenedAs, ClosedAs, EitherAs, BothAs, TurnedAs}
 
 codes-append : (α β : List Bracket) → codes (α ++ β) ≡ codes α ++ codes β
 codes-append [] β = refl
@@ -44,7 +44,7 @@ module _ (a b : Row) where
     long-is : r .length ≡ a .length + b .length
     long-is = put .next ∙ ap (λ (n : ℕ). a .length + n) more
 
-    spelt : a .length + b .length ≤ longest → (α β : List Bracket) → Spells α a → Spells β b → Spells (α ++ β) r
+    spelt : a .length + b .length ≤ longest → (α β : List Bracket) → StringIn α a → StringIn β b → StringIn (α ++ β) r
     spelt room α β x y =
         let v = take (b .length) (b .bytes) in
         let u = take (a .length) (a .bytes) in
@@ -63,7 +63,7 @@ module _ (a b : Row) where
     joined-put = record { long = λ room. long-is; is = spelt }
 
 -- a bracket before each, or behind each
-module _ (c : Row) (bracket : Bracket) (one : c .length ≡ 1) (spells : Spells (bracket ∷ []) c) (f r : Pair) (same : r .count ≡ f .count) (a b : ℕ)
+module _ (c : Row) (bracket : Bracket) (one : c .length ≡ 1) (spells : StringIn (bracket ∷ []) c) (f r : Pair) (same : r .count ≡ f .count) (a b : ℕ)
     (room : a + 1 ≤ longest) (room′ : b + 1 ≤ longest) where
   module _ (j : JoinedAs c (f .first) (r .first)) (k : JoinedAs c (f .second) (r .second)) where
     before-each : (φ : Firsts) → Holds a b φ f → Holds (a + 1) (b + 1) (each (λ α. bracket ∷ α) φ) r

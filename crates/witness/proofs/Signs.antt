@@ -12,7 +12,7 @@ use Rattle.parting.specs.Parting.{Sign, round-or-end, end-or-round, left-or-rig
 use Rattle.ways.specs.Held.{codeOf, codes}
 use Rattle.ways.proofs.Holds.{length-codes}
 use Rattle.witness.specs.declared.Row.{Row}
-use Rattle.witness.specs.Held.{Spells}
+use Rattle.witness.specs.Held.{StringIn}
 use Rattle.witness.specs.Answers.{SignAt, SignIs, SignBetween}
 
 -- from the two brackets
@@ -138,7 +138,7 @@ module _ (a b : List ℕ) (k : ℕ) (agreed : (i : ℕ) → i < k → getD a i 0
       }
 
 -- the strings as they are held
-spelt-short : (α : List Bracket) (a : Row) → Spells α a → a .length ≤ length (a .bytes)
+spelt-short : (α : List Bracket) (a : Row) → StringIn α a → a .length ≤ length (a .bytes)
 spelt-short α a h =
     let l : length (take (a .length) (a .bytes)) ≡ a .length = ap length (h .bytes-are) ∙ length-codes α ∙ sym (h .length-is) in
     let m = length-take (a .length) (a .bytes) in

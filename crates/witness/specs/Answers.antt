@@ -17,7 +17,7 @@ use Rattle.trees.specs.Symbol.{nextOf}
 use Rattle.ways.specs.Held.{codeOf, codes}
 use Rattle.witness.specs.declared.Row.{Row}
 use Rattle.witness.specs.declared.Reason.{Reason}
-use Rattle.witness.specs.Held.{Spells}
+use Rattle.witness.specs.Held.{StringIn}
 
 -- the sign at which strings with these brackets' bytes next part
 pub record SignAt (c d r : ℕ) : Type 0 where
@@ -27,7 +27,7 @@ pub record SignIs (a b : List ℕ) (r : ℕ) : Type 0 where
   pub is : (e : Content) (n : ℕ) (α β : List Bracket) → a ≡ codes α → b ≡ codes β → PartAt e n α β → r ≡ n
 
 pub record SignBetween (a b : Row) (r : ℕ) : Type 0 where
-  pub is : (e : Content) (n : ℕ) (α β : List Bracket) → Spells α a → Spells β b → PartAt e n α β → r ≡ n
+  pub is : (e : Content) (n : ℕ) (α β : List Bracket) → StringIn α a → StringIn β b → PartAt e n α β → r ≡ n
 
 -- the number alone
 pub record NoWitness (number : ℕ) (r : Reason) : Type 0 where
@@ -45,4 +45,4 @@ pub data WitnessAs (s : List ℕ) (q p : ℕ) (x : Symbol) (r : Reason) : Type 0
   a-fault : (a : Sheet) → IsSheet s a → (d : Production) → Nth (grammarOf (a .rules)) q d → (α β : List Bracket) →
       firsts (tagsOf (grammarOf (a .rules))) (d .content) p (nextOf x) ≡ two-strings α β →
       FaultBy (tagsOf (grammarOf (a .rules))) (d .content) p (nextOf x) α β →
-      r .number ≡ 9 → Spells α (r .first) → Spells β (r .second) → PartAt (d .content) (r .sign) α β → WitnessAs s q p x r
+      r .number ≡ 9 → StringIn α (r .first) → StringIn β (r .second) → PartAt (d .content) (r .sign) α β → WitnessAs s q p x r

@@ -16,14 +16,14 @@ abbrev pub longest : ℕ
 longest = 192
 
 -- r is the string: it is that long, and its bytes are the first ones
-pub record Spells (α : List Bracket) (r : Row) : Type 0 where
+pub record StringIn (α : List Bracket) (r : Row) : Type 0 where
   pub length-is : r .length ≡ length α
   pub bytes-are : take (r .length) (r .bytes) ≡ codes α
 
 abbrev pub AreHeld : Firsts → Pair → Type 0
 AreHeld no-string r = r .count ≡ 0
-AreHeld (one-string α) r = (r .count ≡ 1) × Spells α (r .first)
-AreHeld (two-strings α β) r = (r .count ≡ 2) × Spells α (r .first) × Spells β (r .second)
+AreHeld (one-string α) r = (r .count ≡ 1) × StringIn α (r .first)
+AreHeld (two-strings α β) r = (r .count ≡ 2) × StringIn α (r .first) × StringIn β (r .second)
 
 -- r holds the strings, the first in at most a bytes and the second in at most b
 pub record Holds (a b : ℕ) (f : Firsts) (r : Pair) : Type 0 where
@@ -33,12 +33,12 @@ pub record Holds (a b : ℕ) (f : Firsts) (r : Pair) : Type 0 where
 
 pub record BracketIs (b : ℕ) (r : Row) : Type 0 where
   pub one : r .length ≡ 1
-  pub is : (c : Bracket) → b ≡ codeOf c → Spells (c ∷ []) r
+  pub is : (c : Bracket) → b ≡ codeOf c → StringIn (c ∷ []) r
 
 -- where there is room
 pub record JoinedAs (a b r : Row) : Type 0 where
   pub long : a .length + b .length ≤ longest → r .length ≡ a .length + b .length
-  pub is : a .length + b .length ≤ longest → (α β : List Bracket) → Spells α a → Spells β b → Spells (α ++ β) r
+  pub is : a .length + b .length ≤ longest → (α β : List Bracket) → StringIn α a → StringIn β b → StringIn (α ++ β) r
 
 pub record WhenIs (there : Bool) (r : Pair) : Type 0 where
   pub is : (b : Bool) → there ≡ b → Holds 0 0 (when b) r
