@@ -9,6 +9,7 @@ use lib.ListN.{length, getD, drop, length-append, length-drop}
 use borrow.Author.Tests.{ne-eqb, le-ltb, lt-ltb}
 use Rattle.text.specs.Chars.{pick, Starts}
 use Rattle.lent.specs.Put.{PutAs}
+use Rattle.lent.proofs.Laws.{put-dry}
 use Rattle.output.proofs.Writing.{put-then, same-bytes}
 use Rattle.programs.specs.Program.{Operand, constant, current, recalled, operandBytes, Condition, equal, negated, both, either, conditionBytes}
 use Rattle.programs.proofs.Agree.{condition-some}
@@ -63,7 +64,7 @@ sign-short true x = omega arith
 sign-short false x = omega arith
 
 -- ---- operands
-decimal-short : (n : ℕ) → length (decimal n) ≤ 2
+pub decimal-short : (n : ℕ) → length (decimal n) ≤ 2
 unfolding decimal
 decimal-short n = on (ltb n 10)
   where
@@ -90,15 +91,26 @@ operand-text s j (constant v) st = rw (first-byte s j 0 (v ∷ []) st, byte-of s
 operand-text s j (current a) st = rw (first-byte s j 1 (a ∷ []) st, byte-of s j (1 ∷ a ∷ []) st 1 (omega arith) .1) refl
 operand-text s j (recalled a) st = rw (first-byte s j 2 (a ∷ []) st, byte-of s j (2 ∷ a ∷ []) st 1 (omega arith) .1) refl
 
+-- ---- no place asks for less than nothing
+pub never-in-parentheses : (c : Condition) → conditionTextIn 0 c ≡ conditionText c
+never-in-parentheses (equal x y) = refl
+never-in-parentheses (negated c) = refl
+never-in-parentheses (both c d) = refl
+never-in-parentheses (either c d) = refl
+
+-- ---- a dry run leaves all as lent
+pub dry-put : (w : Bool) (d : List ℕ) (at : ℕ) (xs d₁ : List ℕ) (r : ℕ) → w ≡ false → PutAs w d at xs d₁ r → d₁ ≡ d
+dry-put w d at xs d₁ r z P = P .left ∙ put-dry w d at xs z
+
 module _ (s : List ℕ) (i : ℕ) (p : Pen) where
   -- ---- nothing, and a comparison
   pub nothing-left : (asked : ℕ) → i ≤ length s → length s ≤ i → ClausePut 0 (conditionTextIn asked) s i p (record { next = i; at = p .at }) (p .lent)
   nothing-left asked l h =
-      record { low = omega arith; high = l; reach = omega arith; right = λ c st. absurd (omega (arith, condition-some c, starts-length (drop i s) (conditionBytes c) st, length-drop i s)) }
+      record { low = omega arith; high = l; reach = omega arith; dry = λ z. refl; right = λ c st. absurd (omega (arith, condition-some c, starts-length (drop i s) (conditionBytes c) st, length-drop i s)) }
 
   module _ (h : i < length s) where
     pub too-short : getD s i 0 ≡ 0 → length s - i < 5 → ClausePut 2 conditionText s i p (record { next = length s; at = p .at }) (p .lent)
-    too-short e short = record { low = omega arith; high = omega arith; reach = omega arith; right = λ c st. absurd (no c st) }
+    too-short e short = record { low = omega arith; high = omega arith; reach = omega arith; dry = λ z. refl; right = λ c st. absurd (no c st) }
       where
         no : (c : Condition) → LiesAt conditionBytes s i c → ⊥
         no c st =
@@ -115,6 +127,7 @@ module _ (s : List ℕ) (i : ℕ) (p : Pen) where
           low = omega arith;
           high = long;
           reach = omega (arith, X .next, M .next, Y .next, operand-short (getD s (i + 1) 0) (getD s (i + 1 + 1) 0), operand-short (getD s (i + 3) 0) (getD s (i + 3 + 1) 0));
+          dry = λ z. dry-put _ _ _ _ _ _ z Y ∙ dry-put _ _ _ _ _ _ z M ∙ dry-put _ _ _ _ _ _ z X;
           right = go;
         }
       where
@@ -143,7 +156,7 @@ module _ (s : List ℕ) (i : ℕ) (p : Pen) where
       → PutAs (p .write) (p .lent) (p .at) (signWhere b 40) d₁ n₁ → ClausePut 2 conditionText s i (record { write = p .write; lent = d₁; at = n₁ }) r d₂ → PutAs (p .write) d₂ (r .at) (signWhere b 41) d₃ n₃
       → ClausePut 0 (conditionTextIn asked) s i p (record { next = r .next; at = n₃ }) d₃
   wrapped asked b e d₁ d₂ d₃ n₁ n₃ r O R C =
-      record { low = R .low; high = R .high; reach = omega (arith, R .reach, O .next, C .next, sign-short b 40, sign-short b 41); right = go }
+      record { low = R .low; high = R .high; reach = omega (arith, R .reach, O .next, C .next, sign-short b 40, sign-short b 41); dry = λ z. dry-put _ _ _ _ _ _ z C ∙ R .dry z ∙ dry-put _ _ _ _ _ _ z O; right = go }
     where
       around : (b : Bool) (x : List ℕ) → signWhere b 40 ++ (x ++ signWhere b 41) ≡ inParenthesesIf b x
       around true x = refl
@@ -159,7 +172,7 @@ module _ (s : List ℕ) (i : ℕ) (p : Pen) where
   module _ (h : i < length s) where
     pub not-it : getD s i 0 ≡ 1 → (b : ℕ) → b ≡ bindsAt (getD s i 0) → (d₁ d₂ : List ℕ) (n₁ : ℕ) (r : Put) → PutAs (p .write) (p .lent) (p .at) (110 ∷ 111 ∷ 116 ∷ 32 ∷ []) d₁ n₁
         → ClausePut 0 (conditionTextIn (b + 1)) s (i + 1) (record { write = p .write; lent = d₁; at = n₁ }) r d₂ → ClausePut 2 conditionText s i p r d₂
-    not-it e b eb d₁ d₂ n₁ r N R = record { low = omega (arith, R .low); high = R .high; reach = omega (arith, R .reach, N .next); right = go }
+    not-it e b eb d₁ d₂ n₁ r N R = record { low = omega (arith, R .low); high = R .high; reach = omega (arith, R .reach, N .next); dry = λ z. R .dry z ∙ dry-put _ _ _ _ _ _ z N; right = go }
       where
         always : (c : Condition) → conditionTextIn 3 c ≡ inParentheses (conditionText c)
         always (equal x y) = refl
@@ -188,14 +201,8 @@ module _ (s : List ℕ) (i : ℕ) (p : Pen) where
           (omega (arith, x .0, y .0, length-append (conditionBytes c) (conditionBytes d)), put-then _ _ _ _ _ _ _ _ _ (x .1) (put-then _ _ _ _ _ _ _ _ _ W (y .1)))
 
       pub two-of : (k ≡ 0 → ⊥) → (k ≡ 1 → ⊥) → ClausePut 2 conditionText s i p q d₃
-      two-of f g = record { low = omega (arith, R .low, Q .low); high = Q .high; reach = omega (arith, R .reach, W .next, word-short k, Q .reach); right = go }
+      two-of f g = record { low = omega (arith, R .low, Q .low); high = Q .high; reach = omega (arith, R .reach, W .next, word-short k, Q .reach); dry = λ z. Q .dry z ∙ dry-put _ _ _ _ _ _ z W ∙ R .dry z; right = go }
         where
-          never : (c : Condition) → conditionTextIn 0 c ≡ conditionText c
-          never (equal x y) = refl
-          never (negated c) = refl
-          never (both c d) = refl
-          never (either c d) = refl
-
           same : (j : ℕ) (c d : Condition) → k ≡ j → conditionTextIn b c ++ (wordAt k ++ conditionTextIn (b + 1) d) ≡ conditionTextIn (bindsAt j) c ++ (wordAt j ++ conditionTextIn (bindsAt j + 1) d)
           same j c d e = ap (λ (n : ℕ). conditionTextIn n c ++ (wordAt k ++ conditionTextIn (n + 1) d)) eb ∙ ap (λ (n : ℕ). conditionTextIn (bindsAt n) c ++ (wordAt n ++ conditionTextIn (bindsAt n + 1) d)) e
 
@@ -212,4 +219,4 @@ module _ (s : List ℕ) (i : ℕ) (p : Pen) where
           go (either c d) st =
               let e : k ≡ 3 = sym at-i ∙ first-byte s i 3 (conditionBytes c ++ conditionBytes d) st in
               let z = two-parts c d (again 3 c d e st) in
-              (z .0, same-bytes _ _ _ _ (conditionText (either c d)) _ _ (same 3 c d e ∙ ap (λ (l : List ℕ). l ++ (wordAt 3 ++ conditionTextIn 1 d)) (never c)) (z .1))
+              (z .0, same-bytes _ _ _ _ (conditionText (either c d)) _ _ (same 3 c d e ∙ ap (λ (l : List ℕ). l ++ (wordAt 3 ++ conditionTextIn 1 d)) (never-in-parentheses c)) (z .1))

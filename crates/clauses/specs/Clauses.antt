@@ -1,7 +1,7 @@
 -- The condition that lies in a program section, as text: how tightly it binds and the word between its parts, by its first byte; and what putting it
 -- leaves in lent memory. Assumes nothing.
 use mathlib.Core.Path.{_≡_}
-use mathlib.Core.Bool.{Bool, cond}
+use mathlib.Core.Bool.{Bool, false, cond}
 use mathlib.Core.List.{List, [], _∷_, _++_}
 use Prim.Native.Nat.{ℕ, _+_, _*_, _≤_}
 use lib.Dec.{eqb, ltb}
@@ -44,4 +44,5 @@ pub record ClausePut (spare : ℕ) (text : Condition → List ℕ) (s : List ℕ
   pub low : i ≤ r .next
   pub high : r .next ≤ length s
   pub reach : r .at + spare + mostOfAByte * i ≤ p .at + mostOfAByte * r .next
+  pub dry : p .write ≡ false → d ≡ p .lent
   pub right : (c : Condition) → LiesAt conditionBytes s i c → (r .next ≡ i + length (conditionBytes c)) × PutAs (p .write) (p .lent) (p .at) (text c) d (r .at)

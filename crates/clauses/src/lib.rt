@@ -27,7 +27,7 @@ fn binds_of(k: u8) -> u8
 }
 
 // Writes a sign, or nothing.
-fn put_where(wanted: bool, sign: u8, out: &mut [u8], at: usize, write: bool) -> usize
+pub fn put_where(wanted: bool, sign: u8, out: &mut [u8], at: usize, write: bool) -> usize
     requires { ⌜ at ≤ farthest + 1 ⌝ }
     ensures { λ r. ⌜ PutAs write (now (out .entry)) at (signWhere wanted sign) (now (out .exit)) r ⌝ }
 {

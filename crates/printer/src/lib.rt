@@ -9,7 +9,7 @@ ghost use Rattle.printed.specs.Programs.{inString, allInString, quoted};
 ghost use Rattle.printer.specs.Operands.{operandTextAt};
 
 // Writes a number with no leading zero.
-fn put_decimal(out: &mut [u8], at: usize, n: u8, write: bool) -> usize
+pub fn put_decimal(out: &mut [u8], at: usize, n: u8, write: bool) -> usize
     requires { ⌜ at ≤ farthest ⌝ }
     ensures { λ r. ⌜ PutAs write (now (out .entry)) at (decimal n) (now (out .exit)) r ⌝ }
 {

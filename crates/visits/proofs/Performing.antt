@@ -41,7 +41,7 @@ name-in s t n zero-at T =
       spelled = (fill ++ drop 16 here, sym (take-append-drop 16 here) ∙ ap (λ (l : List ℕ). l ++ drop 16 here) e ∙ append-assoc (length n ∷ n) fill (drop 16 here));
     }
 
-names-in : (s : List ℕ) (i k : ℕ) (ns : List (List ℕ)) → tagOffset s ≡ 0 → From (TagAt s) i k ns → (t : ℕ) → t < length ns → NameAt s (i + t) (nameOf ns t)
+pub names-in : (s : List ℕ) (i k : ℕ) (ns : List (List ℕ)) → tagOffset s ≡ 0 → From (TagAt s) i k ns → (t : ℕ) → t < length ns → NameAt s (i + t) (nameOf ns t)
 names-in s i k [] z f t h = absurd (omega arith)
 names-in s i k (n ∷ ns) z f zero h = subst (λ (m : ℕ). NameAt s m n) (omega arith) (name-in s i n z (f .0))
 names-in s i k (n ∷ ns) z f (suc t) h = subst (λ (m : ℕ). NameAt s m (nameOf ns t)) (omega arith) (names-in s (suc i) k ns z (f .1) t (omega arith))
@@ -77,15 +77,15 @@ module _ (s : List ℕ) (l : Layout) (L : LaidOut s l) where
   abbrev pub strings-of : List ℕ
   strings-of = take (l .«strings_at» + l .strings - l .«strings_at») (drop (l .«strings_at») s)
 
-  section-is : section-of ≡ programsIn s
+  pub section-is : section-of ≡ programsIn s
   section-is =
       let n : l .«programs_at» + l .programs - l .«programs_at» ≡ programLength s = omega (arith, L .layout-is .programs-is .is) in
       ap₂ (λ (n k : ℕ). take n (drop k s)) n (L .layout-is .programs-at-is .is)
 
-  section-length : length section-of ≤ l .programs
+  pub section-length : length section-of ≤ l .programs
   section-length = omega (arith, length-take (l .«programs_at» + l .programs - l .«programs_at») (drop (l .«programs_at») s))
 
-  strings-are : strings-of ≡ stringsIn s
+  pub strings-are : strings-of ≡ stringsIn s
   strings-are =
       let n : l .«strings_at» + l .strings - l .«strings_at» ≡ stringLength s = omega (arith, L .layout-is .strings-is .is) in
       ap₂ (λ (n k : ℕ). take n (drop k s)) n (L .layout-is .strings-at-is .is)

@@ -111,7 +111,8 @@ fn comparison(
     }
 }
 
-fn condition(
+// What the condition at i comes to.
+pub fn condition(
     s: &[u8],
     i: usize,
     kept: [u8; Env::ATTRIBUTES],
@@ -287,7 +288,7 @@ fn end_of(s: &[u8], i: usize, w: usize) -> usize
 }
 
 // The byte after the statement at i, one other than a branch.
-fn past(s: &[u8], i: usize) -> usize
+pub fn past(s: &[u8], i: usize) -> usize
     requires { ⌜ (i < length (now s)) × (getD (now s) i 0 ≡ 10 → ⊥) ⌝ }
     ensures { λ r. ⌜ PastIs (now (s .entry)) i r ⌝ }
 {
