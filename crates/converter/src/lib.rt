@@ -63,7 +63,7 @@ pub struct LiveReply {
 const UNFIT: usize = 29;
 
 // A closed state answers its number again, and 28 after 0.
-fn repeated(number: u8) -> usize
+pub fn repeated(number: u8) -> usize
     ensures { λ r. ⌜ r ≡ again number ⌝ }
 {
     if number == 0 {
@@ -114,7 +114,7 @@ fn number_begun(ended: bool, left: usize, z: Live) -> usize
 }
 
 // What is read at a cursor, once it is known whether the stream has ended: a carriage return that is the last byte is whole only then.
-fn read_on(cursor: Cursor, part: &[u8], ended: bool) -> Answer
+pub fn read_on(cursor: Cursor, part: &[u8], ended: bool) -> Answer
     ensures { λ r. ⌜ ReadAs (not ended) (now (part .entry)) (cursor .at) r ⌝ }
 {
     let answer = cursor.read(part);
@@ -128,7 +128,7 @@ fn read_on(cursor: Cursor, part: &[u8], ended: bool) -> Answer
 }
 
 // The number where no whole token comes next.
-fn number_without_token(answer: Answer, ended: bool, left: usize, z: Live) -> usize
+pub fn number_without_token(answer: Answer, ended: bool, left: usize, z: Live) -> usize
     ensures { λ r. ⌜ ((b : List ℕ) → Shaped (full z b) → NumberedAs (not ended) left (meaningOf (full z b) .control) answer r) ⌝ }
 {
     match answer {
@@ -141,7 +141,7 @@ fn number_without_token(answer: Answer, ended: bool, left: usize, z: Live) -> us
 }
 
 // 16 and 17 leave the state open, any other number closes it.
-fn left_with(number: usize, z: Live) -> Live
+pub fn left_with(number: usize, z: Live) -> Live
     requires { ⌜ number ≤ 30 ⌝ }
     ensures { λ r. ⌜ r ≡ leftLive number z ⌝ }
 {

@@ -51,7 +51,7 @@ not-open [] r (n, h) = n refl
 not-open (x ∷ l) r (n, h) = not-open l r h
 
 -- bytes with a < past the first begin no token
-begins-none : (l r w : List ℕ) → OpensOnce w → 0 < length l → Begins (l ++ 60 ∷ r) w → ⊥
+pub begins-none : (l r w : List ℕ) → OpensOnce w → 0 < length l → Begins (l ++ 60 ∷ r) w → ⊥
 begins-none [] r w h n k = omega arith
 begins-none (x ∷ l) r w h n (v, e, k) = not-open l (r ++ v) (subst NoOpen (append-assoc l (60 ∷ r) v) (subst OpensOnce e h))
 

@@ -42,10 +42,10 @@ module _ (a : Sheet) (x : RecordTags) (fit : NamesFit (a .names)) where
   closing-none : NoOpen (62 ∷ [])
   closing-none = ((λ e. omega (arith, e)), tt)
 
-  record-start-once : OpensOnce (recordStart a x)
+  pub record-start-once : OpensOnce (recordStart a x)
   record-start-once = none-append (nameOf (a .names) (x .record-tag)) (62 ∷ []) (names-none (a .names) (x .record-tag) fit) closing-none
 
-  root-end-once : OpensOnce (rootEnd a x)
+  pub root-end-once : OpensOnce (rootEnd a x)
   root-end-once = ((λ e. omega (arith, e)), none-append (nameOf (a .names) (x .root-tag)) (62 ∷ []) (names-none (a .names) (x .root-tag) fit) closing-none)
 
   pub may-lie-in : (l r : List ℕ) → 0 < length l → Starts (l ++ 60 ∷ r) (recordStart a x) ⊎ Starts (l ++ 60 ∷ r) (rootEnd a x) → Starts l (recordStart a x) ⊎ Starts l (rootEnd a x)

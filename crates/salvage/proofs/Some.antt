@@ -85,25 +85,25 @@ none-number : (left : ℕ) (c : Control) → (n : ℕ) × (numberAt false left c
 none-number zero c = (_, refl)
 none-number (suc left) c = (27, refl)
 
-two-open : (c : Control) → 1 ≤ openIn c → rootOnly c ≡ false → 2 ≤ openIn c
+pub two-open : (c : Control) → 1 ≤ openIn c → rootOnly c ≡ false → 2 ≤ openIn c
 two-open before h e = absurd (omega arith)
 two-open (inside o []) h e = absurd (let x : _≡_ {A = ℕ} 0 1 = cc in omega arith)
 two-open (inside o (p ∷ os)) h e = omega arith
 two-open after h e = absurd (omega arith)
 
-one-open : (c : Control) → rootOnly c ≡ true → 1 ≤ openIn c
+pub one-open : (c : Control) → rootOnly c ≡ true → 1 ≤ openIn c
 one-open before e = absurd (let x : _≡_ {A = ℕ} 0 1 = cc in omega arith)
 one-open (inside o os) e = omega arith
 one-open after e = absurd (let x : _≡_ {A = ℕ} 0 1 = cc in omega arith)
 
-leaves-one : (k : RunToken) (d d′ : ℕ) → 2 ≤ d → Leaves k d d′ → 1 ≤ d′
+pub leaves-one : (k : RunToken) (d d′ : ℕ) → 2 ≤ d → Leaves k d d′ → 1 ≤ d′
 leaves-one (start-token t) d d′ h l = omega arith
 leaves-one (end-token t) d d′ h l = omega arith
 leaves-one (empty-token t) d d′ h l = omega arith
 leaves-one (literal c) d d′ h l = omega arith
 leaves-one (reference c) d d′ h l = omega arith
 
-start-leaves : (t : ℕ) (k : RunToken) (d d′ : ℕ) → startsWith t k ≡ true → 1 ≤ d → Leaves k d d′ → 1 ≤ d′
+pub start-leaves : (t : ℕ) (k : RunToken) (d d′ : ℕ) → startsWith t k ≡ true → 1 ≤ d → Leaves k d d′ → 1 ≤ d′
 start-leaves t (start-token u) d d′ e h l = omega arith
 start-leaves t (end-token u) d d′ e h l = absurd (let x : _≡_ {A = ℕ} 0 1 = cc in omega arith)
 start-leaves t (empty-token u) d d′ e h l = omega arith

@@ -17,7 +17,7 @@ ghost use Rattle.state.specs.Bytes.{flag, numberBytes, savedBytes, eachB
 ghost use Rattle.layout.specs.Layout.{byteAt};
 ghost use Rattle.state.specs.Bytes.{onAt, bytesAt, longAt, savedAt, frameAt, usedAt, gathered, headingFrom, stateFrom};
 
-fn put_one(memory: &mut [u8], at: usize, b: u8) -> usize
+pub fn put_one(memory: &mut [u8], at: usize, b: u8) -> usize
     requires { ⌜ at + 1 < 2 ^ 64 ⌝ }
     ensures { λ r. ⌜ Wrote 1 (now (memory .entry)) at (b ∷ []) (now (memory .exit)) r ⌝ }
 {
@@ -43,7 +43,7 @@ fn put_values(memory: &mut [u8], at: usize, values: [u8; State::ATTRIBUTES]) -> 
     lent::put_bytes(memory, at, &values, true)
 }
 
-fn put_number(memory: &mut [u8], at: usize, n: u64) -> usize
+pub fn put_number(memory: &mut [u8], at: usize, n: u64) -> usize
     requires { ⌜ at + 8 < 2 ^ 64 ⌝ }
     ensures { λ r. ⌜ Wrote 8 (now (memory .entry)) at (numberBytes 8 n) (now (memory .exit)) r ⌝ }
 {
@@ -166,13 +166,13 @@ pub fn to_bytes(state: State, memory: &mut [u8]) -> usize
     put_frames(memory, frames, stack)
 }
 
-fn byte_at(bytes: &[u8], at: usize) -> u8
+pub fn byte_at(bytes: &[u8], at: usize) -> u8
     ensures { λ r. ⌜ r ≡ byteAt (now (bytes .entry)) at ⌝ }
 {
     if at < bytes.len() { bytes[at] } else { 0 }
 }
 
-fn on_at(bytes: &[u8], at: usize) -> bool
+pub fn on_at(bytes: &[u8], at: usize) -> bool
     ensures { λ r. ⌜ r ≡ onAt (now (bytes .entry)) at ⌝ }
 {
     byte_at(bytes, at) != 0
@@ -184,7 +184,7 @@ fn wide(b: u8) -> u64
     b as u64
 }
 
-fn number_at(bytes: &[u8], at: usize) -> u64
+pub fn number_at(bytes: &[u8], at: usize) -> u64
     requires { ⌜ at + 8 < 2 ^ 64 ⌝ }
     ensures { λ r. ⌜ r ≡ longAt (now (bytes .entry)) at ⌝ }
 {
@@ -197,7 +197,7 @@ fn number_at(bytes: &[u8], at: usize) -> u64
     n
 }
 
-fn values_at(bytes: &[u8], at: usize) -> [u8; State::ATTRIBUTES]
+pub fn values_at(bytes: &[u8], at: usize) -> [u8; State::ATTRIBUTES]
     requires { ⌜ at + attributes < 2 ^ 64 ⌝ }
     ensures { λ r. ⌜ r ≡ bytesAt (now (bytes .entry)) at attributes ⌝ }
 {

@@ -2,20 +2,20 @@
    Every lent area ends where unmapped memory begins, so a read or a write past it ends the driver; what the library may only read is
    mapped so; and canaries stand before each area.
 
-   A request: seven numbers (function, lengths of sheet, list or state, part and output, "ended", the fill), 8 bytes each, then the
-   bytes of sheet, state (run only) and part. The lent list, output and fresh state are filled with the fill.
-   An answer: seven numbers (the function's answer, the three counts, 1 if a canary is broken, the lengths of what follows), then the
-   list or state and the output, both without the fill at their ends. */
+   A request: nine numbers (function, lengths of sheet, list or state, part, output, waiting area and report, "ended", the fill), 8 bytes each,
+   then the bytes of sheet, state (of a run), part and waiting area. The lent list, output, report and fresh state are filled with the fill.
+   An answer: eleven numbers (the function's answer, the five counts, 1 if a canary is broken, the lengths of what follows), then the
+   list or state, the output, the waiting area and the report, each without the fill at its end. */
 #include "../../../include/wickpollen.h"
 #include "system.h"
 
 enum { AREA = 1 << 18, GUARD = 1 << 16, CANARY = 64, CANARY_BYTE = 0xC5 };
-enum { CHECK = 1, FRESH = 2, RUN = 3 };
+enum { CHECK = 1, FRESH = 2, RUN = 3, SALVAGE_FRESH = 4, SALVAGE = 5 };
 
 /* One lent area: `end` is where unmapped memory begins. */
 struct area { uint8_t *end; };
-static struct area sheet, list_or_state, part, output, counts;
-static uint8_t answer[2 * AREA];
+static struct area sheet, list_or_state, part, output, waiting, report, counts;
+static uint8_t answer[4 * AREA];
 
 static void protect(struct area *a, int protection) { system_call(MPROTECT, (long)(a->end - AREA), AREA, protection, 0, 0, 0); }
 
@@ -69,39 +69,48 @@ static uint64_t show(uint64_t at, const uint8_t *from, uint64_t length, uint8_t 
 }
 
 static void serve_one(void) {
-    uint64_t ask[7], say[7] = {0};
+    uint64_t ask[9], say[11] = {0};
     get(ask, sizeof ask);
     uint64_t function = ask[0], sheet_length = ask[1], lent_length = ask[2], part_length = ask[3], output_length = ask[4];
-    uint8_t byte = (uint8_t)ask[6];
+    uint64_t waiting_length = ask[5], report_length = ask[6], ended = ask[7];
+    uint8_t byte = (uint8_t)ask[8];
     uint8_t *s = lend(&sheet, sheet_length), *l = lend(&list_or_state, lent_length), *p = lend(&part, part_length);
-    uint8_t *o = lend(&output, output_length);
-    uint64_t *c = (uint64_t *)lend(&counts, 24);
+    uint8_t *o = lend(&output, output_length), *w = lend(&waiting, waiting_length), *r = lend(&report, report_length);
+    uint64_t *c = (uint64_t *)lend(&counts, 40);
     get(s, sheet_length);
-    if (function == RUN) get(l, lent_length); else fill(l, lent_length, byte);
+    if (function == RUN || function == SALVAGE) get(l, lent_length); else fill(l, lent_length, byte);
     get(p, part_length);
+    get(w, waiting_length);
     fill(o, output_length, byte);
+    fill(r, report_length, byte);
     protect(&sheet, 1);
     protect(&part, 1);
     if (function == CHECK) say[0] = wickpollen_check(s, sheet_length, l, lent_length);
-    c[0] = c[1] = c[2] = 0x5A5A5A5A5A5A5A5A;
+    for (int i = 0; i < 5; i++) c[i] = 0x5A5A5A5A5A5A5A5A;
 #ifdef RUNS
     if (function == FRESH) say[0] = wickpollen_fresh(l, lent_length);
-    if (function == RUN) {
-        say[0] = wickpollen_run(s, sheet_length, l, lent_length, p, part_length, ask[5], o, output_length, c);
-        say[1] = c[0], say[2] = c[1], say[3] = c[2];
-    }
+    if (function == RUN) say[0] = wickpollen_run(s, sheet_length, l, lent_length, p, part_length, ended, o, output_length, c);
 #endif
-    say[4] = broken(&sheet, sheet_length) | broken(&list_or_state, lent_length) | broken(&part, part_length)
-        | broken(&output, output_length) | broken(&counts, 24);
+#ifdef SALVAGES
+    if (function == SALVAGE_FRESH) say[0] = wickpollen_salvage_fresh(l, lent_length);
+    if (function == SALVAGE)
+        say[0] = wickpollen_salvage(s, sheet_length, l, lent_length, p, part_length, ended, o, output_length, w, waiting_length, r, report_length, c);
+#endif
+    for (int i = 0; i < 5; i++) say[1 + i] = c[i];
+    say[6] = broken(&sheet, sheet_length) | broken(&list_or_state, lent_length) | broken(&part, part_length)
+        | broken(&output, output_length) | broken(&waiting, waiting_length) | broken(&report, report_length) | broken(&counts, 40);
     protect(&sheet, 3);
     protect(&part, 3);
-    say[5] = show(sizeof say, l, lent_length, byte);
-    say[6] = show(sizeof say + say[5], o, output_length, byte);
+    uint64_t end = sizeof say;
+    end += say[7] = show(end, l, lent_length, byte);
+    end += say[8] = show(end, o, output_length, byte);
+    end += say[9] = show(end, w, waiting_length, byte);
+    end += say[10] = show(end, r, report_length, byte);
     for (int i = 0; i < (int)sizeof say; i++) answer[i] = ((uint8_t *)say)[i];
-    put(answer, sizeof say + say[5] + say[6]);
+    put(answer, end);
 }
 
 void serve(void) {
-    make(&sheet), make(&list_or_state), make(&part), make(&output), make(&counts);
+    make(&sheet), make(&list_or_state), make(&part), make(&output), make(&waiting), make(&report), make(&counts);
     for (;;) serve_one();
 }

@@ -1,6 +1,7 @@
 //! One case: one call of the library held against the model, with everything that was lent.
 
 use crate::model::run::{run, Call};
+use crate::model::salvage;
 use crate::model::state::{State, LENGTH};
 use crate::model::{check, number_with_room};
 use crate::random::Random;
@@ -22,6 +23,15 @@ pub struct Lent<'a> {
     pub ended: bool,
     pub room: usize,
 }
+
+/// What a salvage call is given besides: the waiting area, and the bytes of the report.
+pub struct Spare<'a> {
+    pub waiting: &'a [u8],
+    pub report: usize,
+}
+
+/// What a salvage call left: the number, the bytes taken, the state and the waiting area.
+pub type Salvaged = (u8, usize, Vec<u8>, Vec<u8>);
 
 type Outcome<T> = Result<T, String>;
 
@@ -91,6 +101,42 @@ impl Compare {
         }
     }
 
+    /// A fresh state of a salvage run in an area of `room` bytes.
+    pub fn salvage_fresh(&mut self, random: &mut Random, room: usize) -> Outcome<()> {
+        let fill = random.byte();
+        let case = || format!("salvage_fresh, an area of {room} bytes of {fill:02x}");
+        let said = self.subject.call(&Ask::SalvageFresh { room }, fill).map_err(|error| format!("{error}\n{}", case()))?;
+        let fits = room >= salvage::LENGTH;
+        self.count("salvage_fresh", fits as u8);
+        let mut area = if fits { salvage::fresh() } else { Vec::new() };
+        let answer = area.len() as u64;
+        area.resize(room, fill);
+        if said.answer == answer && said.area == area { Ok(()) } else { Err(format!("{}\nthe library: {} and {}", case(), said.answer, hex(&said.area))) }
+    }
+
+    /// One call of the salvage run.
+    pub fn salvage(&mut self, random: &mut Random, lent: &Lent, spare: &Spare) -> Outcome<Salvaged> {
+        let fill = random.byte();
+        let Lent { sheet, state, part, ended, room } = *lent;
+        let Spare { waiting, report } = *spare;
+        let said = self.subject.call(&Ask::Salvage { sheet, state, part, ended: ended as u64, room, waiting, report }, fill);
+        let case = || {
+            let lent = format!("salvage, ended {ended}, {room} bytes of {fill:02x} for the output, {report} for the report");
+            format!("{lent}\nsheet {}\nstate {}\npart {}\nwaiting {}", hex(sheet), hex(state), hex(part), hex(waiting))
+        };
+        let said = said.map_err(|error| format!("{error}\n{}", case()))?;
+        let call = salvage::salvage(sheet, state, part, ended, room, waiting, report / 24);
+        self.count("salvage", call.number);
+        match salvage_difference(&call, &said, lent, spare, fill) {
+            None => Ok((call.number, call.taken, said.area, said.waiting)),
+            Some(what) => {
+                let counts = (call.taken, call.output.len(), call.report.len(), call.waited, call.visits);
+                let theirs = format!("the library: {} counts {:?}", said.answer, said.counts);
+                Err(format!("{what} differs\n{}\nthe model: {} counts {counts:?}\n{theirs}\nstate {}", case(), call.number, hex(&said.area)))
+            }
+        }
+    }
+
     fn count(&mut self, function: &'static str, number: u8) {
         self.cases += 1;
         *self.met.entry((function, number)).or_default() += 1;
@@ -123,6 +169,27 @@ fn difference(call: &Call, said: &Said, given: &[u8], fill: u8) -> Option<&'stat
         Some(state) => said.area == state.write(),
     };
     (!state_is_right).then_some("the state")
+}
+
+/// The same of a salvage call.
+fn salvage_difference(call: &salvage::Call, said: &Said, lent: &Lent, spare: &Spare, fill: u8) -> Option<&'static str> {
+    let filled = |bytes: &[u8], length: usize| [bytes, &vec![fill; length - bytes.len()]].concat();
+    let entry = |lost: &salvage::Lost| [lost.first, lost.last, lost.number as u64].map(u64::to_le_bytes).concat();
+    let report: Vec<u8> = call.report.iter().flat_map(entry).collect();
+    let counts = [call.taken, call.output.len(), call.report.len(), call.waited].map(|count| count as u64);
+    let (state, waiting) = match &call.left {
+        None => (lent.state, spare.waiting),
+        Some((state, waiting)) => (&state[..], &waiting[..]),
+    };
+    let tests = [
+        ("the number", said.answer == call.number as u64),
+        ("a count", said.counts[..4] == counts && call.visits.map_or(true, |visits| said.counts[4] == visits)),
+        ("the output", said.output == filled(&call.output, lent.room)),
+        ("the report", said.report == filled(&report, spare.report)),
+        ("the state", said.area == state),
+        ("the waiting area", said.waiting == waiting),
+    ];
+    tests.into_iter().find(|test| !test.1).map(|test| test.0)
 }
 
 fn show(answer: u64) -> String {

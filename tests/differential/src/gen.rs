@@ -2,6 +2,7 @@
 
 pub mod corners;
 pub mod damage;
+pub mod days;
 pub mod limits;
 pub mod programs;
 pub mod sheets;

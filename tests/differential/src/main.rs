@@ -1,6 +1,6 @@
 //! Holds the proved library against the model on random calls. See README.md beside the source.
 //!
-//!     compare COUNT SEED WHAT DRIVER...    WHAT is "sheets" where the library has only the checker
+//!     compare COUNT SEED WHAT DRIVER...    WHAT is "sheets" where the library has only the checker, "salvage" where it has the salvage run too
 
 #![cfg_attr(test, allow(dead_code))] // the worked examples need neither the driver nor the random cases
 
@@ -25,7 +25,7 @@ fn main() {
     };
     let subject = subject::Subject::start(&words[4..]).expect("the driver starts");
     let mut compare = compare::Compare::new(subject);
-    let outcome = all(&mut compare, count as usize, seed, words[3] != "sheets");
+    let outcome = all(&mut compare, count as usize, seed, words[3] != "sheets", words[3] == "salvage");
     for ((function, number), times) in &compare.met {
         println!("{function} {number}: {times}");
     }
@@ -38,7 +38,7 @@ fn main() {
     }
 }
 
-fn all(compare: &mut compare::Compare, count: usize, seed: u64, runs: bool) -> Result<(), String> {
+fn all(compare: &mut compare::Compare, count: usize, seed: u64, runs: bool, salvages: bool) -> Result<(), String> {
     let mut random = random::Random::new(seed);
     for sheet in gen::limits::sheets() {
         upload::limit(&mut random, compare, &sheet, runs)?;
@@ -49,6 +49,8 @@ fn all(compare: &mut compare::Compare, count: usize, seed: u64, runs: bool) -> R
     while compare.cases < count {
         match random.below(100) {
             0 if runs => upload::fresh(&mut random, compare)?,
+            41 if salvages => upload::salvage_fresh(&mut random, compare)?,
+            42..=75 if salvages => upload::salvage(&mut random, compare)?,
             1..=40 if runs => upload::run(&mut random, compare)?,
             _ => upload::check(&mut random, compare)?,
         }

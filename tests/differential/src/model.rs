@@ -4,6 +4,7 @@
 pub mod faults;
 pub mod programs;
 pub mod run;
+pub mod salvage;
 pub mod sheet;
 pub mod state;
 pub mod tokens;

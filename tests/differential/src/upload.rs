@@ -1,8 +1,9 @@
 //! An upload: one sheet, one stream, and calls over its parts until the state is closed. Each call is a case.
 
-use crate::compare::{Compare, Lent};
+use crate::compare::{Compare, Lent, Spare};
 use crate::gen::corners::Case;
-use crate::gen::{damage, sheets, streams};
+use crate::gen::{damage, days, sheets, streams};
+use crate::model::salvage;
 use crate::model::sheet::Sheet;
 use crate::model::state::{State, FRAMES, LENGTH};
 use crate::random::Random;
@@ -90,6 +91,43 @@ pub fn run(random: &mut Random, compare: &mut Compare) -> Result<(), String> {
         }
         if random.once_in(30) {
             aside(random, compare, &sheet, &state, &stream[at..])?;
+        }
+    }
+    Ok(())
+}
+
+pub fn salvage_fresh(random: &mut Random, compare: &mut Compare) -> Result<(), String> {
+    let room = *random.pick(&[0, 1, LENGTH, salvage::LENGTH - 1, salvage::LENGTH, salvage::LENGTH + 1]);
+    compare.salvage_fresh(random, room)
+}
+
+/// A salvage run over a day of records, some of them damaged, in parts and with rooms.
+pub fn salvage(random: &mut Random, compare: &mut Compare) -> Result<(), String> {
+    let sheet = days::sheet(random);
+    let stream = days::stream(random, &sheet);
+    let longest = *random.pick(&[1, 6, 40, 100_000, 100_000]);
+    let room = *random.pick(&[1, 20, 60, 60_000, 60_000, 60_000]);
+    let area = *random.pick(&[0, 8, 30, 4_000, 4_000, 4_000]);
+    let entries = *random.pick(&[0, 24, 47, 1_000, 1_000]);
+    let harm = *random.pick(&[3, 1000, 1000]);
+    let (mut state, mut waiting) = (salvage::fresh(), (0..area).map(|_| random.byte()).collect::<Vec<u8>>());
+    let (mut at, mut wider) = (0, 0);
+    for _ in 0..MOST_CALLS {
+        let left = &stream[at..];
+        let part = &left[..left.len().min(random.below(longest + 1) + wider)];
+        let ended = part.len() == left.len() && !random.once_in(4);
+        let lent = Lent { sheet: &sheet, state: &state, part, ended, room: random.below(room) + wider };
+        let spare = Spare { waiting: &waiting, report: random.below(entries + 1) + wider };
+        let (number, taken, after, left_waiting) = compare.salvage(random, &lent, &spare)?;
+        if number != 16 && number != 17 {
+            let again = Lent { state: &after, ..lent };
+            return compare.salvage(random, &again, &Spare { waiting: &left_waiting, report: 48 }).map(|_| ());
+        }
+        wider = if taken == 0 { 2 * wider + 1 } else { 0 };
+        (at, state, waiting) = (at + taken, after, left_waiting);
+        waiting.resize(waiting.len() + wider.min(64), 0);
+        if random.once_in(harm) {
+            days::harm(random, &mut state);
         }
     }
     Ok(())

@@ -2,6 +2,7 @@
 
 use crate::gen::limits;
 use crate::model::run::{run, Call};
+use crate::model::salvage;
 use crate::model::sheet::{Body, Node, Sheet};
 use crate::model::state::State;
 use crate::model::tokens::{self, Answer, Event};
@@ -443,4 +444,37 @@ fn words_of(node: &Node, longest: usize) -> BTreeSet<Vec<Symbol>> {
 fn joined(left: &BTreeSet<Vec<Symbol>>, right: &BTreeSet<Vec<Symbol>>, longest: usize) -> BTreeSet<Vec<Symbol>> {
     let pairs = left.iter().flat_map(|l| right.iter().map(move |r| [&l[..], &r[..]].concat()));
     pairs.filter(|word| word.len() <= longest).collect()
+}
+
+/// day, echoed, holds p*; p holds t; t holds characters.
+fn day() -> Vec<u8> {
+    let mut root = rule(0, 0, Some(star(n(1))));
+    root.visits.first = Some(0);
+    Plan {
+        tags: names(&["day", "p", "t"]),
+        productions: vec![root, rule(1, 1, Some(n(2))), rule(2, 2, Some(star(character())))],
+        programs: vec![vec![8, 0]],
+        ..Plan::default()
+    }
+    .bytes()
+}
+
+#[test]
+fn worked_salvage() {
+    let (one, two) = ("<day><p><t>A</t></p>", "<p><t>C</t></p></day>");
+    let kept = format!("{one}{two}");
+    let rows = [
+        ("<day>\n<p><t>A</t></p>\n<p><t>B<t></p>\n<p><t>C</t></p>\n</day>\n", 0, &kept[..], 28, vec![(22, 36, 23)]),
+        ("<day>\n<p><t>A</t></p>\n<p><t>B</t>\n<p><t>C</t></p>\n</day>\n", 0, &kept[..], 28, vec![(22, 33, 23)]),
+        ("<day><p><t>A</t></p><p><t>B<p/><p ><t>C</t></p></day>", 0, "<day><p><t>A</t></p></day>", 16, vec![(20, 46, 23)]),
+        ("<day><p><t>A</t></p><p><t>B", 27, one, 13, vec![(20, 26, 27)]),
+        ("<day><p><t>A</t></p><p><t>B<x></p> </day >", 27, one, 13, vec![(20, 41, 23)]),
+        ("<day><p><t>A</t></p></p><p><t>B</t></p></day>", 22, one, 13, vec![]),
+    ];
+    for (stream, number, output, visits, report) in rows {
+        let call = salvage::salvage(&day(), &salvage::fresh(), stream.as_bytes(), true, 1000, &[0; 100], 10);
+        let told: Vec<(u64, u64, u8)> = call.report.iter().map(|lost| (lost.first, lost.last, lost.number)).collect();
+        let answer = (call.number, String::from_utf8(call.output).unwrap(), call.visits, told);
+        assert_eq!(answer, (number, output.to_string(), Some(visits), report), "{stream}");
+    }
 }

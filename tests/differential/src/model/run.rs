@@ -66,7 +66,7 @@ fn run_open(sheet: &Sheet, mut state: State, part: &[u8], ended: bool, room: usi
 }
 
 /// The number where no whole token is left, and what is left begins one.
-fn at_the_end(state: &State, left: &[u8], ended: bool) -> u8 {
+pub fn at_the_end(state: &State, left: &[u8], ended: bool) -> u8 {
     let root_closed = state.stack.is_empty() && state.rooted;
     match (ended, left.is_empty() && root_closed) {
         (false, _) => 16,
@@ -76,7 +76,7 @@ fn at_the_end(state: &State, left: &[u8], ended: bool) -> u8 {
 }
 
 /// One token on a copy of the state, so that a bad one changes nothing: the state after it and its output, or the number.
-fn step(sheet: &Sheet, state: &State, event: &Event, room: usize) -> Result<(State, Vec<u8>), u8> {
+pub fn step(sheet: &Sheet, state: &State, event: &Event, room: usize) -> Result<(State, Vec<u8>), u8> {
     let mut run = Run { sheet, state: state.clone(), output: Vec::new(), visits: 0 };
     match event {
         Event::Literal(c) if is_white_space(*c) && run.white_space_is_no_event() => {}

@@ -1,0 +1,13 @@
+pub mod Canonical
+pub mod Bytes
+pub mod Tail
+pub mod Returned
+pub mod Kept
+pub mod Modes
+pub mod Again
+pub mod Depths
+pub mod Deep
+pub mod Fits
+pub mod Waited
+pub mod Fed
+pub mod Numbers

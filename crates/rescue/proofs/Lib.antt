@@ -1,0 +1,10 @@
+pub mod Resumed
+pub mod One
+pub mod Whole
+pub mod Lift
+pub mod Onward
+pub mod Renumbered
+pub mod Shifted
+pub mod Parts
+pub mod Some
+pub mod Fed

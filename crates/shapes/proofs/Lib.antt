@@ -1,0 +1,5 @@
+pub mod Walks
+pub mod Stars
+pub mod Naming
+pub mod Telling
+pub mod Marking

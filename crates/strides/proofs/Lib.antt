@@ -1,0 +1,5 @@
+pub mod Basics
+pub mod Broken
+pub mod Records
+pub mod Others
+pub mod Strides
