@@ -1,4 +1,4 @@
-/* The sheet checker and the converter for hosts in C and C++. Build: `rt staticlib capi`, and link target/staticlib/libcapi.a; or
+/* The sheet checker, the converter, the salvage run, and the writer and the printer of rules as text, for hosts in C and C++. Build: `rt staticlib capi`, and link target/staticlib/libcapi.a; or
    `bin/install PREFIX`, and ask `pkg-config --cflags --libs wickpollen`.
 
    The numbers are those of the table in README.md. In every call the lent areas must not overlap, and each must hold as many bytes as
@@ -6,7 +6,8 @@
    run at the same time.
 
    The library is for x86-64 and needs of a C library memcpy and memset alone; it allocates nothing, opens nothing and has no variables. Its
-   stack is bounded by the sheet's limits: a call takes at most 24 kB of it, most of them for expressions nested 12 deep (bench/stack adds them up). */
+   stack is bounded by the sheet's limits: a call of wickpollen_check or wickpollen_run takes at most 24 kB of it, most of them for expressions nested 12 deep (bench/stack adds them up);
+   wickpollen_write keeps its stores there, some 220 kB, and wickpollen_print the strings that it has met, some 74 kB: give a thread that calls these half a megabyte. */
 #ifndef WICKPOLLEN_H
 #define WICKPOLLEN_H
 #include <stddef.h>
@@ -61,6 +62,26 @@ uint64_t wickpollen_fresh(uint8_t *state, size_t state_len);
    The sheet is tested in every call, so a part of some thousand bytes costs much less than as many small ones. */
 uint64_t wickpollen_run(const uint8_t *sheet, size_t sheet_len, uint8_t *state, size_t state_len, const uint8_t *part, size_t part_len,
                         uint64_t ended, uint8_t *out, size_t out_len, uint64_t *counts);
+
+/* Writes rules typed as text (the notation: examples/README.md) as a rule sheet. The answer's low byte is the number; the rest, answer / 256, goes with it:
+
+     0    the sheet stands in sheet[0 .. answer / 256), and every byte past it is as lent. It keeps the numbers 1 to 6; whether it passes, wickpollen_check says. 27928 bytes always suffice.
+     40   the text is no rule text, and this is the byte at which it cannot go on: some rule text begins with the bytes before it, and none with it too. The text's length where it ends too early.
+     41   it is one, but its different tags (64), programs (16384 bytes) or strings (8192) have no room in a sheet; the last byte of the first that has none.
+     43   the area is shorter than the sheet; the length needed.
+
+   With any number but 0 the area is as lent. The text may be of any length. */
+uint64_t wickpollen_write(const uint8_t *text, size_t text_len, uint8_t *sheet, size_t sheet_len);
+
+/* Prints a rule sheet as text, which wickpollen_write writes as a sheet that is the same by name. The answer as above:
+
+     0        the text stands in text[0 .. answer / 256), and every byte past it is as lent.
+     1 to 6   the sheet is none: as wickpollen_check; the rest is 0.
+     42       the different strings that its programs print have over 8192 bytes together; the rest is 0.
+     43       the area is shorter than the text; the length needed (20971520 bytes suffice).
+
+   With any number but 0 the area is as lent. */
+uint64_t wickpollen_print(const uint8_t *sheet, size_t sheet_len, uint8_t *text, size_t text_len);
 
 #ifdef __cplusplus
 }

@@ -909,20 +909,24 @@ def files():
     return {'data/cases.txt': cases, 'data/CASES.md': '\n'.join(said) + '\n', 'stdout': ''.join(lines)}
 
 
-def main():
-    crate = os.path.join(os.path.dirname(os.path.abspath(__file__)), '..', 'crates', 'sheets')
+def write_files(crate, texts, numbers):
+    """Writes a program's files, or with --check says whether they are these."""
+    folder = os.path.join(os.path.dirname(os.path.abspath(__file__)), '..', 'crates', crate)
     same = True
-    for name, text in files().items():
-        path = os.path.join(crate, name)
+    for name, text in texts.items():
+        path = os.path.join(folder, name)
         if '--check' in sys.argv:
             same = same and os.path.exists(path) and open(path, encoding='utf-8').read() == text
         else:
             os.makedirs(os.path.dirname(path), exist_ok=True)
             with open(path, 'w', encoding='utf-8', newline='\n') as file:
                 file.write(text)
-    numbers = [number for _, _, number, *_ in CASES]
-    print('%d cases; by number: %s' % (len(CASES), ', '.join('%d: %d' % (n, numbers.count(n)) for n in sorted(set(numbers)))))
+    print('%d cases; by number: %s' % (len(numbers), ', '.join('%d: %d' % (n, numbers.count(n)) for n in sorted(set(numbers)))))
     return 0 if same else 1
+
+
+def main():
+    return write_files('sheets', files(), [number for _, _, number, *_ in CASES])
 
 
 if __name__ == '__main__':

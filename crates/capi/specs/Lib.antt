@@ -1,4 +1,5 @@
 pub mod Packed
+pub mod Counted
 pub mod Started
 pub mod RunAnswer
 pub mod Hosts

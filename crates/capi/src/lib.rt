@@ -1,6 +1,9 @@
-// The checker and the converter for hosts in C: include/wickpollen.h.
+// The checker, the converter, the writer and the printer for hosts in C: include/wickpollen.h.
 ghost use mathlib.Core.Path.{_≡_};
-ghost use Prim.Native.Nat.{_+_, _*_, _≤_};
+ghost use Prim.Native.Nat.{_+_, _*_, _%_, _≤_, _<_};
+ghost use Rattle.writing.specs.Written.{WrittenAs};
+ghost use Rattle.printing.specs.Printed.{PrintedAs};
+ghost use Rattle.capi.specs.Counted.{counts, CountedAs};
 ghost use Rattle.capi.specs.Packed.{PackedAs};
 ghost use Rattle.capi.specs.Started.{StartedAs};
 ghost use Rattle.capi.specs.RunAnswer.{RunAs};
@@ -55,4 +58,34 @@ pub extern "C" fn wickpollen_run(
     let r = convert_bytes(sheet, area, part, ended != 0, out);
     *counts = [r.taken as u64, r.written as u64, r.visits];
     r.number as u64
+}
+
+// Counts in an answer stay below this.
+const COUNTS: usize = 72057594037927936;
+
+// A number and a count in one answer.
+fn counted(number: usize, count: usize) -> u64
+    requires { ⌜ number < 256 ⌝ }
+    ensures { λ w. ⌜ w ≡ 256 * (count % counts) + number ⌝ }
+{
+    let few = count % COUNTS;
+    256 * (few as u64) + (number as u64)
+}
+
+// Writes rules typed as text as a sheet, as writer::write does.
+#[no_mangle]
+pub extern "C" fn wickpollen_write(text: &[u8], sheet: &mut [u8]) -> u64
+    ensures { λ w. ⌜ CountedAs (WrittenAs (now (text .entry)) (now (sheet .entry))) (now (sheet .exit)) w ⌝ }
+{
+    let o = writer::write(text, sheet);
+    counted(o.number, o.count)
+}
+
+// Prints a sheet as text, as prints::print does.
+#[no_mangle]
+pub extern "C" fn wickpollen_print(sheet: &[u8], text: &mut [u8]) -> u64
+    ensures { λ w. ⌜ CountedAs (PrintedAs (now (sheet .entry)) (now (text .entry))) (now (text .exit)) w ⌝ }
+{
+    let p = prints::print(sheet, text);
+    counted(p.number as usize, p.count)
 }

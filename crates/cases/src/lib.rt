@@ -33,6 +33,7 @@ pub fn digit(b: u8) -> u8
 
 fn wide(b: u8) -> u64
     ensures { λ r. ⌜ r ≡ b ⌝ }
+    ensures { λ r. ⌜ r < 256 ⌝ }
 {
     b as u64
 }
@@ -106,6 +107,22 @@ pub fn is_kept(memory: &[u8], from: usize, lent: u8) -> bool
         i += 1;
     }
     true
+}
+
+// Marks stay below this.
+const MARKS: u64 = 4294967296;
+
+// A mark by which bytes are told apart, carried on from that of the bytes before them.
+pub fn mark(before: u64, bytes: &[u8]) -> u64
+    ensures { λ r. ⌜ r < 4294967296 ⌝ }
+{
+    let mut m = before % MARKS;
+    let mut i = 0;
+    while i < bytes.len() {
+        m = (31 * m + wide(bytes[i]) + 1) % MARKS;
+        i += 1;
+    }
+    m
 }
 
 // More than any byte: there is none left.

@@ -2,8 +2,8 @@
 ghost use mathlib.Core.Path.{_≡_};
 ghost use Prim.Native.Nat.{_≤_, _<_, min};
 ghost use lib.ListN.{length};
-use crate::place::CARRIAGE_RETURN;
-use crate::place::ends_line;
+use places::CARRIAGE_RETURN;
+use places::ends_line;
 use state::State;
 use std::num::wrapping_add_u64;
 use std::num::wrapping_add_usize;
@@ -162,6 +162,20 @@ impl Lines {
         }
     }
 
+    // After some bytes more, which start on a line: the root is the element of the first tag.
+    fn root_after(self, passed: &[u8], line: u64) -> Lines {
+        let tag = to_tag(passed, 0, line);
+        if (self.depth > 0) | (tag.at == passed.len()) {
+            return self;
+        }
+        let mut lines = self.lines;
+        lines[0] = tag.line;
+        Lines {
+            depth: 1,
+            lines: lines,
+        }
+    }
+
     // After some bytes more, which are whole tokens and start on a line: a tag starts with each <
     fn after(self, passed: &[u8], line: u64) -> Passed {
         let mut lines = self.lines;
@@ -210,6 +224,18 @@ impl Behind {
     pub(crate) fn after(self, passed: &[u8], lines: Lines) -> Behind {
         let old = self.tail;
         let tail = old.after(passed);
+        Behind {
+            tail: tail,
+            lines: lines,
+        }
+    }
+
+    // Past some bytes of which not all were taken, by a run that drops what is damaged: of the open elements only the root's line is kept, whose tag is the first.
+    pub fn rooted(self, passed: &[u8], line: u64) -> Behind {
+        let old = self.tail;
+        let tail = old.after(passed);
+        let began = self.lines;
+        let lines = began.root_after(passed, line);
         Behind {
             tail: tail,
             lines: lines,

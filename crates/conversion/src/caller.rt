@@ -29,7 +29,7 @@ impl Caller {
     }
 
     // Whether somebody listened and is no more: then nobody would know that a listing is put in place, perhaps over a newer one.
-    pub(crate) fn is_gone(self) -> bool {
+    pub fn is_gone(self) -> bool {
         if !self.listens {
             return false;
         }

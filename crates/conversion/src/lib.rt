@@ -2,21 +2,24 @@
 // when the whole schedule was taken: a refusal, a full disk or a killed process leaves the listing that was there.
 mod behind;
 mod caller;
-mod place;
+mod messages;
 mod run;
-mod telling;
 
 ghost use Rattle.io.specs.Counts.{Counts};
+pub use behind::Behind;
 pub use caller::Caller;
-use run::Standing;
+use messages::tell_done;
+pub use messages::tell_number;
+pub use messages::tell_place;
+use messages::tell_refusal;
+use messages::tell_tried;
+pub use messages::tell_untouched;
+pub use rulebooks::FILE;
+pub use run::Standing;
+pub use run::end_progress;
 use run::run;
-use telling::tell_done;
-use telling::tell_refusal;
-use telling::tell_tried;
-use telling::tell_untouched;
-
-// A file could not be read or written: a number that the paper's table has not.
-pub const FILE: u64 = 102;
+pub use run::tell_progress;
+pub use run::write_out;
 
 // In place of a descriptor: there is no file to write to.
 const NO_FILE: i32 = -1;
@@ -38,7 +41,7 @@ fn is_broken(s: Standing) -> bool {
 }
 
 // Whether it came to an end with a number other than 0.
-fn is_refused(s: Standing) -> bool {
+pub fn is_refused(s: Standing) -> bool {
     (s.number > 0) & !is_broken(s)
 }
 
@@ -54,7 +57,7 @@ fn tell_broken(schedule: &[u8], listing: &[u8], s: Standing) {
 
 // Ends a run: the new file takes the listing's place, or is taken away, and then the reason is told (what is taken away without trouble
 // leaves errno).
-fn settle(
+pub fn settle(
     sheet: &[u8],
     sheet_path: &[u8],
     schedule: &[u8],
@@ -90,7 +93,7 @@ const FRONT: usize = 64;
 
 // Where something was refused, reads on behind the bytes that were not taken, so that what is shown does not depend on where a part ended. Answers how
 // many bytes there are to look at.
-fn top_up(from: i32, part: &mut [u8], held: usize, refused: bool) -> usize
+pub fn top_up(from: i32, part: &mut [u8], held: usize, refused: bool) -> usize
     ensures { λ r. ⌜ Counts r (now (part .exit)) ⌝ }
 {
     if !refused {
@@ -99,6 +102,85 @@ fn top_up(from: i32, part: &mut [u8], held: usize, refused: bool) -> usize
     let n = files::within(FRONT, part);
     let filled = files::fill(from, &mut part[..n], held);
     files::within(filled.held, part)
+}
+
+// The files of a conversion: 0, how long the sheet is, the schedule that is open, the new file that is open and how long its name is; or the number that
+// was told.
+pub struct Begun {
+    pub number: u64,
+    pub length: usize,
+    pub from: i32,
+    pub to: i32,
+    pub name: usize,
+}
+
+impl Begun {
+    fn failed() -> Begun {
+        Begun::ended(FILE)
+    }
+
+    // It came to an end before it began, with a number that was told.
+    fn ended(number: u64) -> Begun {
+        Begun {
+            number: number,
+            length: 0,
+            from: NO_FILE,
+            to: NO_FILE,
+            name: 0,
+        }
+    }
+}
+
+// Makes the new file beside the listing, and puts its name into the memory.
+fn begin_listing(
+    listing: &[u8],
+    name: &mut [u8],
+    from: i32,
+    length: usize,
+    caller: Caller,
+) -> Begun {
+    let made = files::new_beside(listing, name);
+    let to = made.fd;
+    let n = made.length;
+    if to < 0 {
+        os::fail(listing);
+        tell_untouched(listing);
+        libc::close(from);
+        return Begun::failed();
+    }
+    if !caller.hears_of(&name[..n]) {
+        files::take_away(to, &name[..n]);
+        libc::close(from);
+        return Begun::failed();
+    }
+    Begun {
+        number: 0,
+        length: length,
+        from: from,
+        to: to,
+        name: n,
+    }
+}
+
+// Reads the rules at sheet_path into the memory as a sheet, opens the schedule, and makes the new file beside the listing.
+pub fn begin(
+    sheet_path: &[u8],
+    schedule: &[u8],
+    listing: &[u8],
+    sheet: &mut [u8],
+    name: &mut [u8],
+    caller: Caller,
+) -> Begun {
+    let loaded = rulebooks::load(sheet_path, sheet);
+    if loaded.number > 0 {
+        return Begun::ended(loaded.number);
+    }
+    let from = os::open_read(schedule);
+    if from < 0 {
+        os::fail(schedule);
+        return Begun::failed();
+    }
+    begin_listing(listing, name, from, loaded.length, caller)
 }
 
 // From a schedule that is open into a new file that is open.
@@ -129,56 +211,47 @@ fn convert_open(
     )
 }
 
-// From a schedule that is open, into a new file beside the listing.
-fn convert_beside(
-    sheet: &[u8],
-    sheet_path: &[u8],
-    schedule: &[u8],
-    from: i32,
-    listing: &[u8],
-    caller: Caller,
-) -> u64 {
+// Puts some bytes in place as a file at path, as a listing is: from a new file beside it, whole or not at all.
+pub fn put_file(path: &[u8], bytes: &[u8], caller: Caller) -> bool {
     let mut name = io::buffer();
-    let made = files::new_beside(listing, &mut name);
+    let made = files::new_beside(path, &mut name);
     let to = made.fd;
     let n = made.length;
     if to < 0 {
-        os::fail(listing);
-        tell_untouched(listing);
-        return FILE;
+        os::fail(path);
+        return false;
     }
-    if !caller.hears_of(&name[..n]) {
+    let written = caller.hears_of(&name[..n]) && io::write_all(to, bytes);
+    if !written | caller.is_gone() {
         files::take_away(to, &name[..n]);
-        return FILE;
+        os::fail(path);
+        return false;
     }
-    convert_open(
-        sheet,
-        sheet_path,
-        schedule,
-        from,
-        listing,
-        to,
-        &name[..n],
-        caller,
-    )
+    files::put_in_place(to, &name[..n], path)
 }
 
-// Converts the file at schedule by the sheet at sheet_path into a file at listing, says what came of it, and answers the number of the
+// Converts the file at schedule by the rules at sheet_path into a file at listing, says what came of it, and answers the number of the
 // table, or FILE.
 pub fn convert_files(sheet_path: &[u8], schedule: &[u8], listing: &[u8], caller: Caller) -> u64 {
     let mut sheet = io::large_buffer();
-    let whole = files::read_whole(sheet_path, &mut sheet);
-    if whole.failed {
-        return FILE;
+    let mut name = io::buffer();
+    let b = begin(sheet_path, schedule, listing, &mut sheet, &mut name, caller);
+    if b.number > 0 {
+        return b.number;
     }
-    let n = whole.held;
-    let from = os::open_read(schedule);
-    if from < 0 {
-        os::fail(schedule);
-        return FILE;
-    }
-    let number = convert_beside(&sheet[..n], sheet_path, schedule, from, listing, caller);
-    libc::close(from);
+    let n = files::within(b.length, &sheet);
+    let m = files::within(b.name, &name);
+    let number = convert_open(
+        &sheet[..n],
+        sheet_path,
+        schedule,
+        b.from,
+        listing,
+        b.to,
+        &name[..m],
+        caller,
+    );
+    libc::close(b.from);
     number
 }
 
@@ -202,11 +275,11 @@ fn try_open(sheet: &[u8], sheet_path: &[u8], schedule: &[u8], from: i32, caller:
 // Says what convert_files would say of the same sheet and schedule, answers the same number, and writes no file.
 pub fn try_files(sheet_path: &[u8], schedule: &[u8], caller: Caller) -> u64 {
     let mut sheet = io::large_buffer();
-    let whole = files::read_whole(sheet_path, &mut sheet);
-    if whole.failed {
-        return FILE;
+    let loaded = rulebooks::load(sheet_path, &mut sheet);
+    if loaded.number > 0 {
+        return loaded.number;
     }
-    let n = whole.held;
+    let n = files::within(loaded.length, &sheet);
     let from = os::open_read(schedule);
     if from < 0 {
         os::fail(schedule);

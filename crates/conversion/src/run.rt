@@ -2,10 +2,10 @@
 ghost use Rattle.io.specs.Counts.{Counts};
 use crate::behind::Behind;
 use crate::caller::Caller;
-use crate::place::Place;
 use converter::Reply;
 use converter::convert;
 use libc::STDERR_FILENO;
+use places::Place;
 use state::State;
 
 // Where a conversion stands between two calls of the converter: the last number, how many bytes at the front of the lent memory are not
@@ -34,7 +34,7 @@ const FULL: usize = 17;
 const STEP: u64 = 8388608;
 
 impl Standing {
-    fn fresh() -> Standing {
+    pub fn fresh() -> Standing {
         let place = Place::start();
         let behind = Behind::start();
         let state = State::fresh();
@@ -53,7 +53,7 @@ impl Standing {
     }
 
     // A file could not be read or written: nothing more is done.
-    fn stopped(self, unread: bool) -> Standing {
+    pub fn stopped(self, unread: bool) -> Standing {
         let mut next = self;
         next.unread = unread;
         next.unwritten = !unread;
@@ -62,30 +62,49 @@ impl Standing {
     }
 
     // Whoever started it is gone: nobody waits for a listing any more.
-    fn forsaken(self) -> Standing {
+    pub fn forsaken(self) -> Standing {
         let mut next = self;
         next.left_alone = true;
         next.going = false;
         next
     }
 
-    // After a call whose output was written out: the place past what was taken, what is kept of it, and how many bytes are left.
-    fn answered(self, r: Reply, place: Place, behind: Behind, held: usize) -> Standing {
-        let state = r.state;
-        let number = r.number;
-        let written = r.written;
+    // After a call that came to a number, and whose output of so many bytes was written out: the place past what was taken, and what is kept of it. Where some room
+    // was full it goes on if anything came of the call.
+    pub fn answered(
+        self,
+        number: usize,
+        written: usize,
+        moved: bool,
+        place: Place,
+        behind: Behind,
+    ) -> Standing {
+        let state = self.state;
         Standing {
             number: number,
-            held: held,
+            held: self.held,
             written: std::num::wrapping_add_u64(self.written, written as u64),
             place: place,
             behind: behind,
             unread: false,
             unwritten: false,
             left_alone: false,
-            going: (number == MORE) | ((number == FULL) & (written > 0)),
+            going: (number == MORE) | ((number == FULL) & moved),
             state: state,
         }
+    }
+
+    // With so many bytes that are not taken yet.
+    pub fn holding(self, held: usize) -> Standing {
+        let mut next = self;
+        next.held = held;
+        next
+    }
+
+    pub fn with_state(self, state: State) -> Standing {
+        let mut next = self;
+        next.state = state;
+        next
     }
 }
 
@@ -98,11 +117,14 @@ fn go_on(part: &mut [u8], held: usize, s: Standing, r: Reply) -> Standing {
     let past = place.after(&part[..taken], passed.line);
     let behind = was.after(&part[..taken], passed.lines);
     let left = files::move_to_front(part, taken, held);
-    s.answered(r, past, behind, left)
+    let next = s.answered(r.number, r.written, r.written > 0, past, behind);
+    let after = next.holding(left);
+    let state = r.state;
+    after.with_state(state)
 }
 
 // Writes output out; where there is no file for it, as in a trial, that is done at once.
-fn write_out(to: i32, output: &[u8]) -> bool {
+pub fn write_out(to: i32, output: &[u8]) -> bool {
     if to < 0 {
         return true;
     }
@@ -164,7 +186,7 @@ fn turn_for(
 }
 
 // Says how far it is, at every step, to whoever watches.
-fn tell_progress(watched: bool, before: u64, now: u64) {
+pub fn tell_progress(watched: bool, before: u64, now: u64) {
     if !watched | (now / STEP == before / STEP) {
         return;
     }
@@ -173,7 +195,7 @@ fn tell_progress(watched: bool, before: u64, now: u64) {
     io::write_all(STDERR_FILENO, b" MB converted");
 }
 
-fn end_progress(watched: bool, now: u64) {
+pub fn end_progress(watched: bool, now: u64) {
     if watched & (now >= STEP) {
         io::write_all(STDERR_FILENO, b"\n");
     }

@@ -1,4 +1,4 @@
-// The program that people run: wickpollen check SHEET, wickpollen try SHEET SCHEDULE, wickpollen convert SHEET SCHEDULE LISTING, wickpollen help.
+// The program that people run: wickpollen check RULES, write RULES SHEET, print SHEET, try RULES SCHEDULE, convert RULES SCHEDULE LISTING, help. RULES is a sheet, or rules as text.
 // What is found goes to standard output; the last line of standard error is always "wickpollen: N". A program here has no exit status: where the
 // first word is --tell, as from bin/wickpollen, the number is told on a descriptor of its own too, and becomes the exit status there.
 ghost use mathlib.Core.Path.{_≡_};
@@ -19,13 +19,17 @@ fn complain(text: &[u8]) {
 
 fn usage() -> u64 {
     complain(
-        b"usage: wickpollen check SHEET                       say whether the rule sheet passes, and every place to mend\n",
+        b"usage: wickpollen check RULES                       say whether the rules pass, and every place to mend\n",
     );
     complain(
-        b"       wickpollen try SHEET SCHEDULE                say what convert would say, and write nothing\n",
+        b"       wickpollen write RULES SHEET                 write rules that pass as a rule sheet, and put it in place\n",
+    );
+    complain(b"       wickpollen print SHEET                       print a rule sheet as text\n");
+    complain(
+        b"       wickpollen try RULES SCHEDULE                say what convert would say, and write nothing\n",
     );
     complain(
-        b"       wickpollen convert SHEET SCHEDULE LISTING    convert the schedule by the sheet, and put the listing in place\n",
+        b"       wickpollen convert RULES SCHEDULE LISTING    convert the schedule by the rules, and put the listing in place\n",
     );
     complain(
         b"       wickpollen help                              say what the commands and the numbers mean (--help does too)\n",
@@ -34,24 +38,37 @@ fn usage() -> u64 {
     USAGE
 }
 
+fn help_rules() {
+    say(
+        b"RULES is a file with rules as text, or a rule sheet: a file that holds a byte 0 is a sheet.\n",
+    );
+    say(b"wickpollen check RULES\n");
+    say(b"    Checks the rules, and says whether they pass or which places to mend.\n");
+    say(b"wickpollen write RULES SHEET\n");
+    say(
+        b"    Writes the rules as a rule sheet into the file SHEET, if they pass; else says what check says, and SHEET is as it was.\n",
+    );
+    say(b"wickpollen print SHEET\n");
+    say(
+        b"    Prints the rule sheet in the file SHEET as text, and nothing else; what is refused is told on standard error.\n",
+    );
+}
+
 fn help_commands() {
-    say(b"wickpollen check SHEET\n");
+    help_rules();
+    say(b"wickpollen try RULES SCHEDULE [--progress]\n");
     say(
-        b"    Checks the rule sheet in the file SHEET, and says whether it passes or which places to mend.\n",
+        b"    Says what convert would say of the same rules and schedule, with the same number, and writes nothing.\n",
     );
-    say(b"wickpollen try SHEET SCHEDULE [--progress]\n");
+    say(b"wickpollen convert RULES SCHEDULE LISTING [--progress]\n");
     say(
-        b"    Says what convert would say of the same sheet and schedule, with the same number, and writes nothing.\n",
-    );
-    say(b"wickpollen convert SHEET SCHEDULE LISTING [--progress]\n");
-    say(
-        b"    Converts the file SCHEDULE by the rule sheet into the file LISTING. The listing is written to a new file beside it, LISTING and a\n",
+        b"    Converts the file SCHEDULE by the rules into the file LISTING. The listing is written to a new file beside it, LISTING and a\n",
     );
     say(
         b"    dot and six letters, which takes its name only when the whole schedule was taken: after any other end LISTING is as it was. LISTING\n",
     );
     say(
-        b"    must be a plain file or no file yet, and neither SHEET nor SCHEDULE. How far it is, is said on standard error at every 8 MB if that\n",
+        b"    must be a plain file or no file yet, and neither RULES nor SCHEDULE. How far it is, is said on standard error at every 8 MB if that\n",
     );
     say(b"    is a terminal, or with --progress; else nothing is said before the end.\n");
     say(b"wickpollen help\n");
@@ -105,12 +122,81 @@ fn version() -> u64 {
 
 fn check_file(path: &[u8]) -> u64 {
     let mut sheet = io::large_buffer();
-    let whole = files::read_whole(path, &mut sheet);
-    if whole.failed {
+    let loaded = rulebooks::load(path, &mut sheet);
+    if loaded.number > 0 {
+        return loaded.number;
+    }
+    let n = files::within(loaded.length, &sheet);
+    let number = report::report(path, &sheet[..n]);
+    if (number > 6) & (number < 10) {
+        rulebooks::say_lines(path);
+    }
+    number as u64
+}
+
+// Puts a sheet in place, and says so.
+fn put_sheet(path: &[u8], sheet: &[u8], caller: Caller) -> u64 {
+    if !conversion::put_file(path, sheet, caller) {
         return FILE;
     }
-    let n = whole.held;
-    report::report(path, &sheet[..n]) as u64
+    say(path);
+    say(b": written.\n");
+    0
+}
+
+// Writes the rules of a file as a sheet, if they pass.
+fn write_file(path: &[u8], to: &[u8], caller: Caller) -> u64 {
+    let number = check_file(path);
+    if number > 0 {
+        return number;
+    }
+    let mut sheet = io::large_buffer();
+    let loaded = rulebooks::load(path, &mut sheet);
+    if loaded.number > 0 {
+        return loaded.number;
+    }
+    let n = files::within(loaded.length, &sheet);
+    put_sheet(to, &sheet[..n], caller)
+}
+
+// Says on standard error why a sheet was not printed.
+fn refuse_print(path: &[u8], number: u64) -> u64 {
+    complain(path);
+    match number {
+        42 => complain(
+            b": the different strings that this sheet prints have over 8192 bytes together, so it has no text.\n",
+        ),
+        43 => complain(b": the text of this sheet is longer than 262144 bytes.\n"),
+        _ => complain(b": this is no whole sheet; wickpollen check says where it is wrong.\n"),
+    }
+    number
+}
+
+// Prints a sheet as text, by way of memory that is lent: nothing else goes to standard output. No more is printed than is read again.
+fn print_through(path: &[u8], sheet: &[u8], text: &mut [u8]) -> u64 {
+    let room = files::within(rulebooks::LONGEST, text);
+    let p = prints::print(sheet, &mut text[..room]);
+    if p.number > 0 {
+        return refuse_print(path, p.number as u64);
+    }
+    let n = files::within(p.count, text);
+    say(&text[..n]);
+    0
+}
+
+fn print_sheet(path: &[u8], sheet: &[u8]) -> u64 {
+    let mut text = rulebooks::memory();
+    print_through(path, sheet, &mut text)
+}
+
+fn print_file(path: &[u8]) -> u64 {
+    let mut sheet = io::large_buffer();
+    let loaded = rulebooks::load(path, &mut sheet);
+    if loaded.number > 0 {
+        return loaded.number;
+    }
+    let n = files::within(loaded.length, &sheet);
+    print_sheet(path, &sheet[..n])
 }
 
 fn same(a: &[u8], b: &[u8]) -> bool
@@ -129,18 +215,46 @@ fn same(a: &[u8], b: &[u8]) -> bool
     true
 }
 
-// `check` and its one file.
-fn run_check(told: bool) -> u64 {
+// `check` or `print` and its one file.
+fn run_on_one(told: bool, prints: bool) -> u64 {
     if !has_words(told, 3) {
         return usage();
     }
     let mut path = io::buffer();
     let n = word(told, 2, &mut path);
     if os::errno() != 0 {
+        os::fail(b"RULES");
+        return FILE;
+    }
+    if prints {
+        return print_file(&path[..n]);
+    }
+    check_file(&path[..n])
+}
+
+// `write`, with the name of its rules.
+fn write_into(rules: &[u8], told: bool) -> u64 {
+    let mut sheet = io::buffer();
+    let n = word(told, 3, &mut sheet);
+    if os::errno() != 0 {
         os::fail(b"SHEET");
         return FILE;
     }
-    check_file(&path[..n])
+    write_file(rules, &sheet[..n], Caller::this_one(false, told))
+}
+
+// `write` and its files.
+fn run_write(told: bool) -> u64 {
+    if !has_words(told, 4) {
+        return usage();
+    }
+    let mut rules = io::buffer();
+    let n = word(told, 2, &mut rules);
+    if os::errno() != 0 {
+        os::fail(b"RULES");
+        return FILE;
+    }
+    write_into(&rules[..n], told)
 }
 
 // `convert`, with the names of its sheet and its schedule.
@@ -173,7 +287,7 @@ fn run_files(told: bool, asked: bool, writes: bool) -> u64 {
     let mut sheet = io::buffer();
     let n = word(told, 2, &mut sheet);
     if os::errno() != 0 {
-        os::fail(b"SHEET");
+        os::fail(b"RULES");
         return FILE;
     }
     let watched = asked | (libc::isatty(STDERR_FILENO) == 1);
@@ -218,7 +332,13 @@ fn run_other(command: &[u8]) -> u64 {
 
 fn run_command(told: bool, command: &[u8]) -> u64 {
     if same(command, b"check") {
-        return run_check(told);
+        return run_on_one(told, false);
+    }
+    if same(command, b"print") {
+        return run_on_one(told, true);
+    }
+    if same(command, b"write") {
+        return run_write(told);
     }
     if same(command, b"try") {
         return run_conversion(told, 4, false);

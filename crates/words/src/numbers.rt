@@ -88,11 +88,33 @@ fn say_of_call(number: usize) {
     }
 }
 
+// What a number says of rules typed as text, or of a sheet printed as such, and what to do next.
+fn say_of_rules(number: usize) {
+    match number {
+        34 => say(
+            b"The sheet is not of the shape that can be salvaged: its start needs one production, which holds any number of one record, with a tag that nothing else has. Convert without --salvage, or write the rules so.",
+        ),
+        40 => say(
+            b"No rule goes on like this. Everything before it is right so far; mend it here.",
+        ),
+        41 => say(
+            b"The rules are right, but what they mention has no room in a sheet: at most 64 different tags, 16384 bytes of different programs and 8192 bytes of different strings. The first that is too many ends here; leave it out, shorten it, or use one again that stands above.",
+        ),
+        42 => say(
+            b"The sheet has no text: the different strings that its programs print have over 8192 bytes together. Let them print fewer or shorter strings.",
+        ),
+        _ => say(
+            b"The memory lent is shorter than what is to be written. Lend as many bytes as the count says.",
+        ),
+    }
+}
+
 // What a number of the table means, and what to do next.
 pub fn say_meaning(number: usize) {
     match number {
         0..=10 => say_of_sheet(number),
         20..=26 => say_of_token(number),
+        34..=43 => say_of_rules(number),
         _ => say_of_call(number),
     }
 }
@@ -100,7 +122,7 @@ pub fn say_meaning(number: usize) {
 // Whether the table has the number.
 fn is_number(n: usize) -> bool {
     match n {
-        0..=10 | 16 | 17 | 20..=30 => true,
+        0..=10 | 16 | 17 | 20..=30 | 34 | 40..=43 => true,
         _ => false,
     }
 }
@@ -120,7 +142,7 @@ fn say_row(n: usize) {
 // Every number with its words.
 pub fn table() {
     let mut n = 0;
-    while n < 31 {
+    while n < 44 {
         if is_number(n) {
             say_row(n);
         }

@@ -7,7 +7,7 @@ use Rattle.conversion.proofs.behind.to_tag.Statement.{statement}
 use Rattle.conversion.proofs.behind.to_tag.Tie as tie
 use Rattle.conversion.proofs.behind.to_tag.Reads as reads
 use Rattle.conversion.proofs.behind.to_tag.Lts as lts
-use Rattle.conversion.proofs.place.ends_line.Reads as ends-line-reads
+use Rattle.places.proofs.ends_line.Reads as ends-line-reads
 use Rattle.std.proofs.num.wrapping_add_u64.Reads as wrapping-add-u64-reads
 
 abbrev Inv-loop : tie.InvT-loop

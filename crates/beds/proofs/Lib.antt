@@ -1,0 +1,5 @@
+pub mod Lists
+pub mod Rows
+pub mod Beds
+pub mod Pieces
+pub mod Promises

@@ -1,0 +1,3 @@
+pub mod Nodes
+pub mod Bedded
+pub mod Promises

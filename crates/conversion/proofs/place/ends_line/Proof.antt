@@ -1,6 +1,0 @@
-use borrow.Author.Needs.{needs}
-use Rattle.conversion.proofs.place.ends_line.Statement.{statement}
-use Rattle.conversion.proofs.place.ends_line.Tie as tie
-
-pub ends-line-spec : {M : Type 1} → statement M
-ends-line-spec = tie.close (tie.spec (λ c. search needs) (λ c. search needs) (λ c. search needs) (λ c. search needs) (λ c. search needs) (λ c. search needs) (λ c. search needs))

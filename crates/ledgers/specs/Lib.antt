@@ -1,0 +1,3 @@
+pub mod Trodden
+pub mod Space
+pub mod Promises

@@ -1,0 +1,124 @@
+// Rules from a file: a sheet as it stands there, or a text, which is written as a sheet. What is wrong with a text is told.
+ghost use mathlib.Core.Path.{_≡_};
+ghost use lib.ListN.{length};
+ghost use Rattle.io.specs.Counts.{Counts};
+use files::within;
+use words::say;
+use words::say_meaning;
+use words::say_number;
+
+// A file could not be read: a number that the paper's table has not.
+pub const FILE: u64 = 102;
+
+// The longest text that is read from a file.
+pub const LONGEST: usize = 262144;
+
+// What came of it: 0, and how many bytes the sheet has; or the number that was told.
+pub struct Loaded {
+    pub number: u64,
+    pub length: usize,
+}
+
+fn failed(number: u64) -> Loaded {
+    Loaded {
+        number: number,
+        length: 0,
+    }
+}
+
+// Whether some bytes are a text: no sheet past number 2 is without a byte 0, and no text of rules holds one.
+pub fn is_text(bytes: &[u8]) -> bool {
+    let mut i = 0;
+    while i < bytes.len() {
+        if bytes[i] == 0 {
+            return false;
+        }
+        i += 1;
+    }
+    bytes.len() > 0
+}
+
+// Says why a text of rules has no sheet.
+fn tell(path: &[u8], text: &[u8], number: usize, at: usize) {
+    say(path);
+    say(b": number ");
+    say_number(number);
+    say(b".\n");
+    say_meaning(number);
+    say(b"\n");
+    if number == 40 {
+        mending::say_refused(text, at);
+        return;
+    }
+    mending::say_where(text, at);
+}
+
+// A text written as a sheet.
+fn write(path: &[u8], text: &[u8], sheet: &mut [u8]) -> Loaded {
+    let w = writer::write(text, sheet);
+    if w.number > 0 {
+        tell(path, text, w.number, w.count);
+        return failed(w.number as u64);
+    }
+    Loaded {
+        number: 0,
+        length: within(w.count, sheet),
+    }
+}
+
+// The sheet that a file's bytes are, or that its text is written as.
+fn sheet_of(path: &[u8], bytes: &[u8], sheet: &mut [u8]) -> Loaded {
+    if !is_text(bytes) {
+        let n = within(sheet.len(), bytes);
+        return Loaded {
+            number: 0,
+            length: lent::put_bytes(sheet, 0, &bytes[..n], true),
+        };
+    }
+    if bytes.len() > LONGEST {
+        os::fail(path);
+        return failed(FILE);
+    }
+    write(path, bytes, sheet)
+}
+
+// The rules of a file as a sheet, read into lent memory.
+fn load_into(path: &[u8], bytes: &mut [u8], sheet: &mut [u8]) -> Loaded {
+    let whole = files::read_whole(path, bytes);
+    if whole.failed {
+        return failed(FILE);
+    }
+    let n = whole.held;
+    sheet_of(path, &bytes[..n], sheet)
+}
+
+// Memory for the longest text, and a byte more.
+pub fn memory() -> [u8; 262145]
+    ensures { λ r. ⌜ 262145 ≡ length r ⌝ }
+{
+    [0; 262145]
+}
+
+// The rules of a file as a sheet.
+pub fn load(path: &[u8], sheet: &mut [u8]) -> Loaded {
+    let mut bytes = memory();
+    load_into(path, &mut bytes, sheet)
+}
+
+// Where the productions begin, in the text that a file holds; of a sheet nothing is said.
+fn say_lines_in(path: &[u8], bytes: &mut [u8]) {
+    let whole = files::read_whole(path, bytes);
+    let n = whole.held;
+    if is_text(&bytes[..n]) {
+        say(b"\nIn ");
+        say(path);
+        say(b":\n");
+        mending::say_productions(&bytes[..n]);
+    }
+}
+
+// Where the productions of a file's rules begin, if they are typed as text.
+pub fn say_lines(path: &[u8]) {
+    let mut bytes = memory();
+    say_lines_in(path, &mut bytes);
+}

@@ -1,0 +1,4 @@
+pub mod Conditions
+pub mod Bodies
+pub mod Strokes
+pub mod Promises
