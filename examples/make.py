@@ -84,6 +84,26 @@ DAMAGED = '''<schedule>
 </schedule>
 '''
 
+EVENING = '''<schedule>
+  <programme><start>18:00</start><title>Caf\u00e9 at six</title></programme>
+  <programme>
+    <start>19:00</start>
+    <title>Evening news & weather</title>
+    <people><person>Ann Ode</person></people>
+  </programme>
+  <programme><start>20:00</start><title>Bridge at eight</title></programme>
+  <programme><start>21:00</start><title>Late film</title>
+  <programme><start>23:00</start><title>Night music</title></programme>
+</schedule>
+'''
+
+BETWEEN = '''<schedule>
+  <programme><start>18:00</start><title>Caf\u00e9 at six</title></programme>
+  </programme>
+  <programme><start>20:00</start><title>Bridge at eight</title></programme>
+</schedule>
+'''
+
 LISTINGS = {
     'quiz': '<schedule><programme><start>2026-03-02T19:30</start><title>This&lt;/title&gt;That</title>'
             '<people><person>Ann Ode</person><person>Bo Ng</person></people></programme></schedule>',
@@ -101,6 +121,12 @@ SCHEDULES = {
     'after': LISTINGS['nothing'] + '\n<schedule/>\n',
 }
 
+# What is only told of a conversion that drops damaged records.
+DAYS = {
+    'evening': EVENING,
+    'between': BETWEEN,
+}
+
 HOLDS = ('production 1 (n1 <programme>) holds [1 n2 <start>] then [2 n3 <title>]* then [3 n4 <people>]* then [4 n6 <description>]*; '
          'this is after the %s.\n')
 
@@ -116,6 +142,7 @@ REFUSALS = {
 }
 
 MEANINGS = {
+    22: 'An end tag is not that of the innermost open element. Close that element first, or take this end tag out.',
     23: 'The sheet does not allow this here. Take it out, put it where it may stand, or put in what has to come before it.',
     25: "A program of the sheet rejects this. It is spelled as the sheet asks, but the sheet's author ruled it out here; ask what the rule "
         'is, and mend the schedule or the sheet.',
@@ -123,6 +150,32 @@ MEANINGS = {
         'came too early.',
     27: 'The schedule ends too early: inside a tag or a character, or before its root is closed. The file is cut off; fetch it whole and '
         'convert it again.',
+    34: 'The sheet is not of the shape that can be salvaged: its start needs one production, which holds any number of one record, with a tag that '
+        'nothing else has. Convert without --salvage, or write the rules so.',
+}
+
+# What is dropped of a schedule: from this text up to that one, or the end; the number; the title, where it has one.
+DROPPED = {
+    'quiz': [],
+    'damaged': [('<programme>\n    <start>19', '</schedule>', 23, None)],
+    'evening': [('<programme>\n    <start>19', '<programme><start>20', 20, 'Evening news & weather'),
+                ('<programme><start>21', '<programme><start>23', 23, 'Late film')],
+    'half': [('<programme>', '', 27, 'This&')],
+    'between': [],
+}
+
+REASONS = {
+    20: 'there is something in it that is no tag and no text',
+    23: 'the sheet does not allow something in it where it stands',
+    27: 'the schedule ends in the middle of it',
+}
+
+# What is refused all the same, as above.
+STOPPED = {
+    'half': (27, '&', ''),
+    'between': (22, '</programme>\n  <programme>', 'Open there, from the outside in: <schedule> (line 1)\n'
+                'production 0 (n0 <schedule>) holds [1 n1 <programme>]*; this is after the 1st atom (n1 <programme>).\n'
+                'Here may come: <programme> or the end of <schedule>.\n'),
 }
 
 YESTERDAY = "<schedule>yesterday's listing</schedule>"
@@ -164,12 +217,55 @@ def told(name):
         said = '%s.schedule: converted into listing.\nBytes read: %d. Bytes written: %d. Visits: %d.\n' % (
             name, len(schedule.encode()), len(listing.encode()), count)
         return said + listing
-    number, what, around = REFUSALS[name]
+    return refused(name, schedule, REFUSALS[name]) + UNTOUCHED + YESTERDAY
+
+
+def refused(name, schedule, how):
+    """What is said of a schedule that was refused."""
+    number, what, around = how
     before = schedule[:schedule.rindex(what)]
     rest = schedule[len(before):].encode()
-    said = '%s.schedule: number %d.\n%s\nRefused after %d bytes, at line %d, column %d. What stands there is marked:\n%s' % (
-        name, number, MEANINGS[number], len(before.encode()), before.count('\n') + 1, len(before) - before.rfind('\n'), marked(before.encode(), rest))
-    return said + around + UNTOUCHED + YESTERDAY
+    return '%s.schedule: number %d.\n%s\nRefused after %d bytes, at line %d, column %d. What stands there is marked:\n%s' % (
+        name, number, MEANINGS[number], len(before.encode()), before.count('\n') + 1, len(before) - before.rfind('\n'), marked(before.encode(), rest)) + around
+
+
+def stretches(name, schedule):
+    """Where what is dropped starts and ends, and what is said of it."""
+    for start, end, number, title in DROPPED[name]:
+        first = schedule.index(start)
+        past = schedule.index(end, first + 1) if end else len(schedule)
+        line = schedule[:first].count('\n') + 1
+        last = line + schedule[first:past].rstrip().count('\n')
+        lines = 'line %d' % line if line == last else 'lines %d to %d' % (line, last)
+        some = schedule[first:past].encode()
+        yield first, past, 'Dropped: %s\n  %s, %d bytes after the first %d; number %d: %s.\n' % (
+            title or shown(some[:40]) + ' ..', lines, len(some), len(schedule[:first].encode()), number, REASONS[number])
+
+
+def listing_of(element):
+    """The listing of a schedule whose programmes each have a start, a title and perhaps people."""
+    text = ElementTree.tostring(element, encoding='unicode')
+    return ''.join(part.strip() for part in text.replace('\n', '').split('  ')).strip()
+
+
+def salvaged(name):
+    """What `wickpollen convert --salvage` says of a story, the number, and the listing afterwards."""
+    schedule = {**SCHEDULES, **DAYS}[name]
+    dropped = list(stretches(name, schedule))
+    said = ''.join(text for _, _, text in dropped)
+    if name in STOPPED:
+        number = STOPPED[name][0]
+        return refused(name, schedule, STOPPED[name]) + UNTOUCHED + said + 'Number %d.\n' % number + YESTERDAY
+    kept = schedule
+    for first, past, _ in reversed(dropped):
+        kept = kept[:first] + kept[past:]
+    whole = ElementTree.fromstring(kept)
+    listing = LISTINGS.get(name) or listing_of(whole)
+    said = '%s.schedule: converted into listing.\nBytes read: %d. Bytes written: %d. Visits: %d.\n' % (
+        name, len(schedule.encode()), len(listing.encode()), visits(whole)) + said
+    if dropped:
+        said += 'Programmes kept: %d.\nThe listing is in place, without what was dropped.\n' % len(whole)
+    return said + 'Number %d.\n' % (103 if dropped else 0) + listing
 
 
 def stories():
@@ -177,7 +273,9 @@ def stories():
     report = open(os.path.join(ROOT, 'crates', 'reports', 'stdout'), encoding='utf-8').read()
     start = report.index('faults.sheet: number')
     faults = report[start:report.index('\n\nplaces.sheet')] + '\n'
-    return '\n\n'.join([told(name) for name in SCHEDULES] + [faults + UNTOUCHED + YESTERDAY]) + '\n\n'
+    shape = 'schedule.sheet: number 34.\n' + MEANINGS[34] + '\n' + UNTOUCHED + 'Number 34.\n' + YESTERDAY
+    days = [salvaged(name) for name in DROPPED] + [shape]
+    return '\n\n'.join([told(name) for name in SCHEDULES] + [faults + UNTOUCHED + YESTERDAY] + days) + '\n\n'
 
 
 def account(rules):
@@ -193,8 +291,9 @@ def files():
     for name, rules in EXAMPLES.items():
         made['examples/%s.sheet' % name] = made['crates/reports/data/%s.sheet' % name] = sheet(rules)
     made['examples/programmes.sheet'] = made['crates/stories/data/programmes.sheet'] = programmes()
-    made['crates/stories/data/faults.sheet'] = made['examples/faults.sheet']
-    for name, text in SCHEDULES.items():
+    for name in ['faults', 'schedule']:
+        made['crates/stories/data/%s.sheet' % name] = made['examples/%s.sheet' % name]
+    for name, text in [*SCHEDULES.items(), *DAYS.items()]:
         made['examples/%s.schedule' % name] = made['crates/stories/data/%s.schedule' % name] = text.encode()
     for name, text in LISTINGS.items():
         made['examples/%s.listing' % name] = text.encode()

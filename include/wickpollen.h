@@ -63,6 +63,25 @@ uint64_t wickpollen_fresh(uint8_t *state, size_t state_len);
 uint64_t wickpollen_run(const uint8_t *sheet, size_t sheet_len, uint8_t *state, size_t state_len, const uint8_t *part, size_t part_len,
                         uint64_t ended, uint8_t *out, size_t out_len, uint64_t *counts);
 
+/* The salvage run: as wickpollen_run, but for sheets whose start holds any number of one sort of record, a record that is refused with 20 to 25 is dropped with its output, the whole
+   state returns to what it was before it, and reading goes on at the next start tag of a record or end tag of the root that is written without white space. A record's output waits in an
+   area of its own until its end tag is taken.
+
+   The state has WICKPOLLEN_SALVAGE bytes; wickpollen_salvage_fresh writes a fresh one, as wickpollen_fresh does. Lend the same waiting area, with what it holds, to every call on one state.
+
+   counts[0], counts[1]: bytes taken and written, as in wickpollen_run.
+   counts[2]: how many stretches were dropped: entries of 24 bytes at the start of report, each the first byte, the last byte (both of the whole stream) and the number, 8 bytes each,
+              little-endian. Every byte of report past them is as lent.
+   counts[3]: the most bytes that waited at once. Behind what waits still, the area is 0 up to there, and past it as lent.
+   counts[4]: the visits, as in wickpollen_run.
+
+   The numbers are those of wickpollen_run, and 34: the sheet is not of that shape (nothing is changed, as with 1 to 9). 17 also where a token's output is longer than what is left of the
+   waiting area, or the report has no room for an entry; nothing is lost then: lend more and go on. 27 also where a damaged record is the last and nothing to go on at follows it. */
+#define WICKPOLLEN_SALVAGE 4030
+uint64_t wickpollen_salvage_fresh(uint8_t *state, size_t state_len);
+uint64_t wickpollen_salvage(const uint8_t *sheet, size_t sheet_len, uint8_t *state, size_t state_len, const uint8_t *part, size_t part_len, uint64_t ended, uint8_t *out, size_t out_len,
+                            uint8_t *waiting, size_t waiting_len, uint8_t *report, size_t report_len, uint64_t *counts);
+
 /* Writes rules typed as text (the notation: examples/README.md) as a rule sheet. The answer's low byte is the number; the rest, answer / 256, goes with it:
 
      0    the sheet stands in sheet[0 .. answer / 256), and every byte past it is as lent. It keeps the numbers 1 to 6; whether it passes, wickpollen_check says. 27928 bytes always suffice.

@@ -343,6 +343,131 @@ def a_full_small_disk_changes_nothing():
         subprocess.run(["umount", "disk"], check=True)
 
 
+# ---- damaged records
+
+
+def salvaged(schedule, number):
+    """What is said of a schedule, given as bytes, whose damaged records are dropped; the number is the exit status and the last line."""
+    write("schedule", schedule)
+    write("listing", OLD)
+    status, out, err = run("convert", "--salvage", SHEET, "schedule", "listing")
+    expect(f"{number}, not {status}", status == number)
+    expect("the last line is the number", err.splitlines()[-1] == b"wickpollen: %d" % number)
+    expect("no new file is left", new_files() == [])
+    return out
+
+
+def converted(schedule):
+    """The listing of a schedule that is not damaged."""
+    write("whole", schedule)
+    expect("it is whole", run("convert", SHEET, "whole", "whole listing")[0] == 0)
+    return read("whole listing")
+
+
+ONE = b"<programme><start>%d</start><title>Title %d</title></programme>\n"
+DAMAGED = b"<programme><start>%d</start>\n<title>Lost %d</titel>\n</programme>\n"
+
+
+def day(records):
+    return b"<schedule>\n" + b"".join(records) + b"</schedule>\n"
+
+
+@test
+def a_damaged_programme_is_dropped_and_the_day_is_served():
+    out = salvaged(read(example("damaged.schedule")), 103)
+    expect("the lines, the number and the first words", b"Dropped: <programme>\\x0a    <start>19:00" in out and b"lines 6 to 8, 79 bytes after the first 99; number 23: " in out)
+    expect("how many were kept", b"Programmes kept: 1.\n" in out)
+    expect("the listing is in place", read("listing") == "<schedule><programme><start>18:00</start><title>Caf\u00e9 at six</title></programme></schedule>".encode())
+    out = salvaged(read(example("evening.schedule")), 103)
+    expect("the titles", b"Dropped: Evening news & weather\n  lines 3 to 7, " in out and b"Dropped: Late film\n  line 9, " in out)
+    expect("how many were kept", b"Programmes kept: 3.\n" in out)
+
+
+@test
+def where_nothing_is_damaged_all_is_as_without_salvage():
+    out = salvaged(read(example("quiz.schedule")), 0)
+    expect("the listing is the example's", read("listing") == read(example("quiz.listing")))
+    expect("the same words", out == run("convert", SHEET, "schedule", "listing")[1])
+    status, _, err = run("convert", "--salvage", SHEET, "schedule", "listing", "--progress")
+    expect("with --progress", status == 0)
+    expect("a file too few", run("convert", "--salvage", SHEET, "schedule")[0] == 101)
+
+
+@test
+def half_a_file_and_damage_between_programmes_are_refused():
+    for name, number, says in [
+        ("half", 27, b"Dropped: This&\n  lines 2 to 4, 64 bytes after the first 13; number 27: "),
+        ("between", 22, b"Refused after 86 bytes, at line 3, column 3. "),
+        ("after", 26, b"Refused after 223 bytes, at line 2, column 1. "),
+    ]:
+        out = salvaged(read(example(name + ".schedule")), number)
+        expect(f"{name}: {says}", says in out and b"Nothing was put in place" in out)
+        unchanged()
+    expect("an empty file", b"the root of a schedule is <schedule>" in salvaged(b"", 27))
+    out = salvaged(b"<schedule>\n<programme><start>1</start></programme>\n", 27)
+    expect("between two programmes", b"Dropped" not in out and b"Open there, from the outside in: <schedule> (line 1)\n" in out)
+
+
+@test
+def a_sheet_of_another_shape_is_refused():
+    write("listing", OLD)
+    status, out, _ = run("convert", "--salvage", example("schedule.sheet"), example("quiz.schedule"), "listing")
+    expect(f"34, not {status}", status == 34)
+    expect("it is said", b"schedule.sheet: number 34.\n" in out)
+    unchanged()
+
+
+@test
+def lines_and_counts_do_not_depend_on_where_a_part_ended():
+    for ending in [b"\n", b"\r\n", b"\r"]:
+        for shift in range(0, 40, 13):
+            records = [ONE % (n, n) for n in range(3000)]
+            records[0] = b" " * shift + records[0]
+            lost = [700, 701, 1400, 2999]
+            whole = [r for n, r in enumerate(records) if n not in lost]
+            for n in lost:
+                records[n] = DAMAGED % (n, n)
+            out = salvaged(day(records).replace(b"\n", ending), 103)
+            expect("the listing is that of the others", read("listing") == converted(day(whole)))
+            line = 2
+            for n, r in enumerate(records):
+                if n in lost:
+                    expect(f"record {n} with {ending!r}", b"Dropped: Lost %d\n  lines %d to %d, " % (n, line, line + 2) in out)
+                line += r.count(b"\n")
+            expect("how many were kept", b"Programmes kept: 2996.\n" in out)
+
+
+@test
+def a_schedule_from_a_pipe_has_its_bytes_told():
+    write("listing", OLD)
+    status, out, _ = shell(f'cat "{example("evening.schedule")}" | "{PROGRAM}" convert --salvage "{SHEET}" /dev/stdin listing')
+    expect(f"103, not {status}", status == 103)
+    expect("the bytes", b"Dropped: 142 bytes after the first 86; number 20: " in out and b"Dropped: 58 bytes after the first 304; number 23: " in out)
+    expect("the listing is in place", b"Night music" in read("listing"))
+
+
+@test
+def what_has_no_room_is_told():
+    out = salvaged(day([DAMAGED % (n, n) for n in range(2730)]), 103)
+    expect("2730 stretches", out.count(b"Dropped: ") == 2730 and b"Programmes kept: 0.\n" in out)
+    out = salvaged(day([DAMAGED % (n, n) for n in range(2731)]), 17)
+    expect("one more", b"Here at most 2730 stretches can be dropped" in out)
+    unchanged()
+    out = salvaged(day([b"<programme><start>1</start><title>%s</title></programme>" % (b"x" * 65536)]), 17)
+    expect("a programme that is too long to wait", b"65536 bytes of its listing can wait" in out)
+    unchanged()
+
+
+@test
+def what_is_read_is_not_replaced_by_salvage_either():
+    shutil.copy(example("damaged.schedule"), "schedule")
+    os.symlink("schedule", "link")
+    for listing in ["schedule", "link", "."]:
+        status, _, err = run("convert", "--salvage", SHEET, "schedule", listing)
+        expect(f"{listing}: 102, not {status}", status == 102)
+    expect("the schedule is as it was", read("schedule") == read(example("damaged.schedule")))
+
+
 # ---- messages
 
 

@@ -3,3 +3,4 @@ pub mod Counted
 pub mod Started
 pub mod RunAnswer
 pub mod Hosts
+pub mod Salvaging

@@ -1,15 +1,19 @@
-// The checker, the converter, the writer and the printer for hosts in C: include/wickpollen.h.
+// The checker, the converter, the salvage run, the writer and the printer for hosts in C: include/wickpollen.h.
 ghost use mathlib.Core.Path.{_≡_};
 ghost use Prim.Native.Nat.{_+_, _*_, _%_, _≤_, _<_};
 ghost use Rattle.writing.specs.Written.{WrittenAs};
 ghost use Rattle.printing.specs.Printed.{PrintedAs};
 ghost use Rattle.capi.specs.Counted.{counts, CountedAs};
+ghost use Rattle.salvages.specs.Started.{SalvageStarted};
+ghost use Rattle.capi.specs.Salvaging.{SalvageRunAs};
 ghost use Rattle.capi.specs.Packed.{PackedAs};
 ghost use Rattle.capi.specs.Started.{StartedAs};
 ghost use Rattle.capi.specs.RunAnswer.{RunAs};
 use converter::convert_bytes;
 use faults::Checked;
 use faults::check;
+use salvages::salvage_bytes;
+use salvages::salvage_fresh;
 use state::State;
 use state::bytes::to_bytes;
 
@@ -88,4 +92,38 @@ pub extern "C" fn wickpollen_print(sheet: &[u8], text: &mut [u8]) -> u64
 {
     let p = prints::print(sheet, text);
     counted(p.number as usize, p.count)
+}
+
+// Writes a fresh state of a salvage run at the start of the area and answers how many bytes it has; 0, and nothing is written, where the area is too short.
+#[no_mangle]
+pub extern "C" fn wickpollen_salvage_fresh(area: &mut [u8]) -> u64
+    ensures { λ w. ⌜ SalvageStarted (now (area .entry)) (now (area .exit)) w ⌝ }
+{
+    let n = salvage_fresh(area);
+    n as u64
+}
+
+// Takes a part of a stream and drops the records that are damaged, as salvages::salvage_bytes does. Any number but 0 says that the stream has ended.
+#[no_mangle]
+pub extern "C" fn wickpollen_salvage(
+    sheet: &[u8],
+    state: &mut [u8],
+    part: &[u8],
+    ended: u64,
+    out: &mut [u8],
+    waiting: &mut [u8],
+    report: &mut [u8],
+    counts: &mut [u64; 5],
+) -> u64
+    ensures { λ w. ⌜ SalvageRunAs (now (sheet .entry)) (now (part .entry)) ended (record { state = now (state .entry); output = now (out .entry); area = now (waiting .entry); report = now (report .entry) }) (record { state = now (state .exit); output = now (out .exit); area = now (waiting .exit); report = now (report .exit) }) (now (counts .exit)) w ⌝ }
+{
+    let r = salvage_bytes(sheet, state, part, ended != 0, out, waiting, report);
+    *counts = [
+        r.taken as u64,
+        r.written as u64,
+        r.reported as u64,
+        r.waited as u64,
+        r.visits,
+    ];
+    r.number as u64
 }

@@ -36,7 +36,7 @@ unfolding entryBytes
 entry-long d =
     omega (arith, length-append (numberBytes 8 (d .first)) (numberBytes 8 (d .last) ++ numberBytes 8 (d .number)), length-append (numberBytes 8 (d .last)) (numberBytes 8 (d .number)), number-wide 8 (d .first), number-wide 8 (d .last), number-wide 8 (d .number))
 
-report-width : (ds : List LostStretch) → length (reportBytes ds) ≡ entryWidth * length ds
+pub report-width : (ds : List LostStretch) → length (reportBytes ds) ≡ entryWidth * length ds
 unfolding reportBytes
 report-width [] = refl
 report-width (d ∷ ds) = omega (arith, length-append (entryBytes d) (reportBytes ds), entry-long d, report-width ds)
@@ -47,7 +47,7 @@ report-append [] es = refl
 report-append (d ∷ ds) es = ap (λ (l : List ℕ). entryBytes d ++ l) (report-append ds es) ∙ sym (append-assoc (entryBytes d) (reportBytes ds) (reportBytes es))
 
 -- ---- lent memory in which u stands first, after w is written behind it
-behind-it : (u w lent d d′ : List ℕ) (n : ℕ) → length u ≡ n → d ≡ u ++ drop n lent → d′ ≡ take n d ++ (w ++ drop (n + length w) d) → d′ ≡ (u ++ w) ++ drop (n + length w) lent
+pub behind-it : (u w lent d d′ : List ℕ) (n : ℕ) → length u ≡ n → d ≡ u ++ drop n lent → d′ ≡ take n d ++ (w ++ drop (n + length w) d) → d′ ≡ (u ++ w) ++ drop (n + length w) lent
 behind-it u w lent d d′ n l f e =
     let t : take n d ≡ u = ap₂ take (sym l) f ∙ take-append-seam u (drop n lent) in
     let r : drop n d ≡ drop n lent = ap₂ drop (sym l) f ∙ drop-append-seam u (drop n lent) in

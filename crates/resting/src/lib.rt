@@ -64,8 +64,8 @@ fn put_returns(state: &mut [u8], before: Live)
 pub fn put_stand(state: &mut [u8], stand: Stand, live: Live, passed: usize)
     requires { ⌜ length (now state) ≡ salvageWidth ⌝ }
     requires { ⌜ live .depth ≤ most ⌝ }
-    requires { ⌜ stand .before .depth ≤ most ⌝ }
-    requires { ⌜ stand .number < 256 ⌝ }
+    requires { ⌜ (stand .mode ≡ 1 → stand .before .depth ≤ most) ⌝ }
+    requires { ⌜ ((stand .mode ≡ 0 → ⊥) → (stand .mode ≡ 1 → ⊥) → stand .number < 256) ⌝ }
     ensures { λ _. ⌜ StandPut stand live passed (now (state .entry)) (now (state .exit)) ⌝ }
 {
     put_run(live, state);

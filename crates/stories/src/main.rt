@@ -26,6 +26,21 @@ fn tell(sheet: &[u8], schedule: &[u8]) {
     show_listing();
 }
 
+// The same without the records that are damaged, as `wickpollen convert --salvage` does.
+fn tell_salvaged(sheet: &[u8], schedule: &[u8]) {
+    put_yesterday();
+    let number = rescueday::salvage_files(
+        sheet,
+        schedule,
+        b"listing",
+        conversion::Caller::nobody(),
+    );
+    say(b"Number ");
+    words::say_number(number as usize);
+    say(b".\n");
+    show_listing();
+}
+
 fn main() {
     tell(b"programmes.sheet", b"quiz.schedule");
     tell(b"programmes.sheet", b"nothing.schedule");
@@ -34,4 +49,10 @@ fn main() {
     tell(b"programmes.sheet", b"twice.schedule");
     tell(b"programmes.sheet", b"after.schedule");
     tell(b"faults.sheet", b"quiz.schedule");
+    tell_salvaged(b"programmes.sheet", b"quiz.schedule");
+    tell_salvaged(b"programmes.sheet", b"damaged.schedule");
+    tell_salvaged(b"programmes.sheet", b"evening.schedule");
+    tell_salvaged(b"programmes.sheet", b"half.schedule");
+    tell_salvaged(b"programmes.sheet", b"between.schedule");
+    tell_salvaged(b"schedule.sheet", b"quiz.schedule");
 }

@@ -1,4 +1,5 @@
-// The program that people run: wickpollen check RULES, write RULES SHEET, print SHEET, try RULES SCHEDULE, convert RULES SCHEDULE LISTING, help. RULES is a sheet, or rules as text.
+// The program that people run: wickpollen check RULES, write RULES SHEET, print SHEET, try RULES SCHEDULE, convert [--salvage] RULES SCHEDULE LISTING, help. RULES is a sheet, or
+// rules as text.
 // What is found goes to standard output; the last line of standard error is always "wickpollen: N". A program here has no exit status: where the
 // first word is --tell, as from bin/wickpollen, the number is told on a descriptor of its own too, and becomes the exit status there.
 ghost use mathlib.Core.Path.{_≡_};
@@ -12,6 +13,13 @@ use words::say;
 
 // The command was not understood: a number that the paper's table has not.
 const USAGE: u64 = 101;
+
+// What becomes of a schedule: it is tried; converted; or converted without the records that are damaged.
+const TRIES: usize = 0;
+
+const CONVERTS: usize = 1;
+
+const SALVAGES: usize = 2;
 
 fn complain(text: &[u8]) {
     io::write_all(STDERR_FILENO, text);
@@ -30,6 +38,9 @@ fn usage() -> u64 {
     );
     complain(
         b"       wickpollen convert RULES SCHEDULE LISTING    convert the schedule by the rules, and put the listing in place\n",
+    );
+    complain(
+        b"       wickpollen convert --salvage RULES SCHEDULE LISTING    the same, without the records that are damaged\n",
     );
     complain(
         b"       wickpollen help                              say what the commands and the numbers mean (--help does too)\n",
@@ -54,6 +65,19 @@ fn help_rules() {
     );
 }
 
+fn help_salvage() {
+    say(b"wickpollen convert --salvage RULES SCHEDULE LISTING [--progress]\n");
+    say(
+        b"    The same, but a record that is damaged is dropped, and reading goes on at the next start tag of a record or end tag of the root that is\n",
+    );
+    say(
+        b"    written without white space. What was dropped is told: its lines, why, and its title or its first words. What stands between two\n",
+    );
+    say(
+        b"    records is not dropped, and a schedule that is cut off is refused. The start of RULES must hold any number of one sort of record.\n",
+    );
+}
+
 fn help_commands() {
     help_rules();
     say(b"wickpollen try RULES SCHEDULE [--progress]\n");
@@ -71,6 +95,7 @@ fn help_commands() {
         b"    must be a plain file or no file yet, and neither RULES nor SCHEDULE. How far it is, is said on standard error at every 8 MB if that\n",
     );
     say(b"    is a terminal, or with --progress; else nothing is said before the end.\n");
+    help_salvage();
     say(b"wickpollen help\n");
     say(b"    Says this, as --help does.\n");
     say(b"wickpollen --version\n");
@@ -84,6 +109,9 @@ fn help() -> u64 {
     say(b"\n101: The command was not understood. See how it is used above.\n");
     say(
         b"\n102: A file could not be read or written, or LISTING is nothing to write to; the message says which and why. Mend that, and give the command again.\n",
+    );
+    say(
+        b"\n103: The listing is in place, but some programmes of the schedule were damaged and are not in it; the message says which. Serve it, and fetch or mend the schedule.\n",
     );
     say(
         b"\n104: The program ended without an answer: it was killed, or had too little memory. Give the command again.\n",
@@ -257,63 +285,85 @@ fn run_write(told: bool) -> u64 {
     write_into(&rules[..n], told)
 }
 
+// Word i of a command as it is without --salvage, which comes before the names of the files.
+fn file_word(told: bool, way: usize, i: usize, memory: &mut [u8]) -> usize
+    requires { ⌜ i < 8 ⌝ }
+    ensures { λ r. ⌜ Counts r (now (memory .exit)) ⌝ }
+{
+    if way == SALVAGES {
+        return word(told, i + 1, memory);
+    }
+    word(told, i, memory)
+}
+
 // `convert`, with the names of its sheet and its schedule.
-fn convert_into(sheet: &[u8], schedule: &[u8], caller: Caller) -> u64 {
+fn convert_into(sheet: &[u8], schedule: &[u8], caller: Caller, way: usize) -> u64 {
     let mut listing = io::buffer();
-    let n = word(caller.listens, 4, &mut listing);
+    let n = file_word(caller.listens, way, 4, &mut listing);
     if os::errno() != 0 {
         os::fail(b"LISTING");
         return FILE;
+    }
+    if way == SALVAGES {
+        return rescueday::salvage_files(sheet, schedule, &listing[..n], caller);
     }
     conversion::convert_files(sheet, schedule, &listing[..n], caller)
 }
 
 // `convert` or `try`, with the name of its sheet.
-fn run_with(sheet: &[u8], caller: Caller, writes: bool) -> u64 {
+fn run_with(sheet: &[u8], caller: Caller, way: usize) -> u64 {
     let mut schedule = io::buffer();
-    let n = word(caller.listens, 3, &mut schedule);
+    let n = file_word(caller.listens, way, 3, &mut schedule);
     if os::errno() != 0 {
         os::fail(b"SCHEDULE");
         return FILE;
     }
-    if !writes {
+    if way == TRIES {
         return conversion::try_files(sheet, &schedule[..n], caller);
     }
-    convert_into(sheet, &schedule[..n], caller)
+    convert_into(sheet, &schedule[..n], caller, way)
 }
 
 // `convert` or `try` and its files. Somebody watches where it was asked for, or where standard error is a terminal.
-fn run_files(told: bool, asked: bool, writes: bool) -> u64 {
+fn run_files(told: bool, asked: bool, way: usize) -> u64 {
     let mut sheet = io::buffer();
-    let n = word(told, 2, &mut sheet);
+    let n = file_word(told, way, 2, &mut sheet);
     if os::errno() != 0 {
         os::fail(b"RULES");
         return FILE;
     }
     let watched = asked | (libc::isatty(STDERR_FILENO) == 1);
-    run_with(&sheet[..n], Caller::this_one(watched, told), writes)
+    run_with(&sheet[..n], Caller::this_one(watched, told), way)
 }
 
-// Whether word i is --progress.
-fn is_progress(told: bool, i: usize) -> bool
+// Whether word i is this one.
+fn is_word(told: bool, i: usize, text: &[u8]) -> bool
     requires { ⌜ i < 9 ⌝ }
 {
-    let mut last = io::buffer();
-    let n = word(told, i, &mut last);
-    same(&last[..n], b"--progress")
+    let mut given = io::buffer();
+    let n = word(told, i, &mut given);
+    same(&given[..n], text)
 }
 
 // `convert` or `try`, which have n words, and perhaps --progress behind them.
-fn run_conversion(told: bool, n: usize, writes: bool) -> u64
-    requires { ⌜ n < 6 ⌝ }
+fn run_conversion(told: bool, n: usize, way: usize) -> u64
+    requires { ⌜ n < 7 ⌝ }
 {
     if has_words(told, n) {
-        return run_files(told, false, writes);
+        return run_files(told, false, way);
     }
-    if has_words(told, n + 1) & is_progress(told, n) {
-        return run_files(told, true, writes);
+    if has_words(told, n + 1) & is_word(told, n, b"--progress") {
+        return run_files(told, true, way);
     }
     usage()
+}
+
+// `convert`, perhaps with --salvage.
+fn run_convert(told: bool) -> u64 {
+    if is_word(told, 2, b"--salvage") {
+        return run_conversion(told, 6, SALVAGES);
+    }
+    run_conversion(told, 5, CONVERTS)
 }
 
 // The commands that name no file.
@@ -341,10 +391,10 @@ fn run_command(told: bool, command: &[u8]) -> u64 {
         return run_write(told);
     }
     if same(command, b"try") {
-        return run_conversion(told, 4, false);
+        return run_conversion(told, 4, TRIES);
     }
     if same(command, b"convert") {
-        return run_conversion(told, 5, true);
+        return run_convert(told);
     }
     run_other(command)
 }

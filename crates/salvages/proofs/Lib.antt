@@ -1,0 +1,3 @@
+pub mod Assembly
+pub mod Begins
+pub mod Started
