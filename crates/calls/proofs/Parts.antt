@@ -29,7 +29,7 @@ use Rattle.runs.specs.Visits.{mostVisits}
 use Rattle.calls.specs.Limits.{silent, outputOf, Taking, taken, refuses, no-room, limited, within, oneToken}
 use Rattle.calls.specs.Held.{Held, leavesOpen, closingOf, handed}
 use Rattle.calls.specs.Call.{Result, stopped-at, after-writing, numberAt, stops, full, no-token, Runs, takes, halts, CalledBy, Called}
-use Rattle.calls.specs.Parts.{answers-together, Told, CutOff, SameAnswer, Continued, Feeds, at-once, closes, goes-on, Each, CallOf}
+use Rattle.calls.specs.Parts.{answers-together, EndTold, CutOff, SameAnswer, Continued, Feeds, at-once, closes, goes-on, Each, CallOf}
 use Rattle.calls.proofs.Read.{NoToken, Alike, read-on, read-token, token-long, token-at, token-of, none-there, token-there}
 use Rattle.calls.proofs.Answers.{AfterToken, split, to-number, call-one, call-some}
 use Rattle.calls.proofs.Frame.{countOf}
@@ -93,7 +93,7 @@ end-closes zero after n q =
     subst (λ (m : ℕ). closingOf (leavesOpen m) m ≡ some m) h refl
 end-closes (suc left) c n q = let h : 27 ≡ n = cc in over-closes n (omega arith)
 
-module _ (a : Sheet) (s r : List ℕ) (b more : Bool) (told : Told b r more) (extra : ℕ) where
+module _ (a : Sheet) (s r : List ℕ) (b more : Bool) (told : EndTold b r more) (extra : ℕ) where
   -- how the call on the whole goes, by what closed the state of the call on the part
   abbrev Onward : ℕ → Result → Result → Option ℕ → Type 0
   Onward room r₁ R none =
@@ -133,7 +133,7 @@ module _ (a : Sheet) (s r : List ℕ) (b more : Bool) (told : Told b r more) (ex
           let h : 16 ≡ n = cc in
           subst (λ (j : ℕ). Onward room (stopped-at j at z) R (handed j z .closing)) h (from-here at room z R 16 d)
 
-      by : (x : Bool) → b ≡ x → Told b r more → Onward room (stopped-at n at z) R (handed n z .closing)
+      by : (x : Bool) → b ≡ x → EndTold b r more → Onward room (stopped-at n at z) R (handed n z .closing)
       by true e t = waits e
       by false e (inl t) = waits t
       by false e (inr (l, t)) =
@@ -240,7 +240,7 @@ module _ (a : Sheet) (whole : List ℕ) (more : Bool) (n : ℕ) where
       let l = none-there more whole rest from at (sym (bytes-moved at from h)) x (no-number (length (drop from whole)) (z .control) x k q) m in
       (stopped-at k at z, halts (no-token x k l (number-moved at from x k z h q)), ap (λ (i : ℕ). stopped-at k i z) h)
 
-module _ (a : Sheet) (s r : List ℕ) (b more : Bool) (told : Told b r more) (room extra : ℕ) where
+module _ (a : Sheet) (s r : List ℕ) (b more : Bool) (told : EndTold b r more) (room extra : ℕ) where
   -- the call on the whole, from where the part's stopped-at, as a call of its own
   as-call : (r₁ R : Result) (c : Option ℕ) → r₁ .held .closing ≡ c → Onward a s r b more told extra room r₁ R c → Continued a (s ++ r) more (room + extra) r₁ R c
   as-call r₁ R none h (r₂, d, q) =

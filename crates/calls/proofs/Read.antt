@@ -16,7 +16,7 @@ use Rattle.tokens.specs.declared.Event.{Event}
 use Rattle.tokens.specs.declared.Event.the-variants.{Character}
 use Rattle.tokens.specs.declared.Answer.{Answer}
 use Rattle.tokens.specs.declared.Answer.the-variants.{Token, Waiting, Begun, Bad, Long}
-use Rattle.tokens.specs.Tokens.{Kind, start, end, empty, Tok, tag, ref, numeric, line, char, Good, opens, closes, bytes, tagEvent, eventOf, front, Means, Longest}
+use Rattle.tokens.specs.Tokens.{Kind, start, end, empty, Tok, tag, ref, numeric, line, char, Good, openingBytes, closingBytes, bytes, tagEvent, eventOf, front, Means, Longest}
 use Rattle.tokens.specs.Stream.{settled, ReadAs, Reads, flat, AllGood, AllShort, Followed, AllWhole, eventsAt, NameAt}
 use Rattle.tokens.specs.Parts.{CutNumber}
 use Rattle.tokens.proofs.Theory.{token-cons}
@@ -27,7 +27,7 @@ use Rattle.tokens.proofs.Readable.{some-answer}
 use Rattle.sheet.specs.Sheet.{Sheet}
 use Rattle.runs.specs.Spells.{start-token, end-token, empty-token}
 use Rattle.calls.specs.Names.{tagNamed, tokenFor, tokenOf}
-use Rattle.calls.specs.Parts.{Told}
+use Rattle.calls.specs.Parts.{EndTold}
 
 module _ (more : Bool) (s : List ℕ) (at : ℕ) where
   -- a whole token is read, whether or not more is to come
@@ -43,7 +43,7 @@ module _ (more : Bool) (s : List ℕ) (at : ℕ) where
   none-read h = (Begun, begun-none (front s at) at (omega (arith, length-take 32 (drop at s), h)), refl)
 
 -- what is told of the end is so: more bytes change nothing, unless a token is only begun, or it is the number of a reference that was cut off
-pub read-on : (b more : Bool) (s r : List ℕ) (at : ℕ) (x : Answer) → Told b r more → (x ≡ Begun → ⊥) → ReadAs b s at x →
+pub read-on : (b more : Bool) (s r : List ℕ) (at : ℕ) (x : Answer) → EndTold b r more → (x ≡ Begun → ⊥) → ReadAs b s at x →
     ReadAs more (s ++ r) at x ⊎ ((x ≡ Long) × ReadAs more (s ++ r) at Bad × CutNumber (front s at))
 read-on b more s r at x (inl t) n m = read-stays more s r at x n (subst (λ (c : Bool). ReadAs c s at x) t m)
 read-on b more s r at x (inr (l, t)) n m =
@@ -144,12 +144,12 @@ read-tokens more s at es to r =
 
 -- the tokens of the events that are read are those of the tokens as they are spelled
 module _ (a : Sheet) (s : List ℕ) where
-  name-at : (k : Kind) (at : ℕ) (n b r : List ℕ) → drop at s ≡ bytes (tag k n b) ++ r → take (length n) (drop (at + length (opens k)) s) ≡ n
+  name-at : (k : Kind) (at : ℕ) (n b r : List ℕ) → drop at s ≡ bytes (tag k n b) ++ r → take (length n) (drop (at + length (openingBytes k)) s) ≡ n
   name-at k at n b r e =
-      let d : drop at s ≡ opens k ++ (n ++ ((b ++ closes k) ++ r)) =
-      e ∙ append-assoc (opens k) (n ++ (b ++ closes k)) r ∙ ap (λ (l : List ℕ). opens k ++ l) (append-assoc n (b ++ closes k) r) in
-      ap (take (length n)) (sym (drop-drop (length (opens k)) at s) ∙ ap (drop (length (opens k))) d ∙ drop-append-seam (opens k) (n ++ ((b ++ closes k) ++ r)))
-      ∙ take-append-seam n ((b ++ closes k) ++ r)
+      let d : drop at s ≡ openingBytes k ++ (n ++ ((b ++ closingBytes k) ++ r)) =
+      e ∙ append-assoc (openingBytes k) (n ++ (b ++ closingBytes k)) r ∙ ap (λ (l : List ℕ). openingBytes k ++ l) (append-assoc n (b ++ closingBytes k) r) in
+      ap (take (length n)) (sym (drop-drop (length (openingBytes k)) at s) ∙ ap (drop (length (openingBytes k))) d ∙ drop-append-seam (openingBytes k) (n ++ ((b ++ closingBytes k) ++ r)))
+      ∙ take-append-seam n ((b ++ closingBytes k) ++ r)
 
   pub token-at : (t : Tok) (at : ℕ) (r : List ℕ) → drop at s ≡ bytes t ++ r → tokenOf a s (eventOf at t) ≡ tokenFor a t
   token-at (tag start n b) at r e = ap (λ (l : List ℕ). start-token (tagNamed (a .names) l)) (name-at start at n b r e)

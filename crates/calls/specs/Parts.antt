@@ -20,8 +20,8 @@ abbrev pub answers-together : Result → Result → Result
 answers-together r₁ r₂ = record { number = r₂ .number; taken = r₁ .taken + r₂ .taken; output = r₁ .output ++ r₂ .output; held = r₂ .held }
 
 -- what is told of the end is so: where `later` comes after a part, more is to come; where nothing does, it is told as of the whole
-abbrev pub Told : (moreThen : Bool) (later : List ℕ) (more : Bool) → Type 0
-Told b later more = (b ≡ true) ⊎ ((later ≡ []) × (b ≡ more))
+abbrev pub EndTold : (moreThen : Bool) (later : List ℕ) (more : Bool) → Type 0
+EndTold b later more = (b ≡ true) ⊎ ((later ≡ []) × (b ≡ more))
 
 -- r with another number of a refusal
 abbrev pub refusedWith : ℕ → Result → Result
@@ -53,9 +53,9 @@ Continued a whole more room r₁ r (some n) = SameAnswer whole r₁ r
 -- that end with 16 or 17 the last is lent all that is left of the room, and none before it was lent more than that and what was written since
 pub data Feeds {H : Type 0} (Call : List ℕ → Bool → ℕ → H → H → Result → ℕ → Type 0) (more : Bool) : List ℕ → ℕ → H → Result → ℕ → Type 0 where
   at-once : {whole : List ℕ} {room : ℕ} {h h′ : H} {r : Result} {v : ℕ} → Call whole more room h h′ r v → Feeds Call more whole room h r v
-  closes : {h h′ : H} {v : ℕ} (room extra : ℕ) (s later : List ℕ) (b : Bool) (r₁ : Result) (n : ℕ) → Told b later more → Call s b room h h′ r₁ v →
+  closes : {h h′ : H} {v : ℕ} (room extra : ℕ) (s later : List ℕ) (b : Bool) (r₁ : Result) (n : ℕ) → EndTold b later more → Call s b room h h′ r₁ v →
       r₁ .held .closing ≡ some n → Feeds Call more (s ++ later) (room + extra) h r₁ v
-  goes-on : {h h′ : H} {r₂ : Result} {u v : ℕ} (room extra : ℕ) (s later : List ℕ) (b : Bool) (r₁ : Result) → Told b later more → Call s b room h h′ r₁ u →
+  goes-on : {h h′ : H} {r₂ : Result} {u v : ℕ} (room extra : ℕ) (s later : List ℕ) (b : Bool) (r₁ : Result) → EndTold b later more → Call s b room h h′ r₁ u →
       r₁ .held .closing ≡ none → Feeds Call more (drop (r₁ .taken) (s ++ later)) (room + extra - length (r₁ .output)) h′ r₂ v →
       Feeds Call more (s ++ later) (room + extra) h (answers-together r₁ r₂) v
 

@@ -11,7 +11,7 @@ use Rattle.expressions.specs.Expr.{Exp, cat, alt, star, Content}
 use Rattle.expressions.specs.Grammar.{Production}
 use Rattle.runs.specs.Events.{starts, ends}
 use Rattle.runs.specs.Parse.{Element, element, Children, childless, children, Parse, child, one-char, pair, first-of, second-of, repeat, void, Parses, done, next}
-use Rattle.runs.specs.Spells.{noCharacter, blanksPass, mark}
+use Rattle.runs.specs.Spells.{noCharacter, blanksPass, eventMark}
 use Rattle.grouping.specs.Regrouped.{concatenations, concatenations-and-unions, Regrouped, RegroupedContent, still-nothing, regrouped-tree, RegroupedGrammar}
 use Rattle.grouping.proofs.Kept.{kept}
 use Rattle.grouping.proofs.Grammars.{content-stays, tag-stays, produces-stays}
@@ -105,7 +105,7 @@ element-shape t b x = record {
   nodes = suc (x .nodes);
   deep = suc (x .deep);
   events = starts (some t) ∷ (x .events ++ ends (some t) ∷ []);
-  flags = λ o. mark o (starts (some t)) ∷ (x .flags b ++ mark b (ends (some t)) ∷ []);
+  flags = λ o. eventMark o (starts (some t)) ∷ (x .flags b ++ eventMark b (ends (some t)) ∷ []);
 }
 
 -- from one grammar to the other

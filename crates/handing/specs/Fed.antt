@@ -7,7 +7,7 @@ use mathlib.Core.Option.{none, some}
 use Prim.Native.Nat.{ℕ, _+_, _-_, _/_, _^_, _≤_, _<_}
 use lib.ListN.{length, drop, replicate}
 use Rattle.sheet.specs.Sheet.{Sheet, IsSheet}
-use Rattle.calls.specs.Parts.{Told}
+use Rattle.calls.specs.Parts.{EndTold}
 use Rattle.salvage.specs.Shape.{RecordTags}
 use Rattle.salvage.specs.Shaped.{recordTags}
 use Rattle.salvage.specs.Salvage.{Salvaged}
@@ -39,9 +39,9 @@ pub record SalvageCall (s part : List ℕ) (more : Bool) (room spare : ℕ) (b m
 -- the calls feed a stream, as calls of the meaning do
 pub data SalvageFeeds (s : List ℕ) (more : Bool) : List ℕ → (room spare : ℕ) (b m : List ℕ) → Rescued → Type 0 where
   at-once : {whole : List ℕ} {room spare : ℕ} {b m : List ℕ} {r : Rescued} (b′ m′ : List ℕ) → SalvageCall s whole more room spare b m b′ m′ r → SalvageFeeds s more whole room spare b m r
-  closes : {b m : List ℕ} (b′ m′ : List ℕ) (room extra spare entries : ℕ) (part later : List ℕ) (more′ : Bool) (r₁ : Rescued) (n : ℕ) → Told more′ later more →
+  closes : {b m : List ℕ} (b′ m′ : List ℕ) (room extra spare entries : ℕ) (part later : List ℕ) (more′ : Bool) (r₁ : Rescued) (n : ℕ) → EndTold more′ later more →
       SalvageCall s part more′ room spare b m b′ m′ r₁ → r₁ .held .closing ≡ some n → SalvageFeeds s more (part ++ later) (room + extra) (spare + entries) b m r₁
-  goes-on : {b m : List ℕ} {r₂ : Rescued} (b′ m′ : List ℕ) (room extra spare entries : ℕ) (part later : List ℕ) (more′ : Bool) (r₁ : Rescued) → Told more′ later more →
+  goes-on : {b m : List ℕ} {r₂ : Rescued} (b′ m′ : List ℕ) (room extra spare entries : ℕ) (part later : List ℕ) (more′ : Bool) (r₁ : Rescued) → EndTold more′ later more →
       SalvageCall s part more′ room spare b m b′ m′ r₁ → r₁ .held .closing ≡ none →
       SalvageFeeds s more (drop (r₁ .taken) (part ++ later)) (room + extra - length (r₁ .output)) (spare + entries - length (r₁ .report)) b′ m′ r₂ →
       SalvageFeeds s more (part ++ later) (room + extra) (spare + entries) b m (both-rescues r₁ r₂)

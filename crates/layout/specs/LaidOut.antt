@@ -4,7 +4,7 @@ use mathlib.Core.List.{List}
 use Prim.Native.Nat.{ℕ, _+_, _*_, _≤_, _<_}
 use lib.ListN.{length}
 use Rattle.limits.specs.Limits.{largestSheet, mostTags, mostProductions, mostNodes, mostProgramBytes, mostStringBytes}
-use Rattle.layout.specs.Layout.{tagOffset, tagCount, productionOffset, productionCount, nodeOffset, nodeCount, programOffset, programLength, stringOffset, stringLength, start, mark, Size, Sections}
+use Rattle.layout.specs.Layout.{tagOffset, tagCount, productionOffset, productionCount, nodeOffset, nodeCount, programOffset, programLength, stringOffset, stringLength, start, sheetMark, Size, Sections}
 use Rattle.layout.specs.declared.Layout.{Layout}
 
 -- what was read is the number n, which is below a bound
@@ -31,7 +31,7 @@ pub record LayoutIs (s : List ℕ) (l : Layout) : Type 0 where
   pub strings-at-is : NumberRead 65536 (stringOffset s) (l .«strings_at»)
   pub strings-is : NumberRead 65536 (stringLength s) (l .strings)
   pub start-is : NumberRead 65536 (start s) (l .start)
-  pub mark-is : NumberRead 65536 (mark s) (l .mark)
+  pub mark-is : NumberRead 65536 (sheetMark s) (l .mark)
 
 -- it is the layout of a sheet that keeps numbers 1 and 2; the order facts follow from that, and bound every index
 pub record LaidOut (s : List ℕ) (l : Layout) : Type 0 where

@@ -49,8 +49,8 @@ stringLength s = trailerWord s 9
 abbrev pub start : List ℕ → ℕ
 start s = trailerWord s 10
 
-abbrev pub mark : List ℕ → ℕ
-mark s = trailerWord s 11
+abbrev pub sheetMark : List ℕ → ℕ
+sheetMark s = trailerWord s 11
 
 -- number 1: at least the trailer, at most what the sections may hold with it
 pub record Size (s : List ℕ) : Type 0 where
@@ -59,7 +59,7 @@ pub record Size (s : List ℕ) : Type 0 where
 
 -- number 2: the mark, bytes 58 53; sections back to back from byte 0, each within its count; the trailer follows at once
 pub record Sections (s : List ℕ) : Type 0 where
-  pub marked : mark s ≡ 0x5358
+  pub marked : sheetMark s ≡ 0x5358
   pub tags-at : tagOffset s ≡ 0
   pub some-tags : 1 ≤ tagCount s
   pub few-tags : tagCount s ≤ mostTags

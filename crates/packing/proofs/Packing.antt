@@ -10,7 +10,7 @@ use native.Mathlib.Decide.{ℕ-discrete}
 use lib.ListN.{length, take, drop, replicate, length-append, length-replicate}
 use Rattle.programs.specs.Limits.{first, second}
 use Rattle.programs.specs.Section.{AllPrograms, Fill}
-use Rattle.layout.specs.Layout.{Size, Sections, tagOffset, tagCount, productionOffset, productionCount, nodeOffset, nodeCount, programOffset, programLength, stringOffset, stringLength, start, mark, trailerWord, programsIn, stringsIn}
+use Rattle.layout.specs.Layout.{Size, Sections, tagOffset, tagCount, productionOffset, productionCount, nodeOffset, nodeCount, programOffset, programLength, stringOffset, stringLength, start, sheetMark, trailerWord, programsIn, stringsIn}
 use Rattle.layout.specs.Records.{nodesBefore}
 use Rattle.trees.specs.Trees.{Trees}
 use Rattle.sheet.specs.Tags.{tagRecord, TagAt, Tags}
@@ -194,7 +194,7 @@ module _ (r : Rules) (room : Room r) (keeps : SheetKeeps (sheetOf r)) (sound : A
   start-is : start s ≡ r .start
   start-is = here-word s (length s - 24) (trailerOf r) trailer-at 20 (omega arith) ∙ two-bytes (r .start)
 
-  mark-is : mark s ≡ 0x5358
+  mark-is : sheetMark s ≡ 0x5358
   mark-is = here-word s (length s - 24) (trailerOf r) trailer-at 22 (omega arith) ∙ two-bytes (0x5358)
 
   all-laid : From (Laid s r) 0 (0 + length (r .productions)) (rulesOf r (r .productions)) × (nodesBefore s (0 + length (r .productions)) ≡ 0 + nodesInAll (r .productions)) × From (NodeIs s (storedPrograms r)) 0 (0 + nodesInAll (r .productions)) (allVisits r (r .productions))

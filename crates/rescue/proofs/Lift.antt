@@ -29,7 +29,7 @@ use Rattle.calls.specs.Names.{tokenOf}
 use Rattle.calls.specs.Limits.{outputOf, Taking, taken, refuses, no-room, limited, within, oneToken}
 use Rattle.calls.specs.Held.{leavesOpen, closingOf}
 use Rattle.calls.specs.Call.{roomLeft, numberAt}
-use Rattle.calls.specs.Parts.{Told}
+use Rattle.calls.specs.Parts.{EndTold}
 use Rattle.calls.proofs.Read.{read-on, read-token, read-moves, token-long, token-at, token-of}
 use Rattle.calls.proofs.Frame.{countOf, token-number}
 use Rattle.calls.proofs.Steps.{RunAnswer, takes-one}
@@ -97,7 +97,7 @@ token-in a s r b at e next m =
     let d : drop at (s ++ r) ≡ w ++ (drop next s ++ r) = drop-append-le at s r within ∙ ap (λ (l : List ℕ). l ++ r) (t .split) ∙ append-assoc w (drop next s) r in
     ap (tokenOf a (s ++ r)) (t .event) ∙ token-at a (s ++ r) (t .tok) at (drop next s ++ r) d ∙ sym (token-of a s t)
 
-module _ (a : Sheet) (x : RecordTags) (s later : List ℕ) (b more : Bool) (told : Told b later more) (base area extra entries : ℕ) where
+module _ (a : Sheet) (x : RecordTags) (s later : List ℕ) (b more : Bool) (told : EndTold b later more) (base area extra entries : ℕ) where
   abbrev pub part-call : Setting
   part-call = setting a x s b base area
 
@@ -114,7 +114,7 @@ module _ (a : Sheet) (x : RecordTags) (s later : List ℕ) (b more : Bool) (told
   all-of-it : b ≡ false → (s ++ later ≡ s) × (more ≡ false)
   all-of-it e = by told
     where
-      by : Told b later more → (s ++ later ≡ s) × (more ≡ false)
+      by : EndTold b later more → (s ++ later ≡ s) × (more ≡ false)
       by (inl t) = absurd (true≢false (sym t ∙ e))
       by (inr (l, t)) = (ap (λ (k : List ℕ). s ++ k) l ∙ append-nil s, sym t ∙ e)
 

@@ -10,7 +10,7 @@ use lib.ListN.{length, length-append}
 use Rattle.sheet.specs.Sheet.{Sheet}
 use Rattle.calls.specs.Held.{leavesOpen, closingOf}
 use Rattle.calls.specs.Call.{roomLeft}
-use Rattle.calls.specs.Parts.{Told}
+use Rattle.calls.specs.Parts.{EndTold}
 use Rattle.salvage.specs.Shape.{RecordTags}
 use Rattle.salvage.specs.Salvage.{LostStretch}
 use Rattle.rescue.specs.Held.{Mode, Rescued}
@@ -24,7 +24,7 @@ pub reports-both : {whole : List ℕ} {base : ℕ} {ds ds′ es es′ : List Los
 reports-both no-more j = j
 reports-both (and-then d i) j = and-then d (reports-both i j)
 
-module _ (a : Sheet) (x : RecordTags) (s later : List ℕ) (b more : Bool) (told : Told b later more) (base area extra entries : ℕ) where
+module _ (a : Sheet) (x : RecordTags) (s later : List ℕ) (b more : Bool) (told : EndTold b later more) (base area extra entries : ℕ) where
   abbrev pub on-part : Setting
   on-part = part-call a x s later b more told base area extra entries
 

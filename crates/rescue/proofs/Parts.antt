@@ -9,7 +9,7 @@ use Prim.Native.Nat.{ℕ, _+_, _-_, _≤_}
 use native.Mathlib.Omega.{arith}
 use lib.ListN.{length, drop, length-append}
 use Rattle.sheet.specs.Sheet.{Sheet}
-use Rattle.calls.specs.Parts.{Told}
+use Rattle.calls.specs.Parts.{EndTold}
 use Rattle.salvage.specs.Shape.{RecordTags}
 use Rattle.rescue.specs.Held.{Mode, HeldSalvage, Rescued}
 use Rattle.rescue.specs.Call.{Rescues, setting, RescuedBy}
@@ -18,7 +18,7 @@ use Rattle.rescue.proofs.Onward.{GoesOnward, Onward, resume, reports-bo
 use Rattle.rescue.proofs.Renumbered.{same-rescue, renumber}
 use Rattle.rescue.proofs.Shifted.{movedRescue, shift}
 
-module _ (a : Sheet) (x : RecordTags) (s later : List ℕ) (b more : Bool) (told : Told b later more) (base area room extra spare entries : ℕ) where
+module _ (a : Sheet) (x : RecordTags) (s later : List ℕ) (b more : Bool) (told : EndTold b later more) (base area room extra spare entries : ℕ) where
   -- from where the part's call has stopped, in its own mode
   in-its-mode : (at room′ spare′ p : ℕ) (m M : Mode) (r : Rescued) → at ≤ length s → p ≡ base + at → SameMode (s ++ later) base p m M →
       Rescues (setting a x (s ++ later) more base area) at room′ spare′ M r →

@@ -11,7 +11,7 @@ use Rattle.tokens.specs.Parts.{CutNumber}
 use Rattle.sheet.specs.Sheet.{Sheet}
 use Rattle.runs.specs.Machine.{Configuration}
 use Rattle.runs.specs.Fits.{NamesFit}
-use Rattle.calls.specs.Parts.{Told}
+use Rattle.calls.specs.Parts.{EndTold}
 use Rattle.salvage.specs.Shape.{RecordTags}
 use Rattle.salvage.specs.Salvage.{LostStretch, lost, Salvaged}
 use Rattle.rescue.specs.Held.{Mode, between, inside, skipping, HeldSalvage, fresh-salvage, Rescued, asSalvage}
@@ -82,7 +82,7 @@ RescueContinued a x whole more area room spare base r₁ r (some n) = SameRescue
 
 abbrev pub RescueInParts : Sheet → RecordTags → Type 0
 RescueInParts a x =
-    (s later : List ℕ) (b more : Bool) → Told b later more → (area room extra spare entries : ℕ) (h : HeldSalvage) (r₁ r : Rescued) → Began (h .passed) (h .mode) →
+    (s later : List ℕ) (b more : Bool) → EndTold b later more → (area room extra spare entries : ℕ) (h : HeldSalvage) (r₁ r : Rescued) → Began (h .passed) (h .mode) →
     RescueCalled a x s b area room spare h r₁ → RescueCalled a x (s ++ later) more area (room + extra) (spare + entries) h r →
     RescueContinued a x (s ++ later) more area (room + extra) (spare + entries) (h .passed) r₁ r (r₁ .held .closing)
 
@@ -90,9 +90,9 @@ RescueInParts a x =
 -- gets some of each, and presents again what the one before has left; together they answer r. The last call closes the state, or gets all that is left
 pub data RescueFeeds (a : Sheet) (x : RecordTags) (more : Bool) (area : ℕ) : List ℕ → (room spare : ℕ) → HeldSalvage → Rescued → Type 0 where
   at-once : {whole : List ℕ} {room spare : ℕ} {h : HeldSalvage} {r : Rescued} → RescueCalled a x whole more area room spare h r → RescueFeeds a x more area whole room spare h r
-  closes : {h : HeldSalvage} (room extra spare entries : ℕ) (s later : List ℕ) (b : Bool) (r₁ : Rescued) (n : ℕ) → Told b later more → RescueCalled a x s b area room spare h r₁ →
+  closes : {h : HeldSalvage} (room extra spare entries : ℕ) (s later : List ℕ) (b : Bool) (r₁ : Rescued) (n : ℕ) → EndTold b later more → RescueCalled a x s b area room spare h r₁ →
       r₁ .held .closing ≡ some n → RescueFeeds a x more area (s ++ later) (room + extra) (spare + entries) h r₁
-  goes-on : {h : HeldSalvage} {r₂ : Rescued} (room extra spare entries : ℕ) (s later : List ℕ) (b : Bool) (r₁ : Rescued) → Told b later more → RescueCalled a x s b area room spare h r₁ →
+  goes-on : {h : HeldSalvage} {r₂ : Rescued} (room extra spare entries : ℕ) (s later : List ℕ) (b : Bool) (r₁ : Rescued) → EndTold b later more → RescueCalled a x s b area room spare h r₁ →
       r₁ .held .closing ≡ none →
       RescueFeeds a x more area (drop (r₁ .taken) (s ++ later)) (room + extra - length (r₁ .output)) (spare + entries - length (r₁ .report)) (r₁ .held) r₂ →
       RescueFeeds a x more area (s ++ later) (room + extra) (spare + entries) h (both-rescues r₁ r₂)

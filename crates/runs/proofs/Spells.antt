@@ -21,7 +21,7 @@ use Rattle.runs.specs.Acts.{Act, node-first, node-second, start-tag, end
 use Rattle.runs.specs.Machine.{Open, Control, before, inside, after, Turn, refuse, go, outer, root-by, move, most, Configuration, fresh-configuration, Answer, took, refused, acted, turned, step, Outcome, finished, stopped, onward, answered, run}
 use Rattle.runs.specs.Line.{line, lineC, lineP, linePs}
 use Rattle.runs.specs.Taken.{Passed, ParsedTo, closed-with, Allowed}
-use Rattle.runs.specs.Spells.{Token, start-token, end-token, empty-token, literal, reference, eventsOfToken, isBlank, blanksPass, Mark, mark, eventsOfMarks, marks, marksC, marksP, marksPs, Spells, all-read, blank-after, blank-between, one-event, empty-tag, Spelled, passesAt, unless-blank, stepToken, through, onward-token, runTokens}
+use Rattle.runs.specs.Spells.{Token, start-token, end-token, empty-token, literal, reference, eventsOfToken, isBlank, blanksPass, Mark, eventMark, eventsOfMarks, marks, marksC, marksP, marksPs, Spells, all-read, blank-after, blank-between, one-event, empty-tag, Spelled, passesAt, unless-blank, stepToken, through, onward-token, runTokens}
 use Rattle.runs.specs.SoFar.{passing, rowMarks, rowPasses, SpelledSoFar, eventsSoFar, TokenRefused}
 use Rattle.runs.proofs.Rules.{no-T, no-S}
 use Rattle.runs.proofs.Find.{find-sound}
@@ -48,8 +48,8 @@ mutual
   flags-tree : {g : List Production} {n : ℕ} (t : Element g n) → Flags g (line t) (marks t)
   flags-tree {g} (element q h c) ps rest =
       let b : Bool = blanksPass (contentOf g q) in
-      let e : Mark = mark b (ends (some (tagOf g q))) in
-      ap (λ (l : List Mark). mark (passing ps) (starts (some (tagOf g q))) ∷ l)
+      let e : Mark = eventMark b (ends (some (tagOf g q))) in
+      ap (λ (l : List Mark). eventMark (passing ps) (starts (some (tagOf g q))) ∷ l)
       (ap (rowMarks g (b ∷ ps)) (append-assoc (lineC c q) (end-tag q ∷ []) rest) ∙ flags-children c q (b ∷ ps) (end-tag q ∷ rest)
       ∙ sym (append-assoc (marksC c b) (e ∷ []) (rowMarks g ps rest)))
 
@@ -59,7 +59,7 @@ mutual
 
   flags-parse : {g : List Production} {e : Exp} (p : Parse g e) (q i : ℕ) → Flags g (lineP p q i) (marksP p)
   flags-parse {g} (child t) q i = flags-wrap g q i (line t) (λ b. marks t b) (λ ps rest. flags-tree t ps rest)
-  flags-parse {g} (one-char c) q i = flags-wrap g q i (letter-read c ∷ []) (λ b. mark b (letter c) ∷ []) (λ ps rest. refl)
+  flags-parse {g} (one-char c) q i = flags-wrap g q i (letter-read c ∷ []) (λ b. eventMark b (letter c) ∷ []) (λ ps rest. refl)
   flags-parse {g} (pair {l} x y) q i =
       flags-wrap g q i (lineP x q (suc i) ++ lineP y q (suc i + nodes l)) (λ b. marksP x b ++ marksP y b)
       (flags-append g (lineP x q (suc i)) (lineP y q (suc i + nodes l)) (λ b. marksP x b) (λ b. marksP y b) (λ ps rest. flags-parse x q (suc i) ps rest)
@@ -142,16 +142,16 @@ module _ (g : List Production) (n lim : ℕ) where
   moves-passes (then {c} {c′} {c″} {xs} {cs} x bs e m) = move-passes c x bs c′ e cs ∙ moves-passes m
 
   move-flags : (c : Control) (x : Event) (bs : List Act) (c′ : Control) → move g n lim c x ≡ go bs c′ → (rest : List Act) →
-      rowMarks g (stack-at g c) (bs ++ rest) ≡ mark (passesAt g c) x ∷ rowMarks g (stack-at g c′) rest
+      rowMarks g (stack-at g c) (bs ++ rest) ≡ eventMark (passesAt g c) x ∷ rowMarks g (stack-at g c′) rest
   move-flags before (starts none) bs c′ e rest = refuse-go bs c′ e
   move-flags before (starts (some t)) bs c′ e rest = by (find g n t) refl e
     where
-      by : (f : Option ℕ) → find g n t ≡ f → root-by f ≡ go bs c′ → rowMarks g [] (bs ++ rest) ≡ mark true (starts (some t)) ∷ rowMarks g (stack-at g c′) rest
+      by : (f : Option ℕ) → find g n t ≡ f → root-by f ≡ go bs c′ → rowMarks g [] (bs ++ rest) ≡ eventMark true (starts (some t)) ∷ rowMarks g (stack-at g c′) rest
       by none i e = refuse-go bs c′ e
       by (some q) i e =
           let j = go-inj _ bs _ c′ e in
           ap (λ (l : List Act). rowMarks g [] (l ++ rest)) (sym (j .0))
-          ∙ (λ k. mark true (starts (some (find-sound g n t q i .1 k))) ∷ rowMarks g (stack-at g (j .1 k)) rest)
+          ∙ (λ k. eventMark true (starts (some (find-sound g n t q i .1 k))) ∷ rowMarks g (stack-at g (j .1 k)) rest)
   move-flags before (ends t) bs c′ e rest = refuse-go bs c′ e
   move-flags before (letter y) bs c′ e rest = refuse-go bs c′ e
   move-flags (inside o os) (starts none) bs c′ e rest = refuse-go bs c′ e
@@ -160,23 +160,23 @@ module _ (g : List Production) (n lim : ℕ) where
       let i = find-sound g (d .nonterm) t (d .production) (d .is-found) .1 in
       let j : c′ ≡ _ = d .is-control in
       after-brackets (o .production) (d .by .string) (start-tag (d .production)) bs (d .are-acts) (stack-of g (o ∷ os)) rest
-      ∙ (λ k. mark (blanksPass (contentOf g (o .production))) (starts (some (i k))) ∷ rowMarks g (stack-at g (sym j k)) rest)
+      ∙ (λ k. eventMark (blanksPass (contentOf g (o .production))) (starts (some (i k))) ∷ rowMarks g (stack-at g (sym j k)) rest)
   move-flags (inside o os) (ends t) bs c′ e rest =
       let d = ended g lim o os n t bs c′ e in
       let i : stack-of g os ≡ stack-at g c′ = outer-stack g os ∙ ap (stack-at g) (sym (d .is-control)) in
       let j : t ≡ some (tagOf g (o .production)) = d .is-tag in
       after-brackets (o .production) (d .by) (end-tag (o .production)) bs (d .are-acts) (stack-of g (o ∷ os)) rest
-      ∙ (λ k. mark (blanksPass (contentOf g (o .production))) (ends (sym j k)) ∷ rowMarks g (i k) rest)
+      ∙ (λ k. eventMark (blanksPass (contentOf g (o .production))) (ends (sym j k)) ∷ rowMarks g (i k) rest)
   move-flags (inside o os) (letter y) bs c′ e rest =
       let d = was-read g lim o os n y bs c′ e in
       after-brackets (o .production) (d .by .string) (letter-read y) bs (d .are-acts) (stack-of g (o ∷ os)) rest
-      ∙ ap (λ (c : Control). mark (blanksPass (contentOf g (o .production))) (letter y) ∷ rowMarks g (stack-at g c) rest) (sym (d .is-control))
+      ∙ ap (λ (c : Control). eventMark (blanksPass (contentOf g (o .production))) (letter y) ∷ rowMarks g (stack-at g c) rest) (sym (d .is-control))
   move-flags after x bs c′ e rest = refuse-go bs c′ e
 
 -- a run over events with its marks
 data Walks (s : Sheet) : Configuration → List Mark → Configuration → Type 0 where
   stays : {z : Configuration} → Walks s z [] z
-  steps : {z z′ z″ : Configuration} {ms : List Mark} (x : Event) → step s z x ≡ took z′ → Walks s z′ ms z″ → Walks s z (mark (passesAt (grammar s) (z .control)) x ∷ ms) z″
+  steps : {z z′ z″ : Configuration} {ms : List Mark} (x : Event) → step s z x ≡ took z′ → Walks s z′ ms z″ → Walks s z (eventMark (passesAt (grammar s) (z .control)) x ∷ ms) z″
 
 walks-run : (s : Sheet) {z z′ : Configuration} {ms : List Mark} → Walks s z ms z′ → run s z (eventsOfMarks ms) ≡ finished z′
 walks-run s stays = refl
@@ -192,7 +192,7 @@ run-walks s z (x ∷ xs) z′ e = by (λ y h. run-walks s y xs z′ h) (step s z
   where
     by : ((y : Configuration) → run s y xs ≡ finished z′ → (ms : List Mark) × Walks s y ms z′ × (eventsOfMarks ms ≡ xs)) → (a : Answer) → step s z x ≡ a →
         onward z (x ∷ xs) a (λ y. run s y xs) ≡ finished z′ → (ms : List Mark) × Walks s z ms z′ × (eventsOfMarks ms ≡ x ∷ xs)
-    by f (took y) i e = let t = f y e in (mark (passesAt (grammar s) (z .control)) x ∷ t .0, steps x i (t .1), ap (λ (l : List Event). x ∷ l) (t .2))
+    by f (took y) i e = let t = f y e in (eventMark (passesAt (grammar s) (z .control)) x ∷ t .0, steps x i (t .1), ap (λ (l : List Event). x ∷ l) (t .2))
     by f (refused k) i e = absurd (let y : _≡_ {A = ℕ} 0 1 = cc in omega arith)
 
 -- one step is a move
@@ -217,7 +217,7 @@ walks-flags s {z} (steps {z′ = y} x e w) =
       m .0 ++ t .0,
       then x (m .0) (m .1) (t .1),
       move-flags (grammar s) (s .start-nonterminal) most (z .control) x (m .0) (y .control) (m .1) (t .0)
-          ∙ ap (λ (l : List Mark). mark (passesAt (grammar s) (z .control)) x ∷ l) (t .2),
+          ∙ ap (λ (l : List Mark). eventMark (passesAt (grammar s) (z .control)) x ∷ l) (t .2),
     )
 
 -- tokens that a run takes spell the run's marks
@@ -230,35 +230,35 @@ blank-first : (s : Sheet) {z z′ : Configuration} {ms : List Mark} {ts : List T
 blank-first s k b p stays h = blank-after k b p h
 blank-first s {z} {z′} {ms} {ts} k b p (steps {ms = ns} x e w) h =
     let l : Bool = passesAt (grammar s) (z′ .control) in
-    subst (λ (c : Bool). Spells l (mark c x ∷ ns) (k ∷ ts)) (sym p) (blank-between k x b (subst (λ (c : Bool). Spells l (mark c x ∷ ns) ts) p h))
+    subst (λ (c : Bool). Spells l (eventMark c x ∷ ns) (k ∷ ts)) (sym p) (blank-between k x b (subst (λ (c : Bool). Spells l (eventMark c x ∷ ns) ts) p h))
 
 module _ (s : Sheet) where
   abbrev Spelt : Configuration → List Token → Configuration → Type 0
   Spelt z ts z′ = (ms : List Mark) × Walks s z ms z′ × Spells (passesAt (grammar s) (z′ .control)) ms ts
 
   -- one token that is not passed over: its events, each a step
-  one-walk : {z z′ : Configuration} {ms : List Mark} (x : Event) → Walks s z ms z′ → eventsOfMarks ms ≡ x ∷ [] → ms ≡ mark (passesAt (grammar s) (z .control)) x ∷ []
+  one-walk : {z z′ : Configuration} {ms : List Mark} (x : Event) → Walks s z ms z′ → eventsOfMarks ms ≡ x ∷ [] → ms ≡ eventMark (passesAt (grammar s) (z .control)) x ∷ []
   one-walk x stays e = absurd (let y : _≡_ {A = ℕ} 0 1 = cc in omega arith)
-  one-walk {z} x (steps y e stays) i = let h : y ≡ x = cc in ap (λ (a : Event). mark (passesAt (grammar s) (z .control)) a ∷ []) h
+  one-walk {z} x (steps y e stays) i = let h : y ≡ x = cc in ap (λ (a : Event). eventMark (passesAt (grammar s) (z .control)) a ∷ []) h
   one-walk x (steps y e (steps y′ e′ w)) i = absurd (let y : _≡_ {A = ℕ} 0 1 = cc in omega arith)
 
   single : (z z₁ z′ : Configuration) (k : Token) (x : Event) (ts : List Token) → isBlank k && passesAt (grammar s) (z .control) ≡ false → eventsOfToken k ≡ x ∷ [] →
       run s z (x ∷ []) ≡ finished z₁ → Spelt z₁ ts z′ → Spelt z (k ∷ ts) z′
   single z z₁ z′ k x ts b i r t =
       let w = run-walks s z (x ∷ []) z₁ r in
-      let m : w .0 ≡ mark (passesAt (grammar s) (z .control)) x ∷ [] = one-walk x (w .1) (w .2) in (
+      let m : w .0 ≡ eventMark (passesAt (grammar s) (z .control)) x ∷ [] = one-walk x (w .1) (w .2) in (
         w .0 ++ t .0,
         walks-append s (w .1) (t .1),
         subst (λ (l : List Mark). Spells (passesAt (grammar s) (z′ .control)) (l ++ t .0) (k ∷ ts)) (sym m) (one-event k (passesAt (grammar s) (z .control)) x b i (t .2)),
       )
 
-  two-walk : {z z′ : Configuration} {ms : List Mark} (x y : Event) → Walks s z ms z′ → eventsOfMarks ms ≡ x ∷ y ∷ [] → (b b′ : Bool) × (ms ≡ mark b x ∷ mark b′ y ∷ [])
+  two-walk : {z z′ : Configuration} {ms : List Mark} (x y : Event) → Walks s z ms z′ → eventsOfMarks ms ≡ x ∷ y ∷ [] → (b b′ : Bool) × (ms ≡ eventMark b x ∷ eventMark b′ y ∷ [])
   two-walk x y stays e = absurd (let y : _≡_ {A = ℕ} 0 1 = cc in omega arith)
   two-walk {z} x y (steps {z′ = z₁} {ms = ms} x′ e w) i =
       let h : x′ ≡ x = cc in
       let j : eventsOfMarks ms ≡ y ∷ [] = cc in
-      let m : ms ≡ mark (passesAt (grammar s) (z₁ .control)) y ∷ [] = one-walk y w j in
-      (passesAt (grammar s) (z .control), passesAt (grammar s) (z₁ .control), (λ k. mark (passesAt (grammar s) (z .control)) (h k) ∷ m k))
+      let m : ms ≡ eventMark (passesAt (grammar s) (z₁ .control)) y ∷ [] = one-walk y w j in
+      (passesAt (grammar s) (z .control), passesAt (grammar s) (z₁ .control), (λ k. eventMark (passesAt (grammar s) (z .control)) (h k) ∷ m k))
 
   double : (z z₁ z′ : Configuration) (t : Option ℕ) (ts : List Token) → run s z (starts t ∷ ends t ∷ []) ≡ finished z₁ → Spelt z₁ ts z′ → Spelt z (empty-token t ∷ ts) z′
   double z z₁ z′ t ts r p =
@@ -312,7 +312,7 @@ module _ (s : Sheet) where
     pub stepped : step s z x ≡ took next-state
     pub later : Walks s next-state ms z′
 
-  first-step : {z z′ : Configuration} {ns : List Mark} → Walks s z ns z′ → (b : Bool) (x : Event) (ms : List Mark) → ns ≡ mark b x ∷ ms → First z b x ms z′
+  first-step : {z z′ : Configuration} {ns : List Mark} → Walks s z ns z′ → (b : Bool) (x : Event) (ms : List Mark) → ns ≡ eventMark b x ∷ ms → First z b x ms z′
   first-step stays b x ms i = absurd (let y : _≡_ {A = ℕ} 0 1 = cc in omega arith)
   first-step {z} {z′} (steps {z′ = y} {ms = ns} x′ e w) b x ms i =
       let hb : passesAt (grammar s) (z .control) ≡ b = ap (λ (l : List Mark). top-flag l) i in
@@ -348,7 +348,7 @@ module _ (s : Sheet) where
       read z (f .next-state) z′ k ts (ap (λ (d : Bool). isBlank k && d) (sym (f .flag)) ∙ c) (ap (run s z) i ∙ one-run z (f .next-state) x (f .stepped))
       (spell-tokens h (f .next-state) z′ (f .later) p)
   spell-tokens (empty-tag {ms = ms} {ts = ts} t b b′ h) z z′ w p =
-      let f = first-step w b (starts t) (mark b′ (ends t) ∷ ms) refl in
+      let f = first-step w b (starts t) (eventMark b′ (ends t) ∷ ms) refl in
       let f′ = first-step (f .later) b′ (ends t) ms refl in
       read z (f′ .next-state) z′ (empty-token t) ts refl
       (ap (λ (a : Answer). onward z (starts t ∷ ends t ∷ []) a (λ y. run s y (ends t ∷ []))) (f .stepped) ∙ one-run (f .next-state) (f′ .next-state) (ends t) (f′ .stepped))

@@ -13,7 +13,7 @@ use Rattle.runs.specs.Events.{Event, starts, ends, letter}
 use Rattle.runs.specs.Acts.{Act, node-first, node-second, start-tag, end-tag, letter-read, Store, fresh-store, acts}
 use Rattle.runs.specs.Machine.{most}
 use Rattle.runs.specs.Taken.{Allowed, Stopped}
-use Rattle.runs.specs.Spells.{Token, eventsOfToken, isBlank, blanksPass, Mark, mark, eventsOfMarks, Spells}
+use Rattle.runs.specs.Spells.{Token, eventsOfToken, isBlank, blanksPass, Mark, eventMark, eventsOfMarks, Spells}
 
 -- of each open element, innermost first, whether white space passes in it; outside the root it does
 abbrev pub passing : List Bool → Bool
@@ -29,9 +29,9 @@ abbrev pub rowMarks : List Production → List Bool → List Act → List Mark
 rowMarks g ps [] = []
 rowMarks g ps (node-first q i ∷ bs) = rowMarks g ps bs
 rowMarks g ps (node-second q i ∷ bs) = rowMarks g ps bs
-rowMarks g ps (start-tag q ∷ bs) = mark (passing ps) (starts (some (tagOf g q))) ∷ rowMarks g (blanksPass (contentOf g q) ∷ ps) bs
-rowMarks g ps (end-tag q ∷ bs) = mark (passing ps) (ends (some (tagOf g q))) ∷ rowMarks g (outside ps) bs
-rowMarks g ps (letter-read c ∷ bs) = mark (passing ps) (letter c) ∷ rowMarks g ps bs
+rowMarks g ps (start-tag q ∷ bs) = eventMark (passing ps) (starts (some (tagOf g q))) ∷ rowMarks g (blanksPass (contentOf g q) ∷ ps) bs
+rowMarks g ps (end-tag q ∷ bs) = eventMark (passing ps) (ends (some (tagOf g q))) ∷ rowMarks g (outside ps) bs
+rowMarks g ps (letter-read c ∷ bs) = eventMark (passing ps) (letter c) ∷ rowMarks g ps bs
 
 abbrev pub rowPasses : List Production → List Bool → List Act → List Bool
 rowPasses g ps [] = ps

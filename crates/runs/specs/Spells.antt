@@ -55,8 +55,8 @@ pub record Mark : Type 0 where
   pub passes : Bool
   pub event : Event
 
-abbrev pub mark : Bool → Event → Mark
-mark b x = record { passes = b; event = x }
+abbrev pub eventMark : Bool → Event → Mark
+eventMark b x = record { passes = b; event = x }
 
 abbrev pub eventsOfMarks : List Mark → List Event
 eventsOfMarks [] = []
@@ -66,8 +66,8 @@ eventsOfMarks (m ∷ ms) = m .event ∷ eventsOfMarks ms
 abbrev mutual
   pub marks : {g : List Production} {n : ℕ} → Element g n → Bool → List Mark
   marks {g} (element q h c) outside =
-      mark outside (starts (some (tagOf g q)))
-      ∷ (marksC c (blanksPass (contentOf g q)) ++ mark (blanksPass (contentOf g q)) (ends (some (tagOf g q))) ∷ [])
+      eventMark outside (starts (some (tagOf g q)))
+      ∷ (marksC c (blanksPass (contentOf g q)) ++ eventMark (blanksPass (contentOf g q)) (ends (some (tagOf g q))) ∷ [])
 
   pub marksC : {g : List Production} {c : Content} → Children g c → Bool → List Mark
   marksC childless b = []
@@ -75,7 +75,7 @@ abbrev mutual
 
   pub marksP : {g : List Production} {e : Exp} → Parse g e → Bool → List Mark
   marksP (child t) b = marks t b
-  marksP (one-char c) b = mark b (letter c) ∷ []
+  marksP (one-char c) b = eventMark b (letter c) ∷ []
   marksP (pair l r) b = marksP l b ++ marksP r b
   marksP (first-of l) b = marksP l b
   marksP (second-of r) b = marksP r b
@@ -90,11 +90,11 @@ abbrev mutual
 pub data Spells (last : Bool) : List Mark → List Token → Type 0 where
   all-read : Spells last [] []
   blank-after : {ts : List Token} (k : Token) → isBlank k ≡ true → last ≡ true → Spells last [] ts → Spells last [] (k ∷ ts)
-  blank-between : {ms : List Mark} {ts : List Token} (k : Token) (x : Event) → isBlank k ≡ true → Spells last (mark true x ∷ ms) ts → Spells last (mark true x ∷ ms) (k ∷ ts)
+  blank-between : {ms : List Mark} {ts : List Token} (k : Token) (x : Event) → isBlank k ≡ true → Spells last (eventMark true x ∷ ms) ts → Spells last (eventMark true x ∷ ms) (k ∷ ts)
   one-event : {ms : List Mark} {ts : List Token} (k : Token) (b : Bool) (x : Event) → isBlank k && b ≡ false → eventsOfToken k ≡ x ∷ [] → Spells last ms ts →
-      Spells last (mark b x ∷ ms) (k ∷ ts)
+      Spells last (eventMark b x ∷ ms) (k ∷ ts)
   empty-tag : {ms : List Mark} {ts : List Token} (t : Option ℕ) (b b′ : Bool) → Spells last ms ts →
-      Spells last (mark b (starts t) ∷ mark b′ (ends t) ∷ ms) (empty-token t ∷ ts)
+      Spells last (eventMark b (starts t) ∷ eventMark b′ (ends t) ∷ ms) (empty-token t ∷ ts)
 
 -- demand 2 over tokens: they spell the events of a tree, with white space before and after the root, no deeper than the limit, in which no step
 -- rejects; v is what it comes to

@@ -11,7 +11,7 @@ use Rattle.text.specs.Chars.{utf8}
 use Rattle.text.specs.Names.{nameFirst, nameByte, blank, All, Name}
 use Rattle.text.specs.Numerals.{Base, decimal, hex, radix, digitBelow}
 use Rattle.text.proofs.Shapes.{range, shape1, shape2, shape3, shape4}
-use Rattle.tokens.specs.Tokens.{Kind, start, end, empty, Ref, amp, lt, gt, apos, quot, crlf, cr, Tok, tag, ref, numeric, line, char, Good, closes, spelled, mark, bytes}
+use Rattle.tokens.specs.Tokens.{Kind, start, end, empty, Ref, amp, lt, gt, apos, quot, crlf, cr, Tok, tag, ref, numeric, line, char, Good, closingBytes, spelled, baseMark, bytes}
 
 -- no byte is <
 abbrev pub NoOpen : List ℕ → Type 0
@@ -35,10 +35,10 @@ pub name-none : (n : List ℕ) → Name n → NoOpen n
 name-none [] h = absurd h
 name-none (x ∷ n) (t, h) = ((λ e. true≢false (sym t ∙ ap nameFirst e)), none-all nameByte refl n h)
 
-rest-none : (k : Kind) (n b : List ℕ) → Name n → All blank b → NoOpen (n ++ (b ++ closes k))
-rest-none k n b h g = none-append n (b ++ closes k) (name-none n h) (none-append b (closes k) (none-all blank refl b g) (by k))
+rest-none : (k : Kind) (n b : List ℕ) → Name n → All blank b → NoOpen (n ++ (b ++ closingBytes k))
+rest-none k n b h g = none-append n (b ++ closingBytes k) (name-none n h) (none-append b (closingBytes k) (none-all blank refl b g) (by k))
   where
-    by : (k : Kind) → NoOpen (closes k)
+    by : (k : Kind) → NoOpen (closingBytes k)
     by start = ((λ e. omega (arith, e)), tt)
     by end = ((λ e. omega (arith, e)), tt)
     by empty = ((λ e. omega (arith, e)), ((λ e. omega (arith, e)), tt))
@@ -68,9 +68,9 @@ token-once (tag end n b) (h, g) = ((λ e. omega (arith, e)), rest-none end n b h
 token-once (tag empty n b) (h, g) = rest-none empty n b h g
 token-once (ref x) g = spelled-once x
 token-once (numeric k ds) (h, g) =
-    ((λ e. omega (arith, e)), none-append (mark k) (ds ++ (59 ∷ [])) (by k) (none-append ds (59 ∷ []) (none-all (digitBelow (radix k)) (digit-none k) ds h) ((λ e. omega (arith, e)), tt)))
+    ((λ e. omega (arith, e)), none-append (baseMark k) (ds ++ (59 ∷ [])) (by k) (none-append ds (59 ∷ []) (none-all (digitBelow (radix k)) (digit-none k) ds h) ((λ e. omega (arith, e)), tt)))
   where
-    by : (k : Base) → NoOpen (mark k)
+    by : (k : Base) → NoOpen (baseMark k)
     by decimal = tt
     by hex = ((λ e. omega (arith, e)), tt)
 token-once (line crlf) g = ((λ e. omega (arith, e)), tt)

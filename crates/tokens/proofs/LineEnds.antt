@@ -17,7 +17,7 @@ use Rattle.text.specs.Numerals.{decimal, hex, digitBelow, valueOf}
 use Rattle.text.proofs.NameLaws.{name-all}
 use Rattle.text.proofs.Shapes.{Range, range, shape1, shape2, shape3, shape4}
 use Rattle.tokens.specs.declared.Event.{Event}
-use Rattle.tokens.specs.Tokens.{Kind, start, end, empty, Ref, amp, lt, gt, apos, quot, crlf, cr, Tok, tag, ref, numeric, line, char, Good, opens, closes, spelled, stands, bytes, eventOf}
+use Rattle.tokens.specs.Tokens.{Kind, start, end, empty, Ref, amp, lt, gt, apos, quot, crlf, cr, Tok, tag, ref, numeric, line, char, Good, openingBytes, closingBytes, spelled, stands, bytes, eventOf}
 use Rattle.tokens.specs.Stream.{Reads, flat, AllGood, AllShort, Followed, AllWhole, eventsAt}
 use Rattle.tokens.specs.LineEnds.{normalAfter, normal, NoCR, Handed, a-tag, a-character, handed, allHanded, TranslatedTo, Translated}
 use Rattle.text.proofs.Shapes.{cons≢[]}
@@ -153,23 +153,23 @@ ends-cr (line crlf) = false
 ends-cr (line cr) = true
 ends-cr (char c) = false
 
-closes-then : (k : Kind) (after : Bool) (b v : List ℕ) → normalAfter after (b ++ (closes k ++ v)) ≡ normalAfter after b ++ (closes k ++ normalAfter false v)
+closes-then : (k : Kind) (after : Bool) (b v : List ℕ) → normalAfter after (b ++ (closingBytes k ++ v)) ≡ normalAfter after b ++ (closingBytes k ++ normalAfter false v)
 closes-then start after b v = gap-then after b 62 v refl (λ e. omega arith)
 closes-then end after b v = gap-then after b 62 v refl (λ e. omega arith)
 closes-then empty after b v =
     gap-then after b 47 (62 ∷ v) refl (λ e. omega arith) ∙ ap (λ (l : List ℕ). normalAfter after b ++ (47 ∷ l)) (kept false 62 v refl (λ e z. omega arith))
 
-opens-then : (k : Kind) (after : Bool) (u : List ℕ) → normalAfter after (opens k ++ u) ≡ opens k ++ normalAfter false u
+opens-then : (k : Kind) (after : Bool) (u : List ℕ) → normalAfter after (openingBytes k ++ u) ≡ openingBytes k ++ normalAfter false u
 opens-then start after u = kept-after after 60 [] u (refl, tt) (λ e z. omega arith)
 opens-then end after u = kept-after after 60 (47 ∷ []) u (refl, (refl, tt)) (λ e z. omega arith)
 opens-then empty after u = kept-after after 60 [] u (refl, tt) (λ e z. omega arith)
 
 tag-normal : (k : Kind) (after : Bool) (n b u : List ℕ) → Name n → normalAfter after (bytes (tag k n b) ++ u) ≡ bytes (tag k n (normal b)) ++ normalAfter false u
 tag-normal k after n b u hn =
-    ap (normalAfter after) (together (opens k) n b (closes k) u)
-    ∙ opens-then k after (n ++ (b ++ (closes k ++ u)))
-    ∙ ap (λ (l : List ℕ). opens k ++ l) (kept-all n (b ++ (closes k ++ u)) (no-cr-in nameByte refl n (name-all n hn)) ∙ ap (λ (l : List ℕ). n ++ l) (closes-then k false b u))
-    ∙ sym (together (opens k) n (normal b) (closes k) (normalAfter false u))
+    ap (normalAfter after) (together (openingBytes k) n b (closingBytes k) u)
+    ∙ opens-then k after (n ++ (b ++ (closingBytes k ++ u)))
+    ∙ ap (λ (l : List ℕ). openingBytes k ++ l) (kept-all n (b ++ (closingBytes k ++ u)) (no-cr-in nameByte refl n (name-all n hn)) ∙ ap (λ (l : List ℕ). n ++ l) (closes-then k false b u))
+    ∙ sym (together (openingBytes k) n (normal b) (closingBytes k) (normalAfter false u))
   where
     together : (o m g c v : List ℕ) → (o ++ (m ++ (g ++ c))) ++ v ≡ o ++ (m ++ (g ++ (c ++ v)))
     together o m g c v = simp append-assoc

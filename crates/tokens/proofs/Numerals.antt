@@ -18,7 +18,7 @@ use Rattle.text.specs.Numerals.{digitValue, Base, decimal, hex, radix, digitBel
 use Rattle.text.proofs.Shapes.{cons≢[], char-low, char-most}
 use Rattle.text.proofs.NumeralLaws.{value-append, value-grows}
 use Rattle.tokens.specs.Inner.{cutAt, Opened, Fewest}
-use Rattle.tokens.specs.Tokens.{crlf, Tok, numeric, Good, mark, bytes, Means}
+use Rattle.tokens.specs.Tokens.{crlf, Tok, numeric, Good, baseMark, bytes, Means}
 use Rattle.tokens.specs.declared.Event.the-variants.{Character}
 use Rattle.tokens.specs.declared.Answer.the-variants.{Token, Begun, Bad}
 use Rattle.tokens.proofs.Theory.{NoMark, GoesOn, number-is, stop-59, whole, begun, no-line}
@@ -200,8 +200,8 @@ past : (x y : ℕ) → x ≤ y → 0x10FFFF < x → y ≤ 0x10FFFF → ⊥
 past x y a b c = omega arith
 
 -- what opens the reference, and its digits
-opened-length : (k : Base) (ds : List ℕ) → length (bytes (numeric k ds)) ≡ 2 + (length (mark k) + (length ds + 1))
-opened-length k ds = omega (arith, length-append (mark k) (ds ++ (59 ∷ [])), length-append ds (59 ∷ []))
+opened-length : (k : Base) (ds : List ℕ) → length (bytes (numeric k ds)) ≡ 2 + (length (baseMark k) + (length ds + 1))
+opened-length k ds = omega (arith, length-append (baseMark k) (ds ++ (59 ∷ [])), length-append ds (59 ∷ []))
 
 no-mark-in : (k : Base) (f : List ℕ) (from : ℕ) → (k ≡ decimal → (from < length f) × (getD f from 0 ≡ 120 → ⊥)) → (v : List ℕ) → NoMark k (drop from f ++ v)
 no-mark-in decimal f from n v =
@@ -213,8 +213,8 @@ module _ (f : List ℕ) (at from r : ℕ) (O : Opened f from r) (i n : ℕ) (C :
   base-digits : Digits (O .base) (C .run)
   base-digits = subst (λ (x : ℕ). All (digitBelow x) (C .run)) (O .radix-is) (C .pass)
 
-  so-far : f ≡ 38 ∷ 35 ∷ (mark (O .base) ++ (C .run ++ drop i f))
-  so-far = O .opened ∙ ap (λ (l : List ℕ). 38 ∷ 35 ∷ (mark (O .base) ++ l)) (C .split)
+  so-far : f ≡ 38 ∷ 35 ∷ (baseMark (O .base) ++ (C .run ++ drop i f))
+  so-far = O .opened ∙ ap (λ (l : List ℕ). 38 ∷ 35 ∷ (baseMark (O .base) ++ l)) (C .split)
 
   value-is : n ≡ valueOf (O .base) (C .run)
   value-is = C .value ∙ ap (λ (x : ℕ). valueFrom x 0 (C .run)) (O .radix-is)
@@ -224,7 +224,7 @@ module _ (f : List ℕ) (at from r : ℕ) (O : Opened f from r) (i n : ℕ) (C :
   agrees v t ok u e =
       number-is (O .base) (C .run) (drop i f ++ v) base-digits
       (subst (λ (l : List ℕ). NoMark (O .base) l) (ap (λ (l : List ℕ). l ++ v) (C .split) ∙ append-assoc (C .run) (drop i f) v) (no-mark-in (O .base) f from (O .no-mark) v)) t ok u
-      (ap (λ (l : List ℕ). 38 ∷ 35 ∷ l) (ap (λ (l : List ℕ). mark (O .base) ++ l) (sym (append-assoc (C .run) (drop i f) v)) ∙ sym (append-assoc (mark (O .base)) (C .run ++ drop i f) v))
+      (ap (λ (l : List ℕ). 38 ∷ 35 ∷ l) (ap (λ (l : List ℕ). baseMark (O .base) ++ l) (sym (append-assoc (C .run) (drop i f) v)) ∙ sym (append-assoc (baseMark (O .base)) (C .run ++ drop i f) v))
       ∙ ap (λ (l : List ℕ). l ++ v) (sym so-far) ∙ e)
 
   -- it names what its digits come to after those read
@@ -237,8 +237,8 @@ module _ (f : List ℕ) (at from r : ℕ) (O : Opened f from r) (i n : ℕ) (C :
   number-token h e ok =
       let t : Tok = numeric (O .base) (C .run) in
       whole f at t (drop (i + 1) f) (base-digits, subst (λ (x : ℕ). Char x) value-is ok)
-      (so-far ∙ ap (λ (l : List ℕ). 38 ∷ 35 ∷ (mark (O .base) ++ (C .run ++ l))) (at-one f i 59 h e)
-      ∙ ap (λ (l : List ℕ). 38 ∷ 35 ∷ l) (ap (λ (l : List ℕ). mark (O .base) ++ l) (sym (append-assoc (C .run) (59 ∷ []) (drop (i + 1) f))) ∙ sym (append-assoc (mark (O .base)) (C .run ++ (59 ∷ [])) (drop (i + 1) f))))
+      (so-far ∙ ap (λ (l : List ℕ). 38 ∷ 35 ∷ (baseMark (O .base) ++ (C .run ++ l))) (at-one f i 59 h e)
+      ∙ ap (λ (l : List ℕ). 38 ∷ 35 ∷ l) (ap (λ (l : List ℕ). baseMark (O .base) ++ l) (sym (append-assoc (C .run) (59 ∷ []) (drop (i + 1) f))) ∙ sym (append-assoc (baseMark (O .base)) (C .run ++ (59 ∷ [])) (drop (i + 1) f))))
       (Character n false) (record { at = at + i + 1 }) tt tt (ap (λ (x : ℕ). Character x false) value-is)
       (omega (arith, opened-length (O .base) (C .run), O .place, C .count))
 
@@ -294,10 +294,10 @@ module _ (f : List ℕ) (at from r : ℕ) (O : Opened f from r) (i n : ℕ) (C :
       t : Tok
       t = numeric (O .base) (C .run ++ F .digits)
 
-      all-of : f ≡ 38 ∷ 35 ∷ (mark (O .base) ++ C .run)
-      all-of = so-far ∙ ap (λ (x : List ℕ). 38 ∷ 35 ∷ (mark (O .base) ++ x)) (ap (λ (x : List ℕ). C .run ++ x) (nothing-left f i l) ∙ append-nil (C .run))
+      all-of : f ≡ 38 ∷ 35 ∷ (baseMark (O .base) ++ C .run)
+      all-of = so-far ∙ ap (λ (x : List ℕ). 38 ∷ 35 ∷ (baseMark (O .base) ++ x)) (ap (λ (x : List ℕ). C .run ++ x) (nothing-left f i l) ∙ append-nil (C .run))
 
-      size : length f ≡ 2 + (length (mark (O .base)) + length (C .run))
+      size : length f ≡ 2 + (length (baseMark (O .base)) + length (C .run))
       size = omega (arith, O .place, C .count)
 
       tail : Digits (O .base) (F .digits)
@@ -312,7 +312,7 @@ module _ (f : List ℕ) (at from r : ℕ) (O : Opened f from r) (i n : ℕ) (C :
       begins : Begins f (bytes t)
       begins = (
         F .digits ++ (59 ∷ []),
-        ap (λ (x : List ℕ). 38 ∷ 35 ∷ x) (ap (λ (x : List ℕ). mark (O .base) ++ x) (append-assoc (C .run) (F .digits) (59 ∷ [])) ∙ sym (append-assoc (mark (O .base)) (C .run) (F .digits ++ (59 ∷ []))))
+        ap (λ (x : List ℕ). 38 ∷ 35 ∷ x) (ap (λ (x : List ℕ). baseMark (O .base) ++ x) (append-assoc (C .run) (F .digits) (59 ∷ [])) ∙ sym (append-assoc (baseMark (O .base)) (C .run) (F .digits ++ (59 ∷ []))))
             ∙ ap (λ (x : List ℕ). x ++ (F .digits ++ (59 ∷ []))) (sym all-of),
         λ z. omega (arith, ap length z, length-append (F .digits) (59 ∷ [])),
       )
@@ -354,7 +354,7 @@ opened-decimal f l e e′ n =
     }
 
 pub opened-within : (f : List ℕ) (from r : ℕ) → Opened f from r → from ≤ length f
-opened-within f from r O = omega (arith, ap length (O .opened), length-append (mark (O .base)) (drop from f), O .place)
+opened-within f from r O = omega (arith, ap length (O .opened), length-append (baseMark (O .base)) (drop from f), O .place)
 
 -- the next number is far from the largest of a machine's
 pub product-most : (n r : ℕ) → n ≤ 0x10FFFF → (r ≡ 10) ⊎ (r ≡ 16) → n * r + r ≤ 17825792

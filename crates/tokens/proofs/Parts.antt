@@ -17,7 +17,7 @@ use Rattle.text.specs.Numerals.{Base, decimal, hex, radix, digitBelow, valueFro
 use Rattle.text.proofs.NameLaws.{name-all}
 use Rattle.text.proofs.NumeralLaws.{value-append, value-grows}
 use Rattle.text.proofs.Shapes.{cons≢[], char-most}
-use Rattle.tokens.specs.Tokens.{Kind, start, end, empty, lt, crlf, cr, Tok, tag, ref, numeric, line, char, Good, opens, closes, mark, bytes, eventOf, front, Longest, BeginsOne, Means}
+use Rattle.tokens.specs.Tokens.{Kind, start, end, empty, lt, crlf, cr, Tok, tag, ref, numeric, line, char, Good, openingBytes, closingBytes, baseMark, bytes, eventOf, front, Longest, BeginsOne, Means}
 use Rattle.tokens.specs.Stream.{settled, ReadAs, Reads, movedEvent, moved}
 use Rattle.tokens.specs.Parts.{CutNumber, Settles, WaitingSettles, Alike, InParts}
 use Rattle.tokens.specs.declared.Cursor.{Cursor}
@@ -46,19 +46,19 @@ closed : (f : List ℕ) (t : Tok) → Good t → bytes t ≡ f ++ (62 ∷ []) �
 closed f t ok e h = (t, ok, (62 ∷ [], e, cons≢[]), omega (arith, ap length e, length-append f (62 ∷ [])))
 
 -- the parts of a tag that f can end in: the name, the white space, the closing bytes
-module _ (k : Kind) (is : closes k ≡ 62 ∷ []) (alone : Short (opens k)) (v c : List ℕ) (more : v ≡ [] → ⊥) where
-  short-name : (g : List ℕ) → All nameByte g → (h : List ℕ) → Name (g ++ h) → length (opens k ++ g) < 32 → Short (opens k ++ g)
-  short-name [] a h n s = subst (λ (l : List ℕ). Short l) (sym (append-nil (opens k))) alone
+module _ (k : Kind) (is : closingBytes k ≡ 62 ∷ []) (alone : Short (openingBytes k)) (v c : List ℕ) (more : v ≡ [] → ⊥) where
+  short-name : (g : List ℕ) → All nameByte g → (h : List ℕ) → Name (g ++ h) → length (openingBytes k ++ g) < 32 → Short (openingBytes k ++ g)
+  short-name [] a h n s = subst (λ (l : List ℕ). Short l) (sym (append-nil (openingBytes k))) alone
   short-name (x ∷ g) a h n s =
-      closed (opens k ++ (x ∷ g)) (tag k (x ∷ g) []) ((n .0, a .1), tt) (ap (λ (l : List ℕ). opens k ++ (x ∷ g ++ l)) is ∙ sym (append-assoc (opens k) (x ∷ g) (62 ∷ []))) s
+      closed (openingBytes k ++ (x ∷ g)) (tag k (x ∷ g) []) ((n .0, a .1), tt) (ap (λ (l : List ℕ). openingBytes k ++ (x ∷ g ++ l)) is ∙ sym (append-assoc (openingBytes k) (x ∷ g) (62 ∷ []))) s
 
-  short-gap : (n g h : List ℕ) → Name n → All blank (g ++ h) → length (opens k ++ (n ++ g)) < 32 → Short (opens k ++ (n ++ g))
+  short-gap : (n g h : List ℕ) → Name n → All blank (g ++ h) → length (openingBytes k ++ (n ++ g)) < 32 → Short (openingBytes k ++ (n ++ g))
   short-gap n g h hn hb s =
-      closed (opens k ++ (n ++ g)) (tag k n g) (hn, all-left blank g h hb)
-      (ap (λ (l : List ℕ). opens k ++ (n ++ (g ++ l))) is ∙ simp append-assoc) s
+      closed (openingBytes k ++ (n ++ g)) (tag k n g) (hn, all-left blank g h hb)
+      (ap (λ (l : List ℕ). openingBytes k ++ (n ++ (g ++ l))) is ∙ simp append-assoc) s
 
-  short-tag : (g n b : List ℕ) → Name n → All blank b → g ++ v ≡ n ++ (b ++ c) → length (opens k ++ g) < 32
-      → ((r : List ℕ) → c ≡ r ++ v → length (opens k ++ (n ++ (b ++ r))) < 32 → Short (opens k ++ (n ++ (b ++ r)))) → Short (opens k ++ g)
+  short-tag : (g n b : List ℕ) → Name n → All blank b → g ++ v ≡ n ++ (b ++ c) → length (openingBytes k ++ g) < 32
+      → ((r : List ℕ) → c ≡ r ++ v → length (openingBytes k ++ (n ++ (b ++ r))) < 32 → Short (openingBytes k ++ (n ++ (b ++ r)))) → Short (openingBytes k ++ g)
   short-tag g n b hn hb e s last =
       ⊎-elim
       (λ w.
@@ -67,28 +67,28 @@ module _ (k : Kind) (is : closes k ≡ 62 ∷ []) (alone : Short (opens k)) (v c
       (λ x.
       let e₂ : c ≡ x .0 ++ v = append-cancel-left b c (x .0 ++ v) (sym e₁ ∙ ap (λ (l : List ℕ). l ++ v) (x .1) ∙ append-assoc b (x .0) v) in
       let q : n ++ (b ++ x .0) ≡ g = ap (λ (l : List ℕ). n ++ l) (sym (x .1)) ∙ sym (w .1) in
-      subst (λ (l : List ℕ). Short (opens k ++ l)) q (last (x .0) e₂ (subst (λ (l : List ℕ). length (opens k ++ l) < 32) (sym q) s)))
+      subst (λ (l : List ℕ). Short (openingBytes k ++ l)) q (last (x .0) e₂ (subst (λ (l : List ℕ). length (openingBytes k ++ l) < 32) (sym q) s)))
       (λ x.
-      subst (λ (l : List ℕ). Short (opens k ++ l)) (sym (w .1))
-      (short-gap n (w .0) (x .0) hn (subst (λ (l : List ℕ). All blank l) (x .1) hb) (subst (λ (l : List ℕ). length (opens k ++ l) < 32) (w .1) s)))
+      subst (λ (l : List ℕ). Short (openingBytes k ++ l)) (sym (w .1))
+      (short-gap n (w .0) (x .0) hn (subst (λ (l : List ℕ). All blank l) (x .1) hb) (subst (λ (l : List ℕ). length (openingBytes k ++ l) < 32) (w .1) s)))
       (either (w .0) b v c e₁))
       (λ w.
       short-name g (all-left nameByte g (w .0) (subst (λ (l : List ℕ). All nameByte l) (w .1) (name-all n hn))) (w .0) (subst (λ (l : List ℕ). Name l) (w .1) hn) s)
       (either g n v (b ++ c) e)
 
-short-start : Short (opens start)
+short-start : Short (openingBytes start)
 short-start = (tag start (97 ∷ []) [], ((refl, tt), tt), (97 ∷ 62 ∷ [], refl, cons≢[]), omega arith)
 
-short-end : Short (opens end)
+short-end : Short (openingBytes end)
 short-end = (tag end (97 ∷ []) [], ((refl, tt), tt), (97 ∷ 62 ∷ [], refl, cons≢[]), omega arith)
 
 short-none : Short []
 short-none = (tag start (97 ∷ []) [], ((refl, tt), tt), (60 ∷ 97 ∷ 62 ∷ [], refl, cons≢[]), omega arith)
 
 -- what is left of > or of />
-last-one : (k : Kind) → closes k ≡ 62 ∷ [] → (n b v : List ℕ) → Name n → All blank b → (v ≡ [] → ⊥) → (r : List ℕ) → 62 ∷ [] ≡ r ++ v
-    → length (opens k ++ (n ++ (b ++ r))) < 32 → Short (opens k ++ (n ++ (b ++ r)))
-last-one k is n b v hn hb more [] e s = closed (opens k ++ (n ++ (b ++ []))) (tag k n b) (hn, hb) (ap (λ (l : List ℕ). opens k ++ (n ++ (b ++ l))) is ∙ regroup (opens k) n b [] (62 ∷ [])) s
+last-one : (k : Kind) → closingBytes k ≡ 62 ∷ [] → (n b v : List ℕ) → Name n → All blank b → (v ≡ [] → ⊥) → (r : List ℕ) → 62 ∷ [] ≡ r ++ v
+    → length (openingBytes k ++ (n ++ (b ++ r))) < 32 → Short (openingBytes k ++ (n ++ (b ++ r)))
+last-one k is n b v hn hb more [] e s = closed (openingBytes k ++ (n ++ (b ++ []))) (tag k n b) (hn, hb) (ap (λ (l : List ℕ). openingBytes k ++ (n ++ (b ++ l))) is ∙ regroup (openingBytes k) n b [] (62 ∷ [])) s
 last-one k is n b [] hn hb more (x ∷ r) e s = absurd (more refl)
 last-one k is n b (y ∷ v) hn hb more (x ∷ r) e s = absurd (omega (arith, ap length e, length-append r (y ∷ v)))
 
@@ -116,30 +116,30 @@ first-digits (x ∷ g) (y ∷ ds) v e n =
     let (m, q) = first-digits g ds v (tail-eq-of-cons-eq e) n in
     (m, ap₂ {A = ℕ} (λ z l. z ∷ l) (sym (head-eq-of-cons-eq e)) q)
 
-short-number : (k : Base) (g m : List ℕ) → Good (numeric k (g ++ m)) → length (38 ∷ 35 ∷ (mark k ++ g)) ≤ 29 → Short (38 ∷ 35 ∷ (mark k ++ g))
+short-number : (k : Base) (g m : List ℕ) → Good (numeric k (g ++ m)) → length (38 ∷ 35 ∷ (baseMark k ++ g)) ≤ 29 → Short (38 ∷ 35 ∷ (baseMark k ++ g))
 short-number k g m ok s =
     let n : ℕ = valueOf k g in
     let (j, F, few) = some-fewest k n (at-most n (valueFrom (radix k) n m) (value-grows k n m) (char-most (subst (λ (x : ℕ). Char x) (value-append (radix k) 0 g m) (ok .1)))) in
     let t : Tok = numeric k (g ++ F .digits) in
     let w : List ℕ = F .digits ++ (59 ∷ []) in
-    let e : bytes t ≡ (38 ∷ 35 ∷ (mark k ++ g)) ++ w =
-    ap (λ (x : List ℕ). 38 ∷ 35 ∷ x) (ap (λ (x : List ℕ). mark k ++ x) (append-assoc g (F .digits) (59 ∷ [])) ∙ sym (append-assoc (mark k) g w)) in (
+    let e : bytes t ≡ (38 ∷ 35 ∷ (baseMark k ++ g)) ++ w =
+    ap (λ (x : List ℕ). 38 ∷ 35 ∷ x) (ap (λ (x : List ℕ). baseMark k ++ x) (append-assoc g (F .digits) (59 ∷ [])) ∙ sym (append-assoc (baseMark k) g w)) in (
       t,
       (all-append (digitBelow (radix k)) g (F .digits) (all-left (digitBelow (radix k)) g m (ok .0)) (F .are-digits), subst (λ (x : ℕ). Char x) (sym (value-append (radix k) 0 g (F .digits))) (F .name-one)),
       (w, e, λ z. omega (arith, ap length z, length-append (F .digits) (59 ∷ []))),
-      omega (arith, ap length e, length-append (38 ∷ 35 ∷ (mark k ++ g)) w, length-append (F .digits) (59 ∷ []), F .many, few, s),
+      omega (arith, ap length e, length-append (38 ∷ 35 ∷ (baseMark k ++ g)) w, length-append (F .digits) (59 ∷ []), F .many, few, s),
     )
   where
     at-most : (x y : ℕ) → x ≤ y → y ≤ 0x10FFFF → x ≤ 0x10FFFF
     at-most x y a b = omega arith
 
 -- under 30 bytes a number can still come to 32; at 30 and 31 it may not
-number-short : (k : Base) (g m f : List ℕ) → Good (numeric k (g ++ m)) → 38 ∷ 35 ∷ (mark k ++ g) ≡ f → length f < 32 → Short f ⊎ CutNumber f
+number-short : (k : Base) (g m f : List ℕ) → Good (numeric k (g ++ m)) → 38 ∷ 35 ∷ (baseMark k ++ g) ≡ f → length f < 32 → Short f ⊎ CutNumber f
 number-short k g m f ok e s = go (decLt (length f) 30)
   where
     go : Dec (length f < 30) → Short f ⊎ CutNumber f
     go (yes h) = inl (subst (λ (l : List ℕ). Short l) e (short-number k g m ok (omega (arith, ap length e))))
-    go (no h) = inr (record { opened = (mark k ++ g, sym e); long = which (decLt (length f) 31) })
+    go (no h) = inr (record { opened = (baseMark k ++ g, sym e); long = which (decLt (length f) 31) })
       where
         which : Dec (length f < 31) → (length f ≡ 30) ⊎ (length f ≡ 31)
         which (yes l) = inl (omega arith)

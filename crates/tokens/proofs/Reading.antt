@@ -16,7 +16,7 @@ use Rattle.text.specs.declared.Decoded.{Decoded}
 use Rattle.text.specs.Names.{nameFirst, nameByte, blank, All, Name}
 use Rattle.text.proofs.Shapes.{front1, front2, front3, none-left, lead, range, shape1, shape2, shape3, shape4, cons≢[]}
 use Rattle.tokens.specs.Inner.{Stops, Run, WordIs, cutAt}
-use Rattle.tokens.specs.Tokens.{Kind, start, end, empty, Ref, amp, lt, gt, apos, quot, crlf, cr, Tok, tag, ref, line, char, Good, opens, closes, spelled, stands, bytes, tagEvent, BeginsOne, Means, front}
+use Rattle.tokens.specs.Tokens.{Kind, start, end, empty, Ref, amp, lt, gt, apos, quot, crlf, cr, Tok, tag, ref, line, char, Good, openingBytes, closingBytes, spelled, stands, bytes, tagEvent, BeginsOne, Means, front}
 use Rattle.tokens.specs.declared.Word.{Word}
 use Rattle.tokens.specs.declared.Word.the-variants.{Whole, No}
 use Rattle.tokens.specs.declared.Event.the-variants.{Start, End, Empty, Character}
@@ -60,19 +60,19 @@ cut-means f at t n ok o b l s = go (decLt n 32)
         rw (le-ltb n 32 k) (begins-only f t ok o b, (t, ok, b), λ t′ ok′ b′. omega (arith, s t′ ok′ b′))
 
 -- a whole tag
-pub tag-length : (k : Kind) (n b : List ℕ) → length (bytes (tag k n b)) ≡ length (opens k) + (length n + (length b + length (closes k)))
-tag-length k n b = length-append (opens k) (n ++ (b ++ closes k)) ∙ ap (λ (m : ℕ). length (opens k) + m) (length-append n (b ++ closes k) ∙ ap (λ (m : ℕ). length n + m) (length-append b (closes k)))
+pub tag-length : (k : Kind) (n b : List ℕ) → length (bytes (tag k n b)) ≡ length (openingBytes k) + (length n + (length b + length (closingBytes k)))
+tag-length k n b = length-append (openingBytes k) (n ++ (b ++ closingBytes k)) ∙ ap (λ (m : ℕ). length (openingBytes k) + m) (length-append n (b ++ closingBytes k) ∙ ap (λ (m : ℕ). length n + m) (length-append b (closingBytes k)))
 
 -- o, n, b, c, r: the bytes that open a tag, the name, the white space, the bytes that close it, what follows
 pub regroup : (o n b c r : List ℕ) → o ++ (n ++ (b ++ (c ++ r))) ≡ (o ++ (n ++ (b ++ c))) ++ r
 regroup o n b c r = simp append-assoc
 
-pub tag-token : (k : Kind) (f n b r : List ℕ) (at len next : ℕ) → Name n → All blank b → f ≡ opens k ++ (n ++ (b ++ (closes k ++ r)))
-    → len ≡ length n → next ≡ at + (length (opens k) + (length n + (length b + length (closes k))))
-    → Means f at (Token (tagEvent k (at + length (opens k)) len) (record { at = next }))
+pub tag-token : (k : Kind) (f n b r : List ℕ) (at len next : ℕ) → Name n → All blank b → f ≡ openingBytes k ++ (n ++ (b ++ (closingBytes k ++ r)))
+    → len ≡ length n → next ≡ at + (length (openingBytes k) + (length n + (length b + length (closingBytes k))))
+    → Means f at (Token (tagEvent k (at + length (openingBytes k)) len) (record { at = next }))
 tag-token k f n b r at len next hn hb e l m =
-    whole f at (tag k n b) r (hn, hb) (e ∙ regroup (opens k) n b (closes k) r) (tagEvent k (at + length (opens k)) len) (record { at = next }) tt tt
-    (ap (tagEvent k (at + length (opens k))) l) (m ∙ ap (λ (x : ℕ). at + x) (sym (tag-length k n b)))
+    whole f at (tag k n b) r (hn, hb) (e ∙ regroup (openingBytes k) n b (closingBytes k) r) (tagEvent k (at + length (openingBytes k)) len) (record { at = next }) tt tt
+    (ap (tagEvent k (at + length (openingBytes k))) l) (m ∙ ap (λ (x : ℕ). at + x) (sym (tag-length k n b)))
 
 -- a tag that is cut off one byte before its end
 pub tag-cut : (k : Kind) (f n b : List ℕ) (at : ℕ) → Name n → All blank b → bytes (tag k n b) ≡ f ++ (62 ∷ []) → length f ≤ 32 → Means f at (cutAt (length f))

@@ -17,7 +17,7 @@ use Rattle.tokens.specs.declared.Event.{Event}
 use Rattle.tokens.specs.declared.Event.the-variants.{Start, End, Empty, Character}
 use Rattle.tokens.specs.declared.Answer.{Answer}
 use Rattle.tokens.specs.declared.Answer.the-variants.{Token, Waiting, Begun, Bad, Long}
-use Rattle.tokens.specs.Tokens.{Tok, tag, ref, numeric, line, crlf, cr, char, Kind, start, end, empty, Ref, amp, lt, gt, apos, quot, Good, bytes, stands, tagEvent, eventOf, front, Longest, Means, opens, closes}
+use Rattle.tokens.specs.Tokens.{Tok, tag, ref, numeric, line, crlf, cr, char, Kind, start, end, empty, Ref, amp, lt, gt, apos, quot, Good, bytes, stands, tagEvent, eventOf, front, Longest, Means, openingBytes, closingBytes}
 use Rattle.tokens.specs.Stream.{settled, ReadAs, Reads, flat, AllGood, AllShort, Followed, AllWhole, eventsAt, NameAt}
 use Rattle.tokens.proofs.Theory.{agree, one-answer, token-cons, whole, waits, only-cr, followed-ended}
 use Rattle.tokens.proofs.Reading.{tag-length, starts-length}
@@ -325,11 +325,11 @@ pub reads-tokens : (more : Bool) (s : List ℕ) (at : ℕ) (es : List Event) (to
 reads-tokens more s at es to r = let (ts, g, p, q, a, f, h) = reads-all more s at es to r in (ts, g, p, q, a, f)
 
 -- The bytes at an event's place are the token's name.
-pub name-place : (k : Kind) (s : List ℕ) (at : ℕ) (n b r : List ℕ) → drop at s ≡ (opens k ++ (n ++ (b ++ closes k))) ++ r → take (length n) (drop (at + length (opens k)) s) ≡ n
+pub name-place : (k : Kind) (s : List ℕ) (at : ℕ) (n b r : List ℕ) → drop at s ≡ (openingBytes k ++ (n ++ (b ++ closingBytes k))) ++ r → take (length n) (drop (at + length (openingBytes k)) s) ≡ n
 name-place k s at n b r e =
-    let a : drop at s ≡ opens k ++ (n ++ ((b ++ closes k) ++ r)) = e ∙ append-assoc (opens k) (n ++ (b ++ closes k)) r ∙ ap (λ (l : List ℕ). opens k ++ l) (append-assoc n (b ++ closes k) r) in
-    ap (take (length n)) (sym (drop-drop (length (opens k)) at s) ∙ ap (drop (length (opens k))) a ∙ drop-append-seam (opens k) (n ++ ((b ++ closes k) ++ r)))
-    ∙ take-append-seam n ((b ++ closes k) ++ r)
+    let a : drop at s ≡ openingBytes k ++ (n ++ ((b ++ closingBytes k) ++ r)) = e ∙ append-assoc (openingBytes k) (n ++ (b ++ closingBytes k)) r ∙ ap (λ (l : List ℕ). openingBytes k ++ l) (append-assoc n (b ++ closingBytes k) r) in
+    ap (take (length n)) (sym (drop-drop (length (openingBytes k)) at s) ∙ ap (drop (length (openingBytes k))) a ∙ drop-append-seam (openingBytes k) (n ++ ((b ++ closingBytes k) ++ r)))
+    ∙ take-append-seam n ((b ++ closingBytes k) ++ r)
 
 -- an event's kind, if it is a tag's, and where its name stands
 kindOf : Event → Kind
@@ -360,12 +360,12 @@ no-character : (k : Kind) (a b c : ℕ) (l : Bool) → tagEvent k a b ≡ Charac
 unfolding number
 no-character k a b c l p = zero≢one (sym (ap number p) ∙ tag-parts k a b .3)
 
-opens-long : (k : Kind) → 1 ≤ length (opens k)
+opens-long : (k : Kind) → 1 ≤ length (openingBytes k)
 opens-long start = omega arith
 opens-long end = omega arith
 opens-long empty = omega arith
 
-named : (k : Kind) (s : List ℕ) (at from len next : ℕ) (n b : List ℕ) → Good (tag k n b) → from ≡ at + length (opens k) → len ≡ length n
+named : (k : Kind) (s : List ℕ) (at from len next : ℕ) (n b : List ℕ) → Good (tag k n b) → from ≡ at + length (openingBytes k) → len ≡ length n
     → next ≡ at + length (bytes (tag k n b)) → drop at s ≡ bytes (tag k n b) ++ drop next s → NameAt k s at from len
 named k s at from len next n b ok p q w e =
     record {
@@ -386,7 +386,7 @@ tag-name k s at from len next m = go (token-split s at (tagEvent k from len) nex
   where
     go : (t : Tok) × Good t × (tagEvent k from len ≡ eventOf at t) × (next .at ≡ at + length (bytes t)) × (drop at s ≡ bytes t ++ drop (next .at) s) → NameAt k s at from len
     go (tag k′ n b, ok, p, q, e) =
-        let a = at + length (opens k′) in
+        let a = at + length (openingBytes k′) in
         let x = tag-parts k from len in
         let y = tag-parts k′ a (length n) in
         let same : k′ ≡ k = sym (y .0) ∙ ap kindOf (sym p) ∙ x .0 in

@@ -15,7 +15,7 @@ use Rattle.text.specs.Numerals.{Base, decimal, hex, radix, digitBelow, Digits}
 use Rattle.text.proofs.Shapes.{lead, Range, range, shape1, shape2, shape3, shape4, cons≢[]}
 use Rattle.text.proofs.Unique.{char-one}
 use Rattle.text.proofs.NameLaws.{name-all}
-use Rattle.tokens.specs.Tokens.{Kind, start, end, empty, Ref, amp, lt, gt, apos, quot, LineEnd, crlf, cr, Tok, tag, ref, numeric, line, char, Good, opens, closes, spelled, mark, ending, bytes, eventOf, Longest, StartsNone, BeginsOne, Means}
+use Rattle.tokens.specs.Tokens.{Kind, start, end, empty, Ref, amp, lt, gt, apos, quot, LineEnd, crlf, cr, Tok, tag, ref, numeric, line, char, Good, openingBytes, closingBytes, spelled, baseMark, ending, bytes, eventOf, Longest, StartsNone, BeginsOne, Means}
 use Rattle.tokens.specs.Stream.{Followed}
 use Rattle.tokens.specs.Inner.{Stops}
 use Rattle.tokens.specs.declared.Cursor.{Cursor}
@@ -44,12 +44,12 @@ parts n n′ b b′ r r′ hn hn′ hb hb′ s s′ z z′ e =
     let j = span blank b b′ r r′ hb hb′ z z′ (i .1) in
     (i .0, j .0, j .1)
 
-closes-name : (k : Kind) (u : List ℕ) → Stops nameByte (closes k ++ u)
+closes-name : (k : Kind) (u : List ℕ) → Stops nameByte (closingBytes k ++ u)
 closes-name start u = refl
 closes-name end u = refl
 closes-name empty u = refl
 
-closes-blank : (k : Kind) (u : List ℕ) → Stops blank (closes k ++ u)
+closes-blank : (k : Kind) (u : List ℕ) → Stops blank (closingBytes k ++ u)
 closes-blank start u = refl
 closes-blank end u = refl
 closes-blank empty u = refl
@@ -84,7 +84,7 @@ line-head : (x : LineEnd) (y : ℕ) (g u : List ℕ) → y ∷ g ≡ ending x ++
 line-head crlf y g u e = head-eq-of-cons-eq e
 line-head cr y g u e = head-eq-of-cons-eq e
 
-tag-head : (k : Kind) (y : ℕ) (g m u : List ℕ) → y ∷ g ≡ (opens k ++ m) ++ u → y ≡ 60
+tag-head : (k : Kind) (y : ℕ) (g m u : List ℕ) → y ∷ g ≡ (openingBytes k ++ m) ++ u → y ≡ 60
 tag-head start y g m u e = head-eq-of-cons-eq e
 tag-head end y g m u e = head-eq-of-cons-eq e
 tag-head empty y g m u e = head-eq-of-cons-eq e
@@ -123,7 +123,7 @@ end-is n b r hn hb s z (char c) ok u e = absurd (char-head c 60 (47 ∷ (n ++ (b
 -- the same for a reference by name and for a character
 pub ref-is : (y : ℕ) (g : List ℕ) → (y ≡ 35 → ⊥) → (t : Tok) → Good t → (u : List ℕ) → 38 ∷ y ∷ g ≡ bytes t ++ u
     → (x : Ref) × (t ≡ ref x) × (38 ∷ y ∷ g ≡ spelled x ++ u)
-ref-is y g h (tag k n b) ok u e = let z = tag-head k 38 (y ∷ g) (n ++ (b ++ closes k)) u e in absurd (omega arith)
+ref-is y g h (tag k n b) ok u e = let z = tag-head k 38 (y ∷ g) (n ++ (b ++ closingBytes k)) u e in absurd (omega arith)
 ref-is y g h (ref x) ok u e = (x, refl, e)
 ref-is y g h (numeric k ds) ok u e = absurd (h (head-eq-of-cons-eq (tail-eq-of-cons-eq e)))
 ref-is y g h (line x) ok u e = let z = line-head x 38 (y ∷ g) u e in absurd (omega arith)
@@ -131,7 +131,7 @@ ref-is y g h (char c) ok u e = absurd (char-head c 38 (y ∷ g) u ok e .1 refl)
 
 pub char-is : (x : ℕ) (g : List ℕ) → (x ≡ 60 → ⊥) → (x ≡ 38 → ⊥) → (x ≡ 13 → ⊥) → (t : Tok) → Good t → (u : List ℕ) → x ∷ g ≡ bytes t ++ u
     → (c : ℕ) × (t ≡ char c) × Good (char c) × (x ∷ g ≡ utf8 c ++ u)
-char-is x g h k l (tag j n b) ok u e = absurd (h (tag-head j x g (n ++ (b ++ closes j)) u e))
+char-is x g h k l (tag j n b) ok u e = absurd (h (tag-head j x g (n ++ (b ++ closingBytes j)) u e))
 char-is x g h k l (ref y) ok u e = absurd (k (ref-head y x g u e))
 char-is x g h k l (numeric j ds) ok u e = absurd (k (head-eq-of-cons-eq e))
 char-is x g h k l (line y) ok u e = absurd (l (line-head y x g u e))
@@ -171,15 +171,15 @@ marked [] w n e = cons≢[] (sym e)
 marked (x ∷ l) w n e = n (head-eq-of-cons-eq e)
 
 pub number-is : (k : Base) (ds r : List ℕ) → Digits k ds → NoMark k (ds ++ r) → (t : Tok) → Good t → (u : List ℕ)
-    → 38 ∷ 35 ∷ (mark k ++ (ds ++ r)) ≡ bytes t ++ u → GoesOn k ds r t u
-number-is k ds r a n (tag j m b) ok u e = let z = tag-head j 38 (35 ∷ (mark k ++ (ds ++ r))) (m ++ (b ++ closes j)) u e in absurd (omega arith)
-number-is k ds r a n (ref x) ok u e = absurd (ref-second x 35 (mark k ++ (ds ++ r)) u e refl)
+    → 38 ∷ 35 ∷ (baseMark k ++ (ds ++ r)) ≡ bytes t ++ u → GoesOn k ds r t u
+number-is k ds r a n (tag j m b) ok u e = let z = tag-head j 38 (35 ∷ (baseMark k ++ (ds ++ r))) (m ++ (b ++ closingBytes j)) u e in absurd (omega arith)
+number-is k ds r a n (ref x) ok u e = absurd (ref-second x 35 (baseMark k ++ (ds ++ r)) u e refl)
 number-is decimal ds r a n (numeric decimal es) ok u e = goes-on decimal refl ds r es u a (ok .0) (tail-eq-of-cons-eq (tail-eq-of-cons-eq e))
 number-is decimal ds r a n (numeric hex es) ok u e = absurd (marked (ds ++ r) ((es ++ (59 ∷ [])) ++ u) n (tail-eq-of-cons-eq (tail-eq-of-cons-eq e)))
 number-is hex ds r a n (numeric decimal es) ok u e = absurd (no-x es u 120 (ds ++ r) (ok .0) (tail-eq-of-cons-eq (tail-eq-of-cons-eq e)) refl)
 number-is hex ds r a n (numeric hex es) ok u e = goes-on hex refl ds r es u a (ok .0) (tail-eq-of-cons-eq (tail-eq-of-cons-eq (tail-eq-of-cons-eq e)))
-number-is k ds r a n (line x) ok u e = let z = line-head x 38 (35 ∷ (mark k ++ (ds ++ r))) u e in absurd (omega arith)
-number-is k ds r a n (char c) ok u e = absurd (char-head c 38 (35 ∷ (mark k ++ (ds ++ r))) u ok e .1 refl)
+number-is k ds r a n (line x) ok u e = let z = line-head x 38 (35 ∷ (baseMark k ++ (ds ++ r))) u e in absurd (omega arith)
+number-is k ds r a n (char c) ok u e = absurd (char-head c 38 (35 ∷ (baseMark k ++ (ds ++ r))) u ok e .1 refl)
 
 -- no two references start the same bytes
 pickRef : Bool → Ref → Ref → Ref
@@ -230,7 +230,7 @@ ref-1 gt u e = omega arith
 ref-1 apos u e = omega arith
 ref-1 quot u e = omega arith
 
-tag-0 : (k : Kind) (m u : List ℕ) → head ((opens k ++ m) ++ u) ≡ 60
+tag-0 : (k : Kind) (m u : List ℕ) → head ((openingBytes k ++ m) ++ u) ≡ 60
 unfolding head
 tag-0 start m u = refl
 tag-0 end m u = refl
@@ -282,7 +282,7 @@ agreed (tag empty n b) t′ ok ok′ u v e =
 agreed (tag end n b) t′ ok ok′ u v e =
     let w = end-is n b (62 ∷ u) (ok .0) (ok .1) (gap-stops b (62 ∷ u) (ok .1) refl) refl t′ ok′ v (sym (ap (λ (l : List ℕ). 60 ∷ 47 ∷ l) (spread n b (62 ∷ []) u)) ∙ e) in
     same (sym (w .0)) (tail-eq-of-cons-eq (w .1))
-agreed (ref x) (tag k n b) ok ok′ u v e = absurd (omega (arith, sym (ref-0 x u) ∙ ap head e ∙ tag-0 k (n ++ (b ++ closes k)) v))
+agreed (ref x) (tag k n b) ok ok′ u v e = absurd (omega (arith, sym (ref-0 x u) ∙ ap head e ∙ tag-0 k (n ++ (b ++ closingBytes k)) v))
 agreed (ref x) (ref y) ok ok′ u v e =
     let p = ref-one x y u v e in
     same (ap ref p) (append-cancel-left (spelled x) u v (e ∙ ap (λ (z : Ref). spelled z ++ v) (sym p)))
@@ -291,8 +291,8 @@ agreed (ref x) (line y) ok ok′ u v e = absurd (omega (arith, sym (ref-0 x u) �
 agreed (ref x) (char c) ok ok′ u v e = absurd (char-0 c v ok′ .1 (sym (ap head e) ∙ ref-0 x u))
 agreed (numeric k ds) t′ ok ok′ u v e =
     number-agreed k ds u v t′ (stop-59 k)
-    (number-is k ds (59 ∷ u) (ok .0) (unmarked k ds u (ok .0)) t′ ok′ v (ap (λ (l : List ℕ). 38 ∷ 35 ∷ l) (sym (spread (mark k) ds (59 ∷ []) u)) ∙ e))
-agreed (line x) (tag k n b) ok ok′ u v e = absurd (omega (arith, sym (line-0 x u) ∙ ap head e ∙ tag-0 k (n ++ (b ++ closes k)) v))
+    (number-is k ds (59 ∷ u) (ok .0) (unmarked k ds u (ok .0)) t′ ok′ v (ap (λ (l : List ℕ). 38 ∷ 35 ∷ l) (sym (spread (baseMark k) ds (59 ∷ []) u)) ∙ e))
+agreed (line x) (tag k n b) ok ok′ u v e = absurd (omega (arith, sym (line-0 x u) ∙ ap head e ∙ tag-0 k (n ++ (b ++ closingBytes k)) v))
 agreed (line x) (ref y) ok ok′ u v e = absurd (omega (arith, sym (line-0 x u) ∙ ap head e ∙ ref-0 y v))
 agreed (line x) (numeric k ds) ok ok′ u v e = absurd (omega (arith, sym (line-0 x u) ∙ ap head e ∙ number-0 k ds v))
 agreed (line crlf) (line crlf) ok ok′ u v e = same refl (tail-eq-of-cons-eq (tail-eq-of-cons-eq e))
@@ -300,7 +300,7 @@ agreed (line crlf) (line cr) ok ok′ u v e = longer refl refl (tail-eq-of-cons-
 agreed (line cr) (line crlf) ok ok′ u v e = shorter refl refl (tail-eq-of-cons-eq e)
 agreed (line cr) (line cr) ok ok′ u v e = same refl (tail-eq-of-cons-eq e)
 agreed (line x) (char c) ok ok′ u v e = absurd (char-0 c v ok′ .2 (sym (ap head e) ∙ line-0 x u))
-agreed (char c) (tag k n b) ok ok′ u v e = absurd (char-0 c u ok .0 (ap head e ∙ tag-0 k (n ++ (b ++ closes k)) v))
+agreed (char c) (tag k n b) ok ok′ u v e = absurd (char-0 c u ok .0 (ap head e ∙ tag-0 k (n ++ (b ++ closingBytes k)) v))
 agreed (char c) (ref x) ok ok′ u v e = absurd (char-0 c u ok .1 (ap head e ∙ ref-0 x v))
 agreed (char c) (numeric k ds) ok ok′ u v e = absurd (char-0 c u ok .1 (ap head e ∙ number-0 k ds v))
 agreed (char c) (line x) ok ok′ u v e = absurd (char-0 c u ok .2 (ap head e ∙ line-0 x v))

@@ -10,7 +10,7 @@ use Rattle.limits.specs.Limits.{longestToken}
 use Rattle.text.specs.Chars.{Char, Starts, Begins, Apart}
 use Rattle.text.specs.Names.{All}
 use Rattle.text.specs.Numerals.{Base, decimal, radix, digitBelow, valueFrom}
-use Rattle.tokens.specs.Tokens.{mark}
+use Rattle.tokens.specs.Tokens.{baseMark}
 use Rattle.tokens.specs.declared.Word.{Word}
 use Rattle.tokens.specs.declared.Word.the-variants.{Whole, No}
 use Rattle.tokens.specs.declared.Answer.{Answer}
@@ -53,8 +53,8 @@ cutAt n = pickAnswer (ltb n longestToken) Answer.Begun Long
 pub record Opened (f : List ℕ) (from r : ℕ) : Type 0 where
   pub base : Base
   pub radix-is : r ≡ radix base
-  pub place : from ≡ 2 + length (mark base)
-  pub opened : f ≡ 38 ∷ 35 ∷ (mark base ++ drop from f)
+  pub place : from ≡ 2 + length (baseMark base)
+  pub opened : f ≡ 38 ∷ 35 ∷ (baseMark base ++ drop from f)
   pub no-mark : base ≡ decimal → (from < length f) × (getD f from 0 ≡ 120 → ⊥)
 
 -- the fewest digits that, after those which name n, come to a number of Char, are k

@@ -11,7 +11,7 @@ use Rattle.tokens.specs.declared.Event.{Event}
 use Rattle.tokens.specs.declared.Event.the-variants.{Start, End, Empty, Character}
 use Rattle.tokens.specs.declared.Answer.{Answer}
 use Rattle.tokens.specs.declared.Answer.the-variants.{Token, Waiting, Begun, Bad, Long}
-use Rattle.tokens.specs.Tokens.{Kind, crlf, cr, Tok, tag, ref, numeric, line, char, opens, bytes, Good, eventOf, front, Means}
+use Rattle.tokens.specs.Tokens.{Kind, crlf, cr, Tok, tag, ref, numeric, line, char, openingBytes, bytes, Good, eventOf, front, Means}
 
 -- what a caller makes of an answer, by whether more is to come: what waits is begun while more is to come, and a token where nothing is
 abbrev pub settled : (moreToCome : Bool) → Answer → Answer
@@ -72,7 +72,7 @@ pub record NameAt (k : Kind) (s : List ℕ) (at from len : ℕ) : Type 0 where
   pub gap : List ℕ
   pub isName : Name name
   pub isGap : All blank gap
-  pub place : from ≡ at + length (opens k)
+  pub place : from ≡ at + length (openingBytes k)
   pub long : len ≡ length name
   pub within : from + len ≤ length s
   pub same : take len (drop from s) ≡ name

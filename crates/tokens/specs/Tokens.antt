@@ -45,16 +45,16 @@ Good (line x) = Unit {0}
 Good (char c) = Char c × (c ≡ 60 → ⊥) × (c ≡ 38 → ⊥) × (c ≡ 62 → ⊥) × (c ≡ 13 → ⊥)
 
 -- <  </  <
-abbrev pub opens : Kind → List ℕ
-opens start = 60 ∷ []
-opens end = 60 ∷ 47 ∷ []
-opens empty = 60 ∷ []
+abbrev pub openingBytes : Kind → List ℕ
+openingBytes start = 60 ∷ []
+openingBytes end = 60 ∷ 47 ∷ []
+openingBytes empty = 60 ∷ []
 
 -- >  >  />
-abbrev pub closes : Kind → List ℕ
-closes start = 62 ∷ []
-closes end = 62 ∷ []
-closes empty = 47 ∷ 62 ∷ []
+abbrev pub closingBytes : Kind → List ℕ
+closingBytes start = 62 ∷ []
+closingBytes end = 62 ∷ []
+closingBytes empty = 47 ∷ 62 ∷ []
 
 -- &amp;  &lt;  &gt;  &apos;  &quot;
 abbrev pub spelled : Ref → List ℕ
@@ -73,9 +73,9 @@ stands apos = 39
 stands quot = 34
 
 -- what comes between &# and the digits: nothing, or x
-abbrev pub mark : Base → List ℕ
-mark decimal = []
-mark hex = 120 ∷ []
+abbrev pub baseMark : Base → List ℕ
+baseMark decimal = []
+baseMark hex = 120 ∷ []
 
 -- CR LF, CR
 abbrev pub ending : LineEnd → List ℕ
@@ -84,9 +84,9 @@ ending cr = 13 ∷ []
 
 -- &# digits ;  &#x digits ;
 abbrev pub bytes : Tok → List ℕ
-bytes (tag k n b) = opens k ++ (n ++ (b ++ closes k))
+bytes (tag k n b) = openingBytes k ++ (n ++ (b ++ closingBytes k))
 bytes (ref x) = spelled x
-bytes (numeric k ds) = 38 ∷ 35 ∷ (mark k ++ (ds ++ (59 ∷ [])))
+bytes (numeric k ds) = 38 ∷ 35 ∷ (baseMark k ++ (ds ++ (59 ∷ [])))
 bytes (line x) = ending x
 bytes (char c) = utf8 c
 
@@ -98,7 +98,7 @@ tagEvent empty from len = Empty from len
 
 -- the event of a token that stands at `at`. A character is literal where it stood there itself; a line end is the character LF (XML 1.0, section 2.11)
 abbrev pub eventOf : ℕ → Tok → Event
-eventOf at (tag k n b) = tagEvent k (at + length (opens k)) (length n)
+eventOf at (tag k n b) = tagEvent k (at + length (openingBytes k)) (length n)
 eventOf at (ref x) = Character (stands x) false
 eventOf at (numeric k ds) = Character (valueOf k ds) false
 eventOf at (line x) = Character 10 true

@@ -11,7 +11,7 @@ use lib.ListN.{length}
 use borrow.Author.Tests.{eqb-true, leb-true, ltb-true}
 use Rattle.programs.specs.Program.{Program}
 use Rattle.programs.specs.Section.{Fill}
-use Rattle.layout.specs.Layout.{byteAt, mark, tagOffset, tagCount, productionOffset, productionCount, nodeOffset, nodeCount, programOffset, programLength, stringOffset, stringLength, programsIn, stringsIn, start, Size, Sections}
+use Rattle.layout.specs.Layout.{byteAt, sheetMark, tagOffset, tagCount, productionOffset, productionCount, nodeOffset, nodeCount, programOffset, programLength, stringOffset, stringLength, programsIn, stringsIn, start, Size, Sections}
 use Rattle.layout.specs.Records.{productionAt, nonterminalOf, tagNumberOf, firstNodeOf, nodeCountOf, nodesBefore, kindOf, argumentOf, firstProgramOfNode, secondProgramOfNode}
 use Rattle.sheet.specs.Tags.{tagRecord, tagBytes, TagAt}
 use Rattle.sheet.specs.Productions.{ProductionFits}
@@ -50,7 +50,7 @@ each-true (b ∷ bs) e = let t = both-true b (allTrue bs) e in (t .0, each-true 
 -- numbers 1 and 2
 abbrev pub sectionTests : List ℕ → List Bool
 sectionTests s =
-    leb 24 (length s) ∷ leb (length s) 27928 ∷ eqb (mark s) 0x5358 ∷ eqb (tagOffset s) 0 ∷ leb 1 (tagCount s) ∷ leb (tagCount s) 64
+    leb 24 (length s) ∷ leb (length s) 27928 ∷ eqb (sheetMark s) 0x5358 ∷ eqb (tagOffset s) 0 ∷ leb 1 (tagCount s) ∷ leb (tagCount s) 64
     ∷ eqb (productionOffset s) (tagOffset s + 16 * tagCount s) ∷ leb 1 (productionCount s) ∷ leb (productionCount s) 64
     ∷ eqb (nodeOffset s) (productionOffset s + 12 * productionCount s) ∷ leb (nodeCount s) 256 ∷ eqb (programOffset s) (nodeOffset s + 6 * nodeCount s)
     ∷ leb (programLength s) 16384 ∷ eqb (stringOffset s) (programOffset s + programLength s) ∷ leb (stringLength s) 8192
