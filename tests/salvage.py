@@ -1,7 +1,7 @@
 #!/usr/bin/env python3
 """The salvage run: a second runner, made from the change requests and docs/DECISIONS.md, section 12, on top of tests/streams.py, and cases of it.
 
-    python3 tests/salvage.py            writes cases.txt, CASES.md and expected into tests/days
+    python3 tests/salvage.py            writes crates/days/data/cases.txt, data/CASES.md and crates/days/stdout
     python3 tests/salvage.py --check    says whether they are what it would write
 
 A line of cases.txt is a letter, a space, and what the letter asks for; numbers and bytes are in hexadecimal:
@@ -14,7 +14,7 @@ A line of cases.txt is a letter, a space, and what the letter asks for; numbers 
                 a call on these bytes, declared ended (1) or not (0), with so many bytes lent for the output and for the report, each AA. It finds the state and the area as the call
                 before left them, if none of z, p and a comes between.
 
-A line of expected, for each call: the call from 1, the number, the bytes taken and written, the entries of the report, the most bytes that waited, the visits, and a mark of the
+A line of stdout, for each call: the call from 1, the number, the bytes taken and written, the entries of the report, the most bytes that waited, the visits, and a mark of the
 output, the report, the area and the state, each to its last byte.
 """
 import os
@@ -445,11 +445,11 @@ def files():
     for group in (worked, shapes, parts, rooms, ends, states, damaged):
         group()
     said = '# The calls of cases.txt\n\nWritten by `tests/salvage.py`, as is the expected output. A line is: call, number, what it is.\n'
-    return {'cases.txt': '\n'.join(LINES) + '\n', 'CASES.md': said + '\n'.join(SAID) + '\n', 'expected': ''.join(OUTPUT)}
+    return {'data/cases.txt': '\n'.join(LINES) + '\n', 'data/CASES.md': said + '\n'.join(SAID) + '\n', 'stdout': ''.join(OUTPUT)}
 
 
 def main():
-    return sheets.write_files(os.path.join('..', 'tests', 'days'), files(), NUMBERS)
+    return sheets.write_files('days', files(), NUMBERS)
 
 
 if __name__ == '__main__':

@@ -155,3 +155,19 @@ pub fn read_line(fd: i32, line: &mut [u8]) -> usize
     }
     n
 }
+
+// What a line asks for: its first byte, 0 where it has none.
+pub fn letter(line: &[u8]) -> u8 {
+    if line.len() == 0 { 0 } else { line[0] }
+}
+
+// Stores the bytes that a line gives, from the place that it gives on.
+pub fn change(line: &[u8], memory: &mut [u8]) {
+    let at = read_number(line, 2);
+    read_bytes(line, at.next, memory, at.value as usize);
+}
+
+// One more, of a count that stays within its type.
+pub fn one_more(n: u64) -> u64 {
+    if n < u64::MAX { n + 1 } else { n }
+}

@@ -25,12 +25,13 @@ use Rattle.converter.specs.Answered.{FitsSheet}
 use Rattle.rescue.specs.Held.{Mode, between, inside, skipping}
 use Rattle.rescued.specs.Bytes.{modeAt, passedAt, firstAt, refusedAt, waitingAt, returningBytes, returningIn, modeFrom}
 use Rattle.rescued.specs.Fits.{SalvageFits, ModeFits}
+use Rattle.rescued.proofs.Alone.{root-alone}
 use Rattle.turns.specs.declared.Stand.{Stand}
 use Rattle.turns.specs.declared.Given.{Given}
 use Rattle.turns.specs.Stands.{betweenIn, insideIn, skippingIn, modeOf, Stands, holds-between, holds-inside, holds-skipping, ReadyOn}
 use Rattle.holding.specs.Told.{ReturnsAs, StandAs, is-between, is-inside, is-skipping}
 use Rattle.strides.proofs.Basics.{alone, stands-alone}
-use Rattle.handback.specs.Begun.{RootAlone, BegunAs, StandBegins}
+use Rattle.handback.specs.Begun.{BegunAs, StandBegins}
 
 -- a state that is read of bytes, and fits, without what is not in use
 module _ {s : List ℕ} {a : Sheet} (G : IsSheet s a) (b : List ℕ) (F : FitsSheet a (stateFrom b)) (h : Live) (stack : List ℕ) (e : full h stack ≡ tidied (stateFrom b)) where
@@ -51,7 +52,7 @@ module _ {s : List ℕ} {a : Sheet} (G : IsSheet s a) (b : List ℕ) (F : FitsSh
       }
 
 pub stand-begins : StandBegins
-stand-begins s a g part b out area t G F o R base K = by K (byteAt b modeAt) refl (F .mode)
+stand-begins s a g part b out area t G F o base K = by K (byteAt b modeAt) refl (F .mode)
   where
     stack : List ℕ
     stack = drop headWidth b
@@ -75,6 +76,7 @@ stand-begins s a g part b out area t G F o R base K = by K (byteAt b modeAt) ref
     by (is-inside z y h r e q) zero me f = absurd (omega arith)
     by (is-inside z y h r e q) (suc (suc m)) me f = absurd (omega arith)
     by (is-inside z y h r e q) (suc zero) me f =
+        let R = root-alone b (F .wide) in
         let d : y .depth ≡ 1 = ap (λ (u : State). u .depth) (r .is) ∙ R .one in
         let st : List ℕ = drop headWidth (returningBytes b) in
         let back : meaningOf (full y []) ≡ meaningOf (returningIn b) = ap meaningOf (alone y st [] (omega arith)) ∙ means-here G (returningBytes b) (f .returns) y st (r .is) in

@@ -9,17 +9,12 @@ use Rattle.sheet.specs.Sheet.{Sheet, IsSheet}
 use Rattle.state.specs.Bounds.{headWidth}
 use Rattle.state.specs.Bytes.{longAt, stateFrom}
 use Rattle.state.specs.Changes.{notClosed}
-use Rattle.rescued.specs.Bytes.{modeAt, passedAt, returningIn, modeFrom}
+use Rattle.rescued.specs.Bytes.{modeAt, passedAt, modeFrom}
 use Rattle.rescued.specs.Fits.{SalvageFits}
 use Rattle.turns.specs.declared.Stand.{Stand}
 use Rattle.turns.specs.declared.Given.{Given}
 use Rattle.turns.specs.Stands.{modeOf, ReadyOn}
 use Rattle.holding.specs.Told.{StandAs}
-
--- of what returns: the root alone is open, and it is not closed
-pub record RootAlone (b : List ℕ) : Type 0 where
-  pub one : returningIn b .depth ≡ 1
-  pub is-open : returningIn b .closed ≡ notClosed
 
 pub record BegunAs (a : Sheet) (g : Given) (part b out area : List ℕ) (t : Stand) : Type 0 where
   pub mode : modeOf t (drop headWidth b) area ≡ modeFrom b area (byteAt b modeAt)
@@ -27,5 +22,5 @@ pub record BegunAs (a : Sheet) (g : Given) (part b out area : List ℕ) (t : Sta
 
 abbrev pub StandBegins : Type 0
 StandBegins =
-    (s : List ℕ) (a : Sheet) (g : Given) (part b out area : List ℕ) (t : Stand) → IsSheet s a → SalvageFits a b (length area) (length part) → stateFrom b .closed ≡ notClosed → RootAlone b →
+    (s : List ℕ) (a : Sheet) (g : Given) (part b out area : List ℕ) (t : Stand) → IsSheet s a → SalvageFits a b (length area) (length part) → stateFrom b .closed ≡ notClosed →
     g .base ≡ longAt b passedAt → StandAs b t → BegunAs a g part b out area t

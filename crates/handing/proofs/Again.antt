@@ -2,11 +2,11 @@
 -- Assumes nothing.
 use mathlib.Core.Path.{_≡_, refl, sym, ap, ap₂, _∙_, subst}
 use mathlib.Core.Bool.{Bool, true, false, cond, not}
-use mathlib.Core.List.{List, [], _∷_, _++_, append-assoc, reverse}
+use mathlib.Core.List.{List, [], _∷_, _++_, reverse}
 use mathlib.Core.Option.{Option, none, some}
-use Prim.Native.Nat.{ℕ, zero, suc, _+_, _*_, _-_, _/_, _^_, _≤_, _<_}
+use Prim.Native.Nat.{ℕ, zero, suc, _+_, _-_, _/_, _^_, _≤_, _<_}
 use native.Mathlib.Omega.{arith}
-use lib.ListN.{length, take, drop, replicate, length-append, length-take, length-drop, length-map, length-reverse}
+use lib.ListN.{length, take, drop, replicate, length-take, length-map, length-reverse}
 use lib.Seq.{take-append-seam}
 use borrow.Author.Tests.{ne-eqb}
 use Rattle.layout.specs.Layout.{byteAt}
@@ -20,8 +20,8 @@ use Rattle.rescue.specs.Call.{setting, RescuedBy}
 use Rattle.rescue.proofs.Some.{run-within}
 use Rattle.fit.proofs.RunsFit.{fit-run}
 use Rattle.fit.proofs.Frames.{frames-in}
-use Rattle.state.specs.Bounds.{frameWidth, rootedAt, depthAt, stateWidth}
-use Rattle.state.specs.Bytes.{numberBytes, bytesOf, longAt, stateFrom}
+use Rattle.state.specs.Bounds.{stateWidth}
+use Rattle.state.specs.Bytes.{bytesOf, longAt, stateFrom}
 use Rattle.state.specs.Changes.{notClosed}
 use Rattle.state.specs.Canonical.{stateFor}
 use Rattle.state.specs.Meaning.{openOf, elements, standing, opensOf, meaningOf}
@@ -30,11 +30,12 @@ use Rattle.state.specs.declared.State.{State}
 use Rattle.state.proofs.Meant.{standing-opens}
 use Rattle.state.proofs.Widths.{read-sized}
 use Rattle.converter.specs.Answered.{FitsSheet, closingIn, closingByte}
-use Rattle.rescued.specs.Bytes.{modeAt, passedAt, firstAt, refusedAt, waitingAt, returnsAt, salvageWidth, returningBytes, returningIn, modeFrom, salvageIn, returnBytes, tailBytes, noReturn, modeBytes, areaAfter}
+use Rattle.rescued.specs.Bytes.{modeAt, passedAt, firstAt, refusedAt, waitingAt, returningBytes, returningIn, modeFrom, salvageIn, returnBytes, tailBytes, noReturn, modeBytes, areaAfter}
 use Rattle.rescued.specs.Fits.{ModeFits, SalvageFits}
+use Rattle.rescued.proofs.Alone.{root-alone}
 use Rattle.handing.specs.Promises.{ReadsBack}
 use Rattle.handing.proofs.Canonical.{Good, state-for}
-use Rattle.handing.proofs.Bytes.{long-at, wide-of, state-again}
+use Rattle.handing.proofs.Bytes.{wide-of, state-again}
 use Rattle.handing.proofs.Tail.{mode-back, passed-back, first-back, refused-back, waiting-back, returns-back}
 use Rattle.handing.proofs.Returned.{returning-back}
 use Rattle.handing.proofs.Modes.{HoldsAt, holds-began, SmallClosing, run-kept}
@@ -46,9 +47,9 @@ opens-few z =
     let e = ap length (standing-opens (z .rooted) (elements z)) in
     omega (arith, e, length-map (elements z) openOf, length-reverse (take (z .depth) (z .frames)), length-take (z .depth) (z .frames))
 
-pub root-alone : (z : State) → z .depth ≡ 1 → length (z .frames) ≡ most → rootOnly (meaningOf z .control) ≡ true
+one-open : (z : State) → z .depth ≡ 1 → length (z .frames) ≡ most → rootOnly (meaningOf z .control) ≡ true
 unfolding meaningOf
-root-alone z d l = by (z .rooted) (z .depth) (z .frames) d l
+one-open z d l = by (z .rooted) (z .depth) (z .frames) d l
   where
     by : (r : Bool) (d : ℕ) (fs : List Frame) → d ≡ 1 → length fs ≡ most → rootOnly (standing r (reverse (take d fs))) ≡ true
     by r d fs e l = subst (λ (k : ℕ). rootOnly (standing r (reverse (take k fs))) ≡ true) (sym e) (one r fs l)
@@ -57,14 +58,6 @@ root-alone z d l = by (z .rooted) (z .depth) (z .frames) d l
         one r [] l = absurd (omega (arith, l))
         one true (f ∷ fs) l = refl
         one false (f ∷ fs) l = refl
-
-pub returning-depth : (b : List ℕ) → length b ≡ salvageWidth → returningIn b .depth ≡ 1
-unfolding returningBytes stateFrom
-returning-depth b w =
-    let a : List ℕ = take rootedAt (drop returnsAt b) in
-    let post : List ℕ = take frameWidth (drop (returnsAt + rootedAt) b) ++ replicate (frameWidth * (most - 1)) 0 in
-    let l : length (a ++ 0 ∷ notClosed ∷ []) ≡ depthAt = omega (arith, length-append a (0 ∷ notClosed ∷ []), length-take rootedAt (drop returnsAt b), length-drop returnsAt b, w) in
-    ap (λ (k : List ℕ). longAt k depthAt) (sym (append-assoc a (0 ∷ notClosed ∷ []) (numberBytes 8 1 ++ post))) ∙ long-at (a ++ 0 ∷ notClosed ∷ []) post 1 depthAt l (omega arith)
 
 closing-back : (x : Option ℕ) → (c : Setting) {s : List ℕ} (i : IsSheet s (c .sheet)) → SmallClosing c i x → closingIn (closingByte x) ≡ x
 closing-back none c i h = refl
@@ -97,12 +90,12 @@ module _ {s : List ℕ} {a : Sheet} (i : IsSheet s a) where
         by zero h = good
         by (suc zero) h = (
           state-good (returningBytes b) (h .returns),
-          root-alone (returningIn b) (returning-depth b (f .wide)) (frames-in (returningBytes b)),
+          one-open (returningIn b) (root-alone b (f .wide) .one) (frames-in (returningBytes b)),
           good,
           omega (arith, length-take (longAt b waitingAt) area),
           h .began,
         )
-        by (suc (suc zero)) h = (good, root-alone (stateFrom b) (h .one-open) (frames-in b), h .was-damaged, h .began)
+        by (suc (suc zero)) h = (good, one-open (stateFrom b) (h .one-open) (frames-in b), h .was-damaged, h .began)
         by (suc (suc (suc m))) h = absurd h
 
   -- the state's first bytes, and its closing number

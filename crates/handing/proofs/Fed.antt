@@ -26,7 +26,8 @@ use Rattle.rescued.specs.Bytes.{passedAt, entryWidth, salvageIn, tailBytes, noR
 use Rattle.handing.specs.Fed.{SalvageCall, SalvageFeeds, at-once, closes, goes-on, BytesFeed, FreshStands, BytesSalvage}
 use Rattle.handing.proofs.Canonical.{fresh-good}
 use Rattle.handing.proofs.Again.{held-back, reads-back}
-use Rattle.handing.proofs.Waited.{run-waited, area-long}
+use Rattle.rescue.proofs.Waited.{run-waited}
+use Rattle.handing.proofs.Waited.{area-long}
 
 -- what a call is given, and its answer
 record Given : Type 0 where

@@ -13,6 +13,7 @@ use Rattle.sheet.specs.Sheet.{Sheet}
 use Rattle.salvage.specs.Shape.{RecordTags}
 use Rattle.salvage.specs.Salvage.{LostStretch, lost}
 use Rattle.rescue.specs.Held.{Mode, between, inside, skipping, fresh-salvage, Rescued}
+use Rattle.rescue.specs.Call.{larger}
 use Rattle.rescue.specs.Parts.{CutIn, SameStretch, same-stretch, cut-stretch, SameReport, no-more, and-then, SameMode, same-mode, cut-mode, SameNumber, same-number, cut-off, SameRescue, both-rescues, RescueContinued, at-once, closes, goes-on, FedAsOne, FedSalvages}
 use Rattle.rescue.proofs.One.{one-rescue}
 use Rattle.rescue.proofs.Lift.{same-report}
@@ -68,6 +69,7 @@ module _ {whole : List ℕ} {base : ℕ} where
         taken = j .taken ∙ i .taken;
         output = j .output ∙ i .output;
         report = report-then (i .report) (j .report);
+        waited = j .waited ∙ i .waited;
         mode = mode-then (r .held .passed) (r .held .mode) (q .held .mode) (p .held .mode) (i .mode) (subst (λ (t : ℕ). SameMode whole base t (q .held .mode) (p .held .mode)) (i .passed) (j .mode));
         passed = j .passed ∙ i .passed;
       }
@@ -110,6 +112,7 @@ module _ (whole : List ℕ) (base n : ℕ) where
         taken = ap (λ (k : ℕ). r₁ .taken + k) (i .taken);
         output = ap (λ (l : List ℕ). r₁ .output ++ l) (i .output);
         report = reports-both (same-report whole base (r₁ .report)) (report-in-whole (i .report));
+        waited = ap (larger (r₁ .waited)) (i .waited);
         mode = mode-in-whole (r₂ .held .passed) (r₂ .held .mode) (q .held .mode) (i .mode);
         passed = i .passed;
       }

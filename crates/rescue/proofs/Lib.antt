@@ -1,6 +1,7 @@
 pub mod Resumed
 pub mod One
 pub mod Whole
+pub mod Waited
 pub mod Lift
 pub mod Onward
 pub mod Renumbered

@@ -46,6 +46,7 @@ use Rattle.rescue.specs.Call.{Rescues, goes, halts, setting}
 use Rattle.rescue.specs.Parts.{CutIn, SameStretch, same-stretch, cut-stretch, SameReport, no-more, and-then, SameMode, same-mode, cut-mode, SameNumber, same-number, cut-off, Began}
 use Rattle.rescue.proofs.Resumed.{one-resumed, stay-apart, still-here, from-later}
 use Rattle.rescue.proofs.Whole.{reports, reports-end}
+use Rattle.rescue.proofs.Waited.{began-waited, whole-waited}
 
 pub same-length : {whole : List ℕ} {base : ℕ} {ds ds′ : List LostStretch} → SameReport whole base ds ds′ → length ds ≡ length ds′
 same-length no-more = refl
@@ -118,6 +119,11 @@ module _ (a : Sheet) (x : RecordTags) (s later : List ℕ) (b more : Bool) (told
       by (inl t) = absurd (true≢false (sym t ∙ e))
       by (inr (l, t)) = (ap (λ (k : List ℕ). s ++ k) l ∙ append-nil s, sym t ∙ e)
 
+  -- what waits where the part's call stands waits in the call on the whole
+  still-waits : (p at room spare : ℕ) (m M : Mode) (r : Rescued) → Modes p m M → Rescues whole-call at room spare M r → length (waitingIn m) ≤ r .waited
+  still-waits p at room spare m M r (same-mode k) d = began-waited whole-call d
+  still-waits p at room spare m M r (cut-mode z f c) d = omega arith
+
   module _ (at room spare : ℕ) (m M : Mode) where
     abbrev pub WholeStep : Step → Type 0
     WholeStep t = StepIs whole-call at (room + extra) (spare + entries) M t
@@ -126,22 +132,26 @@ module _ (a : Sheet) (x : RecordTags) (s later : List ℕ) (b more : Bool) (told
     abbrev pub TakenUp : ℕ → Type 0
     TakenUp p = (r : Rescued) → Rescues whole-call at (room + extra) (spare + entries) M r → Rescues whole-call p (room + extra) (spare + entries) M r
 
+    -- in the call on the whole k bytes waited at once
+    abbrev pub Waited : ℕ → Type 0
+    Waited k = (r : Rescued) → Rescues whole-call at (room + extra) (spare + entries) M r → k ≤ r .waited
+
     -- before the entries are counted
     data Before (p : ℕ) : Step → Type 0 where
       goes-alike : {next : ℕ} {m′ : Mode} {w : List ℕ} {ds : List LostStretch} {k : ℕ} (M′ : Mode) (ds′ : List LostStretch) → next ≤ length s → length w ≤ room → Began (base + next) m′ →
           Modes (base + next) m′ M′ → Reports ds ds′ → WholeStep (reported (spare + entries) p M (on next M′ w ds′ k)) → Before p (on next m′ w ds k)
-      stops-alike : {n to : ℕ} {m′ : Mode} {ds : List LostStretch} {k : ℕ} (N : ℕ) (M′ : Mode) (ds′ : List LostStretch) (k′ : ℕ) → leavesOpen n ≡ false →
+      stops-alike : {n to : ℕ} {m′ : Mode} {ds : List LostStretch} {k : ℕ} (N : ℕ) (M′ : Mode) (ds′ : List LostStretch) → leavesOpen n ≡ false →
           SameNumber (s ++ later) to n (closingOf (leavesOpen n) n) N (closingOf (leavesOpen N) N) → Modes (base + to) m′ M′ → Reports ds ds′ →
-          WholeStep (reported (spare + entries) p M (stop N to M′ ds′ k′)) → Before p (stop n to m′ ds k)
-      stays-open : {n to k : ℕ} → leavesOpen n ≡ true → to ≤ length s → Modes (base + to) m M → TakenUp to → Before p (stop n to m [] k)
+          WholeStep (reported (spare + entries) p M (stop N to M′ ds′ k)) → Before p (stop n to m′ ds k)
+      stays-open : {n to k : ℕ} → leavesOpen n ≡ true → to ≤ length s → Modes (base + to) m M → TakenUp to → Waited k → Before p (stop n to m [] k)
 
     pub data Lifted : Step → Type 0 where
       goes-on : {next : ℕ} {m′ : Mode} {w : List ℕ} {ds : List LostStretch} {k : ℕ} (M′ : Mode) (ds′ : List LostStretch) → next ≤ length s → length w ≤ room → length ds ≤ spare → Began (base + next) m′ →
           Modes (base + next) m′ M′ → Reports ds ds′ → WholeStep (on next M′ w ds′ k) → Lifted (on next m′ w ds k)
-      ends-so : {n to : ℕ} {m′ : Mode} {ds : List LostStretch} {k : ℕ} (N : ℕ) (M′ : Mode) (ds′ : List LostStretch) (k′ : ℕ) → leavesOpen n ≡ false →
+      ends-so : {n to : ℕ} {m′ : Mode} {ds : List LostStretch} {k : ℕ} (N : ℕ) (M′ : Mode) (ds′ : List LostStretch) → leavesOpen n ≡ false →
           SameNumber (s ++ later) to n (closingOf (leavesOpen n) n) N (closingOf (leavesOpen N) N) → Modes (base + to) m′ M′ → Reports ds ds′ →
-          WholeStep (stop N to M′ ds′ k′) → Lifted (stop n to m′ ds k)
-      waits : {n to k : ℕ} → leavesOpen n ≡ true → to ≤ length s → Modes (base + to) m M → TakenUp to → Lifted (stop n to m [] k)
+          WholeStep (stop N to M′ ds′ k) → Lifted (stop n to m′ ds k)
+      waits : {n to k : ℕ} → leavesOpen n ≡ true → to ≤ length s → Modes (base + to) m M → TakenUp to → Waited k → Lifted (stop n to m [] k)
 
     counted : (p : ℕ) → p ≤ length s → Modes (base + p) m M → TakenUp p → (t : Step) → Before p t → Lifted (reported spare p m t)
     counted p z i up (on next m′ w ds k) (goes-alike M′ ds′ c f g j h st) = by (leb (length ds) spare) refl
@@ -150,19 +160,19 @@ module _ (a : Sheet) (x : RecordTags) (s later : List ℕ) (b more : Bool) (told
         by true e =
             let n = leb-true (length ds) spare e in
             goes-on M′ ds′ c f n g j h (subst WholeStep (reports (spare + entries) p M next M′ w ds′ k (omega (arith, n, same-length h))) st)
-        by false e = waits refl z i up
-    counted p z i up (stop n to m′ ds k) (stops-alike N M′ ds′ k′ o q j h st) = by (leb (length ds) spare) refl
+        by false e = waits refl z i up (λ r d. still-waits (base + p) at (room + extra) (spare + entries) m M r i d)
+    counted p z i up (stop n to m′ ds k) (stops-alike N M′ ds′ o q j h st) = by (leb (length ds) spare) refl
       where
         by : (c : Bool) → leb (length ds) spare ≡ c → Lifted (cond c (stop n to m′ ds k) (stay 17 p m))
         by true e =
             let l = leb-true (length ds) spare e in
-            ends-so N M′ ds′ k′ o q j h (subst WholeStep (reports-end (spare + entries) p M N to M′ ds′ k′ (omega (arith, l, same-length h))) st)
-        by false e = waits refl z i up
-    counted p z i up (stop n to m [] k) (stays-open o v j u) = by (leb 0 spare)
+            ends-so N M′ ds′ o q j h (subst WholeStep (reports-end (spare + entries) p M N to M′ ds′ k (omega (arith, l, same-length h))) st)
+        by false e = waits refl z i up (λ r d. still-waits (base + p) at (room + extra) (spare + entries) m M r i d)
+    counted p z i up (stop n to m [] k) (stays-open o v j u x) = by (leb 0 spare)
       where
         by : (c : Bool) → Lifted (cond c (stop n to m [] k) (stay 17 p m))
-        by true = waits o v j u
-        by false = waits refl z i up
+        by true = waits o v j u x
+        by false = waits refl z i up (λ r d. still-waits (base + p) at (room + extra) (spare + entries) m M r i d)
 
   -- a record that stops with a number that closes, or drops it
   module _ (at room spare : ℕ) (m : Mode) (z : Configuration) (f n : ℕ) where
@@ -180,7 +190,7 @@ module _ (a : Sheet) (x : RecordTags) (s later : List ℕ) (b more : Bool) (told
             (up (drops whole-call at m z f n) (here ∙ ap (λ (c : Bool). cond c (drops whole-call at m z f n) (closes whole-call at m z f n)) e))
         by false e =
             subst (Before at room spare m m at) (sym q)
-            (stops-alike n (between z) _ _ o (same-number n (closingOf (leavesOpen n) n)) (same-mode (between z)) (same-report (s ++ later) base _)
+            (stops-alike n (between z) _ o (same-number n (closingOf (leavesOpen n) n)) (same-mode (between z)) (same-report (s ++ later) base _)
             (up (closes whole-call at m z f n) (here ∙ ap (λ (c : Bool). cond c (drops whole-call at m z f n) (closes whole-call at m z f n)) e)))
 
   -- a token
@@ -202,7 +212,10 @@ module _ (a : Sheet) (x : RecordTags) (s later : List ℕ) (b more : Bool) (told
                 (up (on next (between y′) (v ++ w) [] (length (v ++ w)))
                 (e ∙ ap (λ (c : Bool). cond c (whole at (room + extra) m next y′ (v ++ w)) (on next (inside z y′ f (v ++ w)) [] [] (length (v ++ w)))) h
                 ∙ ap (λ (c : Bool). cond c (on next (between y′) (v ++ w) [] (length (v ++ w))) (stop 17 at m [] (length (v ++ w)))) (le-leb (length (v ++ w)) (room + extra) (omega (arith, j)))))
-            fits false o = stays-open {to = at} refl (omega (arith, l, i)) (same-mode m) (λ r d. d)
+            fits false o =
+                stays-open {to = at} refl (omega (arith, l, i)) (same-mode m) (λ r d. d) (λ r d.
+                whole-waited whole-call next y′ (v ++ w) (up (whole at (room + extra) m next y′ (v ++ w))
+                (e ∙ ap (λ (c : Bool). cond c (whole at (room + extra) m next y′ (v ++ w)) (on next (inside z y′ f (v ++ w)) [] [] (length (v ++ w)))) h)) d)
         by false h =
             goes-alike {w = []} (inside z y′ f (v ++ w)) [] i (omega arith) g (same-mode (inside z y′ f (v ++ w))) no-more
             (up (on next (inside z y′ f (v ++ w)) [] [] (length (v ++ w)))
@@ -217,7 +230,7 @@ module _ (a : Sheet) (x : RecordTags) (s later : List ℕ) (b more : Bool) (told
         past : (c : Bool) → cond c at (suc at) ≤ length s
         past true = omega (arith, l, i)
         past false = omega (arith, l, i)
-    of-record z y f v no-room g t e = stays-open {to = at} refl (omega (arith, l, i)) (same-mode m) (λ r d. d)
+    of-record z y f v no-room g t e = stays-open {to = at} refl (omega (arith, l, i)) (same-mode m) (λ r d. d) (λ r d. began-waited whole-call d)
 
     of-other : (z : Configuration) (u : Taking) → oneToken a z room k ≡ u → tokenStep whole-call at (room + extra) next k m ≡ otherToken at m next (oneToken a z (room + extra) k) →
         Before at room spare m m at (otherToken at m next u)
@@ -227,9 +240,9 @@ module _ (a : Sheet) (x : RecordTags) (s later : List ℕ) (b more : Bool) (told
         goes-alike (between y) [] i j tt (same-mode (between y)) no-more
         (up (on next (between y) w [] 0) (e ∙ ap (otherToken at m next) (taken-in a z room (room + extra) k y w t (omega (arith, j)))))
     of-other z (refuses n) t e =
-        stops-alike n m [] (length (waitingIn m)) (refuses-known a z room k n t .0) (same-number n (closingOf (leavesOpen n) n)) (same-mode m) no-more
+        stops-alike n m [] (refuses-known a z room k n t .0) (same-number n (closingOf (leavesOpen n) n)) (same-mode m) no-more
         (up (stay n at m) (e ∙ ap (otherToken at m next) (refused-in a z room (room + extra) k n t)))
-    of-other z no-room t e = stays-open {to = at} refl (omega (arith, l, i)) (same-mode m) (λ r d. d)
+    of-other z no-room t e = stays-open {to = at} refl (omega (arith, l, i)) (same-mode m) (λ r d. d) (λ r d. began-waited whole-call d)
 
   at-tokens : (at room spare next : ℕ) (k : RunToken) → at < next → next ≤ length s → (m : Mode) → readsTokens m ≡ true → Began (base + at) m →
       ((t : Step) → tokenStep whole-call at (room + extra) next k m ≡ t → WholeStep at room spare m m (reported (spare + entries) at m t)) →
@@ -259,7 +272,7 @@ module _ (a : Sheet) (x : RecordTags) (s later : List ℕ) (b more : Bool) (told
 
   at-number : (at room spare n : ℕ) (m : Mode) → readsTokens m ≡ true → at ≤ length s → Began (base + at) m → leavesOpen n ≡ false → (eqb n 27 ≡ false) ⊎ (s ++ later ≡ s) →
       WholeStep at room spare m m (reported (spare + entries) at m (numberStep whole-call at n m)) → Before at room spare m m at (numberStep part-call at n m)
-  at-number at room spare n (between z) q l g o c st = stops-alike n (between z) [] 0 o (same-number n (closingOf (leavesOpen n) n)) (same-mode (between z)) no-more st
+  at-number at room spare n (between z) q l g o c st = stops-alike n (between z) [] o (same-number n (closingOf (leavesOpen n) n)) (same-mode (between z)) no-more st
   at-number at room spare n (inside z y f v) q l g o c st =
       stopped-with at room spare (inside z y f v) z f n o (past-began at f l g) (by c) (λ t e. subst (λ (k : Step). WholeStep at room spare (inside z y f v) (inside z y f v) (reported (spare + entries) at (inside z y f v) k)) e st)
     where
@@ -272,8 +285,8 @@ module _ (a : Sheet) (x : RecordTags) (s later : List ℕ) (b more : Bool) (told
 
   -- only begun, while more is to come
   at-waiting : (at room spare : ℕ) (m : Mode) → readsTokens m ≡ true → at ≤ length s → Before at room spare m m at (numberStep part-call at 16 m)
-  at-waiting at room spare (between z) q l = stays-open refl l (same-mode (between z)) (λ r d. d)
-  at-waiting at room spare (inside z y f v) q l = stays-open refl l (same-mode (inside z y f v)) (λ r d. d)
+  at-waiting at room spare (between z) q l = stays-open {k = 0} refl l (same-mode (between z)) (λ r d. d) (λ r d. omega arith)
+  at-waiting at room spare (inside z y f v) q l = stays-open refl l (same-mode (inside z y f v)) (λ r d. d) (λ r d. began-waited whole-call d)
   at-waiting at room spare (skipping z f k) q l = absurd (true≢false (sym q))
 
   -- the number of a reference that the part cuts off
@@ -287,7 +300,7 @@ module _ (a : Sheet) (x : RecordTags) (s later : List ℕ) (b more : Bool) (told
 
   at-cut : (at room spare : ℕ) (m : Mode) → readsTokens m ≡ true → at ≤ length s → Began (base + at) m → CutNumber (front s at) →
       WholeStep at room spare m m (reported (spare + entries) at m (numberStep whole-call at 20 m)) → Before at room spare m m at (numberStep part-call at 21 m)
-  at-cut at room spare (between z) q l g c st = stops-alike 20 (between z) [] 0 refl (cut-off (front s at) c (cut-there at c)) (same-mode (between z)) no-more st
+  at-cut at room spare (between z) q l g c st = stops-alike 20 (between z) [] refl (cut-off (front s at) c (cut-there at c)) (same-mode (between z)) no-more st
   at-cut at room spare (inside z y f v) q l g c st =
       goes-alike {w = []} (skipping z f 20) [] (past-began at f l g) (omega arith) tt
       (cut-mode z f (record { place = at; had = front s at; cut = c; stands = cut-there at c; behind = omega (arith, g); not-past = by (ltb f (base + at)) })) no-more st
@@ -378,14 +391,14 @@ module _ (a : Sheet) (x : RecordTags) (s later : List ℕ) (b more : Bool) (told
             Skipped (reported spare (length s) (skipping z f n) (cond c (stay 16 to (skipping z f n)) (stop 27 (length s) (between z) (lost f (base + length s - 1) n ∷ []) 0)))
         by true e =
             subst Skipped (sym (reports-end spare (length s) (skipping z f n) 16 to (skipping z f n) [] 0 (omega arith)))
-            (waits refl g (k .modes (base + to) (omega (arith, l))) (run-later z f N at to (room + extra) (spare + entries) (found-apart z f N at to l g apart)))
+            (waits {k = 0} refl g (k .modes (base + to) (omega (arith, l))) (run-later z f N at to (room + extra) (spare + entries) (found-apart z f N at to l g apart)) (λ r d. omega arith))
         by false e =
             let (same, q) = all-of-it e in
             let i = ended-step z f N same q r o in
             counted at room spare (skipping z f n) (skipping z f N) (length s) (omega arith) (k .modes (base + length s) (omega (arith, l, g)))
             (run-later z f N at (length s) (room + extra) (spare + entries) (found-end z f N at same q r o h))
             (stop 27 (length s) (between z) (lost f (base + length s - 1) n ∷ []) 0)
-            (stops-alike 27 (between z) (lost f (base + length s - 1) N ∷ []) 0 refl (same-number 27 (some 27)) (same-mode (between z))
+            (stops-alike 27 (between z) (lost f (base + length s - 1) N ∷ []) refl (same-number 27 (some 27)) (same-mode (between z))
             (and-then (k .stretch (base + length s - 1) (omega (arith, l, g))) no-more)
             (subst (WholeStep at room spare (skipping z f n) (skipping z f N))
             (ap₂ (λ (d : ℕ) (t : Step). reported (spare + entries) d (skipping z f N) t) (i .0) (i .1))

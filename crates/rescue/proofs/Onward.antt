@@ -15,7 +15,7 @@ use Rattle.salvage.specs.Shape.{RecordTags}
 use Rattle.salvage.specs.Salvage.{LostStretch}
 use Rattle.rescue.specs.Held.{Mode, Rescued}
 use Rattle.rescue.specs.Step.{Setting, on, stop}
-use Rattle.rescue.specs.Call.{halted, after-step, spareLeft, Rescues, goes, halts}
+use Rattle.rescue.specs.Call.{halted, larger, after-step, spareLeft, Rescues, goes, halts}
 use Rattle.rescue.specs.Parts.{SameReport, no-more, and-then, SameRescue, Began}
 use Rattle.rescue.proofs.One.{goes-by}
 use Rattle.rescue.proofs.Lift.{part-call, whole-call, Modes, Reports, Lifted, goes-on, ends-so, waits, same-length, lift-step}
@@ -45,6 +45,7 @@ module _ (a : Sheet) (x : RecordTags) (s later : List ℕ) (b more : Bool) (told
     pub first-report : List LostStretch
     pub reports : Reports a x s later b more told base area extra entries (r₁ .report) first-report
     pub report : r .report ≡ first-report ++ rest .report
+    pub waited : r .waited ≡ larger (r₁ .waited) (rest .waited)
     pub held : r .held ≡ rest .held
 
   -- by what closed the state
@@ -71,11 +72,12 @@ module _ (a : Sheet) (x : RecordTags) (s later : List ℕ) (b more : Bool) (told
         first-report = ds′ ++ o .first-report;
         reports = reports-both h (o .reports);
         report = ap (λ (q : Rescued). q .report) e ∙ ap (λ (l : List LostStretch). ds′ ++ l) (o .report) ∙ sym (append-assoc ds′ (o .first-report) (o .rest .report));
+        waited = ap (λ (q : Rescued). q .waited) e ∙ ap (larger k) (o .waited) ∙ omega arith;
         held = ap (λ (q : Rescued). q .held) e ∙ o .held;
       }
   behind room spare w ds ds′ k r₁ r r′ (some n) f g h e o =
       subst (SameRescue (s ++ later) base (after-step w ds k r₁)) (sym e)
-      (record { number = o .number; taken = o .taken; output = ap (λ (l : List ℕ). w ++ l) (o .output); report = reports-both h (o .report); mode = o .mode; passed = o .passed })
+      (record { number = o .number; taken = o .taken; output = ap (λ (l : List ℕ). w ++ l) (o .output); report = reports-both h (o .report); waited = ap (larger k) (o .waited); mode = o .mode; passed = o .passed })
 
   pub resume : {at room spare : ℕ} {m : Mode} {r₁ : Rescued} → Rescues on-part at room spare m r₁ → (M : Mode) (r : Rescued) → at ≤ length s → Began (base + at) m →
       Modes a x s later b more told base area extra entries (base + at) m M → Rescues on-whole at (room + extra) (spare + entries) M r → Onward room spare r₁ r (r₁ .held .closing)
@@ -96,12 +98,12 @@ module _ (a : Sheet) (x : RecordTags) (s later : List ℕ) (b more : Bool) (told
     where
       by : (n to : ℕ) (m′ : Mode) (ds : List LostStretch) (k : ℕ) → Lifted a x s later b more told base area extra entries at room spare m M (stop n to m′ ds k) →
           Onward room spare (halted on-part n to m′ ds k) r (closingOf (leavesOpen n) n)
-      by n to m′ ds k (ends-so N M′ ds′ k′ o q h p st) =
-          let e = goes-by on-whole d′ (stop N to M′ ds′ k′) st in
+      by n to m′ ds k (ends-so N M′ ds′ o q h p st) =
+          let e = goes-by on-whole d′ (stop N to M′ ds′ k) st in
           subst (λ (c : Bool). Onward room spare (halted on-part n to m′ ds k) r (closingOf c n)) (sym o)
           (subst (SameRescue (s ++ later) base (halted on-part n to m′ ds k)) (sym e)
-          (record { number = q; taken = refl; output = refl; report = p; mode = h; passed = refl }))
-      by n to m′ ds k (waits o c h up) =
+          (record { number = q; taken = refl; output = refl; report = p; waited = refl; mode = h; passed = refl }))
+      by n to m′ ds k (waits o c h up v) =
           subst (λ (c : Bool). Onward room spare (halted on-part n to m [] k) r (closingOf c n)) (sym o)
           (record {
             within = c;
@@ -116,5 +118,6 @@ module _ (a : Sheet) (x : RecordTags) (s later : List ℕ) (b more : Bool) (told
             first-report = [];
             reports = no-more;
             report = refl;
+            waited = let l = v r d′ in omega arith;
             held = refl;
           })

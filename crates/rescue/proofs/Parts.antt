@@ -12,7 +12,7 @@ use Rattle.sheet.specs.Sheet.{Sheet}
 use Rattle.calls.specs.Parts.{EndTold}
 use Rattle.salvage.specs.Shape.{RecordTags}
 use Rattle.rescue.specs.Held.{Mode, HeldSalvage, Rescued}
-use Rattle.rescue.specs.Call.{Rescues, setting, RescuedBy}
+use Rattle.rescue.specs.Call.{larger, Rescues, setting, RescuedBy}
 use Rattle.rescue.specs.Parts.{CutIn, SameReport, SameMode, same-mode, cut-mode, SameNumber, SameRescue, Began, RescueContinued, RescueInParts}
 use Rattle.rescue.proofs.Onward.{GoesOnward, Onward, resume, reports-both}
 use Rattle.rescue.proofs.Renumbered.{same-rescue, renumber}
@@ -47,6 +47,7 @@ module _ (a : Sheet) (x : RecordTags) (s later : List ℕ) (b more : Bool) (told
           taken = o .taken ∙ q₂ .taken;
           output = o .output ∙ ap (λ (l : List ℕ). r₁ .output ++ l) (q₂ .output);
           report = subst (SameReport (s ++ later) base (r₁ .report ++ r₂ .report)) (sym (o .report)) (reports-both (o .reports) (q₂ .report));
+          waited = o .waited ∙ ap (larger (r₁ .waited)) (q₂ .waited);
           mode = subst (SameMode (s ++ later) base (r₂ .held .passed) (r₂ .held .mode)) (sym (ap (λ (y : HeldSalvage). y .mode) (o .held))) (q₂ .mode);
           passed = ap (λ (y : HeldSalvage). y .passed) (o .held) ∙ q₂ .passed;
         },

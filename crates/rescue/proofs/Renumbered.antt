@@ -29,6 +29,7 @@ same-rescue whole base r =
       taken = refl;
       output = refl;
       report = same-report whole base (r .report);
+      waited = refl;
       mode = same-mode (r .held .mode);
       passed = refl;
     }
@@ -43,7 +44,7 @@ module _ (c : Setting) (at room spare : ℕ) (z : Configuration) (f : ℕ) (cut 
     halted c n to (skipping z f 21) [] 0,
     halts n to (skipping z f 21) [] 0 st,
     subst (SameRescue (c .part) (c .before) (halted c n to (skipping z f 21) [] 0)) (sym e)
-        (record { number = same-number n (closingOf (leavesOpen n) n); taken = refl; output = refl; report = no-more; mode = cut-mode z f (cut-later (omega (arith, l)) cut); passed = refl }),
+        (record { number = same-number n (closingOf (leavesOpen n) n); taken = refl; output = refl; report = no-more; waited = refl; mode = cut-mode z f (cut-later (omega (arith, l)) cut); passed = refl }),
   )
 
   ran-out : (to : ℕ) (r : Rescued) → at ≤ to → (o d : Bool) →
@@ -69,6 +70,7 @@ module _ (c : Setting) (at room spare : ℕ) (z : Configuration) (f : ℕ) (cut 
               taken = refl;
               output = refl;
               report = and-then (cut-stretch f (lastByte c) (cut-later (omega (arith, within)) cut)) no-more;
+              waited = refl;
               mode = same-mode (between z);
               passed = refl;
             }),
@@ -87,6 +89,7 @@ module _ (c : Setting) (at room spare : ℕ) (z : Configuration) (f : ℕ) (cut 
           taken = refl;
           output = refl;
           report = and-then (cut-stretch f (byteBefore c to) (cut-later (omega (arith, l)) cut)) (same-report (c .part) (c .before) (r′ .report));
+          waited = refl;
           mode = same-mode (r′ .held .mode);
           passed = refl;
         }),

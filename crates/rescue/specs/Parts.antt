@@ -45,12 +45,13 @@ pub data SameNumber (whole : List ℕ) (taken : ℕ) : (n : ℕ) (c : Option ℕ
   same-number : (n : ℕ) (c : Option ℕ) → SameNumber whole taken n c n c
   cut-off : (had : List ℕ) → CutNumber had → Starts (drop taken whole) had → SameNumber whole taken 21 (some 21) 20 (some 20)
 
--- r is what calls on parts answer, r′ what one call on the whole does; `base` bytes of the stream were taken before. How many bytes waited at most is each call's own, of the area lent to it
+-- r is what calls on parts answer, r′ what one call on the whole does; `base` bytes of the stream were taken before
 pub record SameRescue (whole : List ℕ) (base : ℕ) (r r′ : Rescued) : Type 0 where
   pub number : SameNumber whole (r .taken) (r .number) (r .held .closing) (r′ .number) (r′ .held .closing)
   pub taken : r′ .taken ≡ r .taken
   pub output : r′ .output ≡ r .output
   pub report : SameReport whole base (r .report) (r′ .report)
+  pub waited : r′ .waited ≡ r .waited
   pub mode : SameMode whole base (r .held .passed) (r .held .mode) (r′ .held .mode)
   pub passed : r′ .held .passed ≡ r .held .passed
 
@@ -97,7 +98,7 @@ pub data RescueFeeds (a : Sheet) (x : RecordTags) (more : Bool) (area : ℕ) : L
       RescueFeeds a x more area (drop (r₁ .taken) (s ++ later)) (room + extra - length (r₁ .output)) (spare + entries - length (r₁ .report)) (r₁ .held) r₂ →
       RescueFeeds a x more area (s ++ later) (room + extra) (spare + entries) h (both-rescues r₁ r₂)
 
--- in whatever parts and rooms, what the calls answer together is what one call on all of it does: number, bytes taken, output, report and what is held; but for a reference by number that
+-- in whatever parts and rooms, what the calls answer together is what one call on all of it does: number, bytes taken, output, report, the most bytes that waited and what is held; but for a reference by number that
 -- a part has cut off
 abbrev pub FedAsOne : Sheet → RecordTags → Type 0
 FedAsOne a x =

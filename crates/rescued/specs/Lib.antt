@@ -1,3 +1,4 @@
 pub mod Bytes
+pub mod Alone
 pub mod Fits
 pub mod Salvaged

@@ -44,7 +44,6 @@ use Rattle.rescuer.proofs.Going.{report-width}
 use Rattle.salvager.specs.Entered.{MaySalvage}
 use Rattle.handback.specs.Begun.{BegunAs}
 use Rattle.handback.proofs.Begun.{stand-begins}
-use Rattle.handback.proofs.Alone.{root-alone}
 use Rattle.handback.proofs.Left.{state-left, area-left}
 use Rattle.salvages.specs.Lending.{lending}
 
@@ -114,7 +113,7 @@ module _ {s part b area : List ℕ} (M : MaySalvage s b area part) (g : Given) (
   fits-here = subst (λ (a : Sheet). SalvageFits a b (length area) (length part)) same-sheet (M .fits)
 
   begun : (out : List ℕ) → BegunAs (G .sheet) g part b out area t
-  begun out = stand-begins s (G .sheet) g part b out area t (G .is-sheet) fits-here (M .is-open) (root-alone b (M .fits .wide)) base K
+  begun out = stand-begins s (G .sheet) g part b out area t (G .is-sheet) fits-here (M .is-open) base K
 
   pub ready-here : (out : List ℕ) → Ready s g part atStart t (lentFrames b) out area
   ready-here out = record { grounds = G; on = subst (λ (x : List ℕ). ReadyOn (G .sheet) g part atStart t x out area) (sym (all-lent b)) (begun out .ready) }

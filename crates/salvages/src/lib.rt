@@ -1,6 +1,7 @@
 // A call of the salvage run over bytes (§12): a sheet's bytes, the bytes of a state, the next part of a stream, and lent memory for the output, for what waits
 // and for the report.
 ghost use mathlib.Core.Path.{_≡_};
+ghost use lib.ListN.{length};
 ghost use Rattle.layout.specs.LaidOut.{LaidOut};
 ghost use Rattle.state.specs.Bytes.{longAt};
 ghost use Rattle.shapes.specs.Told.{ShapeTold};
@@ -23,6 +24,7 @@ use resting::clear;
 use resting::put_stand;
 use salvager::given_back;
 use shapes::Shape;
+use shapes::put_mark;
 use shapes::shape_of;
 use state::State;
 use state::bytes::heading_at;
@@ -30,7 +32,6 @@ use state::bytes::number_at;
 use state::bytes::to_bytes;
 use turns::Given;
 use turns::Stand;
-use visits::put_tag;
 
 // Writes a fresh state at the start of the area and answers how many bytes it has; 0, and nothing is written, where the area is too short.
 pub fn salvage_fresh(area: &mut [u8]) -> usize
@@ -119,8 +120,8 @@ fn run_bytes(
 {
     let mut start = [0u8; shapes::MARK];
     let mut end = [0u8; shapes::MARK];
-    let long = put_tag(s, tag, false, &mut start, 0, true);
-    let wide = put_tag(s, root, true, &mut end, 0, true);
+    let long = put_mark(s, l, tag, false, &mut start);
+    let wide = put_mark(s, l, root, true, &mut end);
     let stand = stand_in(state);
     let passed = number_at(state, holding::PASSED_AT) as usize;
     let g = Given {
@@ -169,6 +170,10 @@ pub fn salvage_bytes(
     report: &mut [u8],
 ) -> SalvageCounts
     ensures { λ r. ⌜ SalvagedAs (now (sheet .entry)) (now (part .entry)) ended (lending (now (state .entry)) (now (out .entry)) (now (waiting .entry)) (now (report .entry))) (lending (now (state .exit)) (now (out .exit)) (now (waiting .exit)) (now (report .exit))) r ⌝ }
+    ensures { λ _. ⌜ length (now (state .exit)) ≡ length (now (state .entry)) ⌝ }
+    ensures { λ _. ⌜ length (now (out .exit)) ≡ length (now (out .entry)) ⌝ }
+    ensures { λ _. ⌜ length (now (waiting .exit)) ≡ length (now (waiting .entry)) ⌝ }
+    ensures { λ _. ⌜ length (now (report .exit)) ≡ length (now (report .entry)) ⌝ }
 {
     let number = given_back(sheet, state, waiting, part);
     if number != 0 {

@@ -7,7 +7,7 @@ use mathlib.Core.Option.{Option, none, some}
 use Prim.Native.Nat.{ℕ, _+_, _≤_, _<_}
 use native.Mathlib.Omega.{arith}
 use lib.Dec.{eqb}
-use lib.ListN.{length, take, drop, length-append}
+use lib.ListN.{length, take, drop, length-append, length-drop}
 use lib.Seq.{take-at}
 use Rattle.lent.specs.Put.{PutAs}
 use Rattle.lent.proofs.Laws.{put-all}
@@ -34,7 +34,7 @@ tag-short true n h = omega (arith, length-append n (62 ∷ []))
 
 module _ (s : List ℕ) (l : Layout) (L : LaidOut s l) (t : ℕ) (T : TagThere s t) (ending : Bool) (m : List ℕ) (wide : length m ≡ mostMark) where
   pub mark-put : (r : ℕ) (d : List ℕ) → Written mostPrinted (TagOf s t ending) (record { write = true; lent = m; at = 0 }) r d → MarkPut s t ending d r
-  mark-put r d W = record { short = omega (arith, P .next, short); is = goes }
+  mark-put r d W = record { wide = long; short = omega (arith, P .next, short); is = goes }
     where
       name : List ℕ
       name = nameOf (T .sheet .names) t
@@ -48,9 +48,16 @@ module _ (s : List ℕ) (l : Layout) (L : LaidOut s l) (t : ℕ) (T : TagThere s
       P : PutAs true m 0 (tagText ending name) d r
       P = W .right (tagText ending name) (name, there, refl)
 
+      put-is : d ≡ tagText ending name ++ drop (0 + length (tagText ending name)) m
+      put-is = P .left ∙ put-all m 0 (tagText ending name) (omega (arith, short))
+
+      long : length d ≡ mostMark
+      long =
+          omega (arith, ap length put-is, length-append (tagText ending name) (drop (0 + length (tagText ending name)) m), length-drop (0 + length (tagText ending name)) m, short)
+
       begins : take r d ≡ tagText ending name
       begins =
-          ap (take r) (P .left ∙ put-all m 0 (tagText ending name) (omega (arith, short)))
+          ap (take r) put-is
           ∙ take-at (tagText ending name) (drop (0 + length (tagText ending name)) m) r (omega (arith, P .next))
 
       goes : (a : Sheet) → IsSheet s a → take r d ≡ tagText ending (nameOf (a .names) t)

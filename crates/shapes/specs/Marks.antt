@@ -24,8 +24,9 @@ pub record TagThere (s : List ℕ) (t : ℕ) : Type 0 where
   pub is-sheet : IsSheet s sheet
   pub named : t < length (sheet .names)
 
--- the first r bytes of d are the start tag or the end tag of tag t
+-- the first r bytes of d are the start tag or the end tag of tag t; d is as long as any such tag may be
 pub record MarkPut (s : List ℕ) (t : ℕ) (ending : Bool) (d : List ℕ) (r : ℕ) : Type 0 where
+  pub wide : length d ≡ mostMark
   pub short : r ≤ mostMark
   pub is : (a : Sheet) → IsSheet s a → take r d ≡ tagText ending (nameOf (a .names) t)
 

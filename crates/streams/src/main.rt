@@ -5,8 +5,11 @@ ghost use mathlib.Core.Path.{_≡_};
 ghost use Prim.Native.Nat.{_≤_, _<_};
 ghost use lib.ListN.{length};
 ghost use Rattle.io.specs.Counts.{Counts};
+use cases::change;
 use cases::fill;
 use cases::is_kept;
+use cases::letter;
+use cases::one_more;
 use cases::read_bytes;
 use cases::read_line;
 use cases::read_number;
@@ -269,10 +272,6 @@ fn run_call(
     judge(call, is, must, done.output, stands)
 }
 
-fn one_more(n: u64) -> u64 {
-    if n < u64::MAX { n + 1 } else { n }
-}
-
 // Counts a call that was run.
 fn counted(p: Progress, right: bool) -> Progress {
     let mut next = p;
@@ -297,16 +296,6 @@ fn end_group(line: &[u8], p: Progress) -> Progress {
     next.group = 0;
     next.agreed = 0;
     next
-}
-
-// The bytes that the line of a state gives, from the place that it gives.
-fn change(line: &[u8], state: &mut [u8]) {
-    let at = read_number(line, 2);
-    read_bytes(line, at.next, state, at.value as usize);
-}
-
-fn letter(line: &[u8]) -> u8 {
-    if line.len() == 0 { 0 } else { line[0] }
 }
 
 // Runs the call that a line is, on what the lines before it gave, and counts it.

@@ -11,7 +11,7 @@ use std::collections::BTreeMap;
 pub struct Compare {
     pub subject: Subject,
     pub cases: usize,
-    /// How often each function gave each number: a test that never meets a number says nothing about it.
+    /// How often each function gave each number, and how many records were lost with each: a test that never meets a number says nothing about it.
     pub met: BTreeMap<(&'static str, u8), usize>,
 }
 
@@ -127,6 +127,9 @@ impl Compare {
         let said = said.map_err(|error| format!("{error}\n{}", case()))?;
         let call = salvage::salvage(sheet, state, part, ended, room, waiting, report / 24);
         self.count("salvage", call.number);
+        for lost in &call.report {
+            *self.met.entry(("lost", lost.number)).or_default() += 1;
+        }
         match salvage_difference(&call, &said, lent, spare, fill) {
             None => Ok((call.number, call.taken, said.area, said.waiting)),
             Some(what) => {

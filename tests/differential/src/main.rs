@@ -1,6 +1,7 @@
 //! Holds the proved library against the model on random calls. See README.md beside the source.
 //!
-//!     compare COUNT SEED WHAT DRIVER...    WHAT is "sheets" where the library has only the checker, "salvage" where it has the salvage run too
+//!     compare COUNT SEED WHAT DRIVER...    WHAT is "sheets" where the library has only the checker, "runs" where it has the converter too, "all" where it has the
+//!                                          salvage run as well, and "salvage" for calls of that alone
 
 #![cfg_attr(test, allow(dead_code))] // the worked examples need neither the driver nor the random cases
 
@@ -25,7 +26,10 @@ fn main() {
     };
     let subject = subject::Subject::start(&words[4..]).expect("the driver starts");
     let mut compare = compare::Compare::new(subject);
-    let outcome = all(&mut compare, count as usize, seed, words[3] != "sheets", words[3] == "salvage");
+    let outcome = match words[3].as_str() {
+        "salvage" => salvages(&mut compare, count as usize, seed),
+        what => all(&mut compare, count as usize, seed, what != "sheets", what == "all"),
+    };
     for ((function, number), times) in &compare.met {
         println!("{function} {number}: {times}");
     }
@@ -54,6 +58,15 @@ fn all(compare: &mut compare::Compare, count: usize, seed: u64, runs: bool, salv
             1..=40 if runs => upload::run(&mut random, compare)?,
             _ => upload::check(&mut random, compare)?,
         }
+    }
+    Ok(())
+}
+
+/// Calls of the salvage run alone.
+fn salvages(compare: &mut compare::Compare, count: usize, seed: u64) -> Result<(), String> {
+    let mut random = random::Random::new(seed);
+    while compare.cases < count {
+        upload::salvage(&mut random, compare)?;
     }
     Ok(())
 }

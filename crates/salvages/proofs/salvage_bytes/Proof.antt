@@ -1,6 +1,6 @@
 -- Given back, or run: the run's promise is the answer.
 -- Assumes nothing.
-use mathlib.Core.Path.{subst}
+use mathlib.Core.Path.{refl, subst}
 use borrow.Author.Needs.{needs}
 use Rattle.layout.proofs.Laws.{laid-out}
 use Rattle.sheet.proofs.DefectLaws.{runs-inside}
@@ -11,7 +11,7 @@ use Rattle.salvages.proofs.salvage_bytes.Statement.{statement}
 use Rattle.salvages.proofs.salvage_bytes.Tie as tie
 
 returns : tie.Need-returns
-returns c = let a = c .before .before .before .before .before .before .before .before .before .before .before .before in back-untouched (c .before .before .before .given-back .ensures) (c .before .before .if1 .taken) (a .args .ended) (a .args .out .now) (a .args .report .now) (c .untouched .ensures)
+returns c = let a = c .before .before .before .before .before .before .before .before .before .before .before .before in (back-untouched (c .before .before .before .given-back .ensures) (c .before .before .if1 .taken) (a .args .ended) (a .args .out .now) (a .args .report .now) (c .untouched .ensures), (refl, (refl, (refl, refl))))
 
 layout-of-requires : tie.Need-layout-of-requires
 layout-of-requires c κs = entered-run (c .before .given-back .ensures) (c .if1 .left) .is-sheet .well-formed .size .least
@@ -38,7 +38,7 @@ same-length-8 : tie.Need-same-length-8
 same-length-8 c = c .before .before .before .before .before .before .before .before .run-bytes .kept .1 .1 .1 .1 .1 .1 .1 .1 .1 .0
 
 returns-3 : tie.Need-returns-3
-returns-3 c = runs (c .before .before .before .before .before .before .before .before .run-bytes .ensures)
+returns-3 c = (runs (c .before .before .before .before .before .before .before .before .run-bytes .ensures), (c .before .before .before .before .before .before .before .before .run-bytes .kept .1 .1 .1 .1 .0, (c .before .before .before .before .before .before .before .before .run-bytes .kept .1 .1 .1 .1 .1 .1 .1 .0, (c .before .before .before .before .before .before .before .before .run-bytes .kept .1 .1 .1 .1 .1 .1 .1 .1 .0, c .before .before .before .before .before .before .before .before .run-bytes .kept .1 .1 .1 .1 .1 .1 .1 .1 .1 .0))))
 
 pub salvage-bytes-spec : {M : Type 1} → statement M
 salvage-bytes-spec =

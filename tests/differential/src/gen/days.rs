@@ -96,12 +96,17 @@ fn stray(random: &mut Random, sheet: &Sheet, root: &[u8], record: &[u8]) -> Vec<
     }
 }
 
-/// Changes a byte of a salvage state: behind a state's own bytes, in its head, or anywhere.
+/// Changes a byte of a salvage state: behind a state's own bytes, in its head, or anywhere; or brings its count of visits near the limit.
 pub fn harm(random: &mut Random, bytes: &mut [u8]) {
-    let at = match random.below(3) {
+    let at = match random.below(4) {
         0 => state::LENGTH + random.below(salvage::LENGTH - state::LENGTH),
         1 => random.below(state::FRAMES + 2 * state::FRAME),
-        _ => state::LENGTH + random.below(26),
+        2 => state::LENGTH + random.below(26),
+        _ => {
+            let near = state::MOST_VISITS - random.below(60) as u64;
+            bytes[state::COUNT..state::ROOTED].copy_from_slice(&near.to_le_bytes());
+            return;
+        }
     };
     bytes[at] = *random.pick(&[0, 1, 2, 3, 20, 25, 63, 64, 255]);
 }

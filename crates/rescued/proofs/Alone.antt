@@ -1,18 +1,18 @@
 -- What returns is read as a state in which the root alone is open, and which is not closed: so its bytes say.
 -- Assumes nothing.
 use mathlib.Core.Path.{_≡_, refl, sym, ap, ap₂, _∙_}
-use mathlib.Core.List.{List, [], _∷_, _++_}
+use mathlib.Core.List.{List, _∷_, _++_}
 use Prim.Native.Nat.{ℕ, zero, suc, _+_, _-_, _*_}
 use native.Mathlib.Omega.{arith}
 use lib.ListN.{length, take, drop, getD, replicate, length-take, length-drop}
 use lib.Seq.{getD-append-add}
 use Rattle.layout.specs.Layout.{byteAt}
 use Rattle.runs.specs.Machine.{most}
-use Rattle.state.specs.Bounds.{frameWidth, rootedAt, closedAt, depthAt}
+use Rattle.state.specs.Bounds.{frameWidth, rootedAt, depthAt}
 use Rattle.state.specs.Bytes.{numberBytes, number, gathered, longAt, stateFrom}
 use Rattle.state.specs.Changes.{notClosed}
-use Rattle.rescued.specs.Bytes.{returnsAt, salvageWidth, returningBytes, returningIn}
-use Rattle.handback.specs.Begun.{RootAlone}
+use Rattle.rescued.specs.Bytes.{returnsAt, returningBytes}
+use Rattle.rescued.specs.Alone.{ReturnsAlone}
 
 -- bytes behind others are read as by themselves
 behind : (A B : List ℕ) (k : ℕ) → length A ≡ k → (at : ℕ) → byteAt (A ++ B) (k + at) ≡ byteAt B at
@@ -28,7 +28,7 @@ middle-depth : (X : List ℕ) → longAt (0 ∷ notClosed ∷ (numberBytes 8 1 +
 unfolding numberBytes number gathered
 middle-depth X = refl
 
-pub root-alone : (b : List ℕ) → length b ≡ salvageWidth → RootAlone b
+pub root-alone : ReturnsAlone
 unfolding returningBytes stateFrom
 root-alone b l =
     let A : List ℕ = take rootedAt (drop returnsAt b) in
