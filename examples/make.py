@@ -16,6 +16,7 @@ from xml.etree import ElementTree
 HERE = os.path.dirname(os.path.abspath(__file__))
 ROOT = os.path.dirname(HERE)
 sys.path.insert(0, os.path.join(ROOT, 'tests'))
+import rules as typed  # noqa: E402
 from sheets import CLOSE, ECHO, ECHO_OFF, END, EQUAL, IF, NOW, OPEN, REJECT, SET, TEXT, VALUE, Sheet  # noqa: E402
 
 TAGS = ['schedule', 'programme', 'film', 'title', 'start']
@@ -26,6 +27,23 @@ EXAMPLES = {
     'faults': [(0, 'schedule', '(n1*)*'), (1, 'programme', 'n2.n3'), (1, 'programme', 'n2.n3')] + TITLE_AND_START,
     'places': [(0, 'schedule', '(n1|n4)*.n1'), (1, 'programme', 'n2.n3'), (1, 'film', 'n2|n5'), (2, 'title', 'CHAR*.n3*.CHAR*'),
                (3, 'start', 'CHAR*'), (4, 'film', ''), (5, 'title', '')],
+}
+
+# Texts of which the test `reports` has the report: signs in comments, strings and programs, which are no signs of an expression; nonterminals without a production.
+TEXTS = {
+    'signs': """# signs in a comment: * | . n1 "
+n0 ::= {print "\u00e9*|" <a/>} a(({print "(n1|n2)*"} n1|EMPTY)* {print "*"}) # *
+n1 ::= b(n2
+  |n3)
+n2 ::= c((CHAR*.n3)**)
+n3 ::= c() {if $].a0 = $[.a0 then print "::= n0"}
+n1 ::= {} CHAR(n3|n3|n3.n3)
+n1 ::=  CHAR ( )
+""",
+    'missing': """n7
+n0 ::= {print "n5 n6"} n5(n1.(n6|n5)) # n5
+n1 ::= b(n5)
+""",
 }
 
 
@@ -290,6 +308,11 @@ def files():
     made = {}
     for name, rules in EXAMPLES.items():
         made['examples/%s.sheet' % name] = made['crates/reports/data/%s.sheet' % name] = sheet(rules)
+    for name in ['faults', 'places']:
+        made['crates/reports/data/%s.rules' % name] = open(os.path.join(HERE, name + '.rules'), 'rb').read()
+    for name, text in TEXTS.items():
+        made['crates/reports/data/%s.rules' % name] = text.encode()
+        made['crates/reports/data/%s.sheet' % name] = typed.write(text.encode())[2]
     made['examples/programmes.sheet'] = made['crates/stories/data/programmes.sheet'] = programmes()
     for name in ['faults', 'schedule']:
         made['crates/stories/data/%s.sheet' % name] = made['examples/%s.sheet' % name]

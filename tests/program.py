@@ -616,6 +616,122 @@ def the_first_wrong_record_is_named():
         expect(f"{says!r} is said, not {out!r}", says in out)
 
 
+# ---- rules typed as text: a fault is told with its line and column, and a mark stands under its sign
+
+
+SIGNS = """# signs in a comment: * | . n1 "
+n0 ::= {print "\u00e9*|" <a/>} a(({print "(n1|n2)*"} n1|EMPTY)* {print "*"}) # *
+n1 ::= b(n2
+  |n3)
+n2 ::= c(CHAR*)
+n3 ::= c()
+"""
+
+
+def checked(text, number):
+    """What is said of rules that are typed as this text."""
+    write("a.rules", text.encode())
+    status, out, _ = run("check", "a.rules")
+    expect(f"{number}, not {status}: {out!r}", status == number)
+    return out.decode()
+
+
+def pointed(text, out):
+    """Of each place that is told: the words before it, the place in the text by its line and column, and the character above the mark."""
+    lines = text.replace("\r\n", "\n").split("\n")
+    said = out.splitlines()
+    found = []
+    for i, line in enumerate(said):
+        words, _, place = line.rpartition(" line ")
+        if line.endswith(":") and ", column " in place and i + 2 < len(said) and said[i + 2].strip() == "^":
+            number, column = map(int, place[:-1].split(", column "))
+            mark = said[i + 2].index("^")
+            expect("the mark is under the same character", said[i + 1][mark] == lines[number - 1][column - 1])
+            found.append((words.strip(), number, column, said[i + 1][mark]))
+    return found
+
+
+def place(text, part, behind=0):
+    """The line and the column of a part of a text, or of a character of it."""
+    expect("one such part", text.count(part) == 1)
+    before = text[:text.index(part) + behind]
+    return before.count("\n") + 1, len(before) - before.rfind("\n")
+
+
+@test
+def a_fault_of_a_text_is_marked_at_its_sign():
+    bar, star, union = place(SIGNS, "n1|EMPTY", 2), place(SIGNS, "EMPTY)*", 6), place(SIGNS, "  |n3", 2)
+    found = pointed(SIGNS, checked(SIGNS, 9))
+    expect(f"five signs, not {found}", [(f[1:3], f[3]) for f in found] == [(bar, "|"), (star, "*"), (bar, "|"), (star, "*"), (union, "|")])
+    for end in ("\n", "\r\n"):
+        text = f"n0 ::={end} a(n1**){end}n1 ::= b()"
+        found = pointed(text, checked(text, 9))
+        expect(f"the two stars, not {found}", [f[1:] for f in found] == [(2, 6, "*"), (2, 7, "*")] * 2)
+
+
+@test
+def productions_of_one_tag_are_marked_each():
+    text = "n0 ::= a(n1*)\nn1 ::= {ECHO} b ()\n  n1 ::= # b\n b(CHAR)\nn2 ::= b()\nn1 ::= b(n2)\n"
+    found = pointed(text, checked(text, 8))
+    expect(f"three tags, not {found}", [f[1:] for f in found[:3]] == [place(text, "b ()") + ("b",), place(text, " b(C", 1) + ("b",), place(text, "b(n2)") + ("b",)])
+
+
+@test
+def nonterminals_without_a_production_are_marked_each():
+    text = "n7 n0 ::= {print \"n5 n6\"} n5(n1.(n6|n5)) # n5\nn1 ::= b(n5)\n"
+    found = pointed(text, checked(text, 7))
+    expect(f"three places, not {found}", found == [("n5 has no production; it stands at",) + place(text, "n5)) #") + ("n",), ("n6 has no production; it stands at",) + place(text, "n6|") + ("n",),
+                                                  ("n7 has no production; it stands at", 1, 1, "n")])
+
+
+@test
+def convert_and_try_mark_the_faults_of_a_text_too():
+    write("a.schedule", b"<a/>")
+    said = checked(SIGNS, 9)
+    for words in (["try"], ["convert"]):
+        status, out, _ = run(words[0], "a.rules", "a.schedule", *(["listing"] if words[0] == "convert" else []))
+        expect("9, and the same report", status == 9 and out.decode().startswith(said))
+
+
+@test
+def signs_of_random_texts_are_those_that_are_named():
+    sys.path.insert(0, os.path.join(HERE, "tests"))
+    import random
+    import rules
+    random = random.Random(7)
+
+    def part(deep):
+        if deep == 0 or random.random() < 0.2:
+            return random.choice(["n1", "n2", "CHAR", "EMPTY", "({print \"*|\"} n1)"])
+        if random.random() < 0.5:
+            return "(" + part(deep - 1) + ")" + random.choice(["*", " *"])
+        return "(" + part(deep - 1) + random.choice([".", "|", " | ", "\n.\n"]) + part(deep - 1) + ")"
+
+    for n in range(40):
+        text = "".join(f"n{q} ::= a{q % 2}({part(3)})\n" for q in range(3))
+        number, _, _ = rules.write(text.encode())
+        expect("a rule text", number == 0)
+        write("a.rules", text.encode())
+        status, out, _ = run("check", "a.rules")
+        said = out.decode().splitlines()
+        starts = [text.index(f"n{q} ::= ") for q in range(3)] + [len(text)]
+        told = [line for line in said if "the two part at" in line]
+        found = [f for f in pointed(text, out.decode()) if f[0] == "This sign stands at"]
+        entries = [line for line in said if line.startswith("- production ")]
+        expect("each fault has its sign", len(told) == len(found) == len(entries))
+        for line, entry, (_, number, column, shown) in zip(told, entries, found):
+            at = sum(len(l) + 1 for l in text.split("\n")[:number - 1]) + column - 1
+            q = int(entry.split()[2])
+            expect("the sign that is named", text[at] == shown == ("*" if "part at the * of" in line else "|"))
+            expect("in its production", starts[q] <= at < starts[q + 1])
+
+
+@test
+def a_sheet_has_no_lines():
+    status, out, _ = run("check", example("faults.sheet"))
+    expect("no line is told", status == 8 and b", column " not in out)
+
+
 # ---- where it is called from
 
 

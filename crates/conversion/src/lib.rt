@@ -28,7 +28,7 @@ const NO_FILE: i32 = -1;
 fn refuse(sheet: &[u8], sheet_path: &[u8], schedule: &[u8], s: Standing, left: &[u8]) -> u64 {
     let number = s.number;
     if number < 11 {
-        report::report(sheet_path, sheet);
+        rulebooks::report(sheet_path, sheet);
     } else {
         tell_refusal(sheet, schedule, s, left);
     }

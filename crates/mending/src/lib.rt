@@ -1,94 +1,17 @@
 // What people are told of a rule text that is refused: where, the line with a mark under the byte, and what may stand there.
 mod spoken;
 
-ghost use Prim.Native.Nat.{_≤_, _<_};
-ghost use lib.ListN.{length};
-ghost use Rattle.io.specs.Counts.{Counts};
+ghost use Prim.Native.Nat.{_<_};
 ghost use Rattle.lexemes.specs.Kinds.{kinds};
-ghost use Rattle.rulings.specs.Readers.{Firm};
 use files::within;
 use gaps::Skipped;
 use lexemes::Lexeme;
 use places::Place;
-use places::say_line_before;
-use places::say_mark;
+use places::say_line;
 use places::say_place;
-use rulings::Reader;
-use sights::look;
+use posts::Wanted;
 use spoken::say_kind;
 use words::say;
-
-// Where no token could be read any more: the reader there, and how many bytes lie behind it.
-struct Halt {
-    at: usize,
-    reader: Reader,
-}
-
-// The last place from which a text could be read on.
-fn furthest(text: &[u8]) -> Halt
-    ensures { λ r. ⌜ Firm (r .reader) ⌝ }
-    ensures { λ r. ⌜ r .at ≤ length (now (text .entry)) ⌝ }
-{
-    let first = rulings::start();
-    let mut from = 0;
-    let mut g = look(text, first);
-    while g.going {
-        let past = g.at + g.long;
-        let r = g.reader;
-        if past == 0 {
-            return Halt {
-                at: from,
-                reader: r,
-            };
-        }
-        from += past;
-        g = look(&text[from..], r);
-    }
-    let r = g.reader;
-    Halt {
-        at: from,
-        reader: r,
-    }
-}
-
-// The sign behind a production's nonterminal.
-const DEFINED: usize = 23;
-
-// A production by its number, and where it begins in a text.
-fn say_production(text: &[u8], q: usize, at: usize) {
-    let n = within(at, text);
-    let place = Place::behind(&text[..n]);
-    say(b"production ");
-    words::say_number(q);
-    say(b": line ");
-    places::say_count(place.line);
-    say(b", column ");
-    places::say_count(place.column);
-    say(b"\n");
-}
-
-// Where the productions of a text begin, each at the token before its ::= sign.
-pub fn say_productions(text: &[u8]) {
-    let first = rulings::start();
-    let mut from = 0;
-    let mut before = 0;
-    let mut q = 0;
-    let mut g = look(text, first);
-    while g.going {
-        if g.kind == DEFINED {
-            say_production(text, q, before);
-            q = std::num::wrapping_add_usize(q, 1);
-        }
-        before = from + g.at;
-        let past = g.at + g.long;
-        let r = g.reader;
-        if past == 0 {
-            return;
-        }
-        from += past;
-        g = look(&text[from..], r);
-    }
-}
 
 // Whether these bytes begin a token of a kind, and are not all of it.
 fn begins(front: &[u8], k: usize) -> bool
@@ -119,11 +42,14 @@ fn say_tokens(front: &[u8], may: [bool; 35], ends: bool) {
     say(b"\n");
 }
 
+// No nonterminal has this number: who looks for it reads as far as can be read.
+const NO_NONTERMINAL: usize = 64;
+
 // What may stand behind the bytes of a text that are right so far.
 fn say_instead(right: &[u8]) {
-    let h = furthest(right);
+    let h = posts::find(right, Wanted::Nonterminal(NO_NONTERMINAL));
     let r = h.reader;
-    let at = h.at;
+    let at = h.from;
     let may = rulings::row(r);
     let ends = rulings::may_end(r);
     let left = &right[at..];
@@ -137,51 +63,6 @@ fn say_instead(right: &[u8]) {
     }
 }
 
-// The most bytes that are shown of a line before the place, and behind it.
-const BEFORE: usize = 48;
-
-const BEHIND: usize = 32;
-
-// How many of these bytes stand before the line's end.
-fn rest_of_line(bytes: &[u8]) -> usize
-    ensures { λ r. ⌜ r ≤ length (now (bytes .entry)) ⌝ }
-{
-    let mut i = 0;
-    while i < bytes.len() {
-        if bytes[i] == 10 {
-            return i;
-        }
-        i += 1;
-    }
-    i
-}
-
-// Some bytes, as far as the line goes.
-fn say_to_line_end(bytes: &[u8]) {
-    let shown = within(rest_of_line(bytes), bytes);
-    explain::say_shown(&bytes[..shown]);
-}
-
-// Where what is shown before a place begins.
-fn shown_from(at: usize) -> usize
-    ensures { λ r. ⌜ r ≤ at ⌝ }
-{
-    if at < BEFORE { 0 } else { at - BEFORE }
-}
-
-// The line that a place stands in, with a mark under it.
-fn say_line(text: &[u8], at: usize)
-    requires { ⌜ at ≤ length (now text) ⌝ }
-{
-    let from = shown_from(at);
-    let column = say_line_before(&text[from..at], from == 0);
-    let left = &text[at..];
-    let n = within(BEHIND, left);
-    say_to_line_end(&left[..n]);
-    say(b"\n");
-    say_mark(column);
-}
-
 // Says where in a text of rules a place is, with its line and a mark under it.
 pub fn say_where(text: &[u8], place: usize) {
     let at = within(place, text);
@@ -191,7 +72,7 @@ pub fn say_where(text: &[u8], place: usize) {
     } else {
         say(b"What stands there is marked:\n");
     }
-    say_line(text, at);
+    say_line(text, at, 0);
 }
 
 // Says where a text of rules is refused, what stands there and what may stand there.

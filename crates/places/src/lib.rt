@@ -135,14 +135,63 @@ pub fn say_line_before(bytes: &[u8], is_all: bool) -> usize {
     wrapping_add_usize(explain::say_shown(&bytes[whole..]), 3)
 }
 
-// A mark under a column, counted from 0.
-pub fn say_mark(column: usize) {
+// So many spaces.
+fn say_spaces(n: usize) {
     let mut i = 0;
-    while i < column {
+    while i < n {
         say(b" ");
         i += 1;
     }
+}
+
+// A mark under a column, counted from 0.
+pub fn say_mark(column: usize) {
+    say_spaces(column);
     say(b"^\n");
+}
+
+// The most bytes that are shown of a line of a text before a place, and behind it.
+const BEFORE: usize = 48;
+
+const BEHIND: usize = 32;
+
+// How many of these bytes stand before the line's end, of those that are shown.
+fn rest_of_line(bytes: &[u8]) -> usize
+    ensures { λ r. ⌜ r ≤ length (now (bytes .entry)) ⌝ }
+{
+    let mut i = 0;
+    while i < bytes.len() {
+        if (bytes[i] == LINE_FEED) | (i == BEHIND) {
+            return i;
+        }
+        i += 1;
+    }
+    i
+}
+
+fn say_rest_of_line(bytes: &[u8]) {
+    let n = rest_of_line(bytes);
+    explain::say_shown(&bytes[0..n]);
+}
+
+// Where what is shown before a place begins.
+fn shown_from(at: usize) -> usize
+    ensures { λ r. ⌜ r ≤ at ⌝ }
+{
+    if at < BEFORE { 0 } else { at - BEFORE }
+}
+
+// The line of a text that a place stands in, and a mark under the place; both behind so many spaces.
+pub fn say_line(text: &[u8], at: usize, margin: usize)
+    requires { ⌜ at ≤ length (now text) ⌝ }
+{
+    let from = shown_from(at);
+    say_spaces(margin);
+    let column = say_line_before(&text[from..at], from == 0);
+    say_rest_of_line(&text[at..]);
+    say(b"\n");
+    say_spaces(margin);
+    say_mark(column);
 }
 
 // A number in decimal digits.

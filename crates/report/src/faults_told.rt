@@ -17,6 +17,16 @@ use words::say_number;
 use words::say_ordinal;
 use words::say_tag;
 
+// Whether production q is of nonterminal m and has tag t.
+fn is_alike(s: &[u8], l: Layout, q: usize, m: usize, t: usize) -> bool
+    requires { ⌜ LaidOut (now s) l ⌝ }
+    requires { ⌜ q < l .productions ⌝ }
+{
+    let nonterminal = nonterminal_of(s, l, q);
+    let tag = tag_number_of(s, l, q);
+    (nonterminal == m) & (tag == t)
+}
+
 // The numbers of the productions of nonterminal m with tag t.
 fn say_alike(s: &[u8], l: Layout, m: usize, t: usize)
     requires { ⌜ LaidOut (now s) l ⌝ }
@@ -24,14 +34,25 @@ fn say_alike(s: &[u8], l: Layout, m: usize, t: usize)
     let mut some = false;
     let mut q = 0;
     while q < l.productions {
-        let nonterminal = nonterminal_of(s, l, q);
-        let tag = tag_number_of(s, l, q);
-        if (nonterminal == m) & (tag == t) {
+        if is_alike(s, l, q, m, t) {
             if some {
                 say(b", ");
             }
             say_number(q);
             some = true;
+        }
+        q += 1;
+    }
+}
+
+// Where they stand in a text.
+fn say_places_alike(s: &[u8], l: Layout, m: usize, t: usize, text: &[u8])
+    requires { ⌜ LaidOut (now s) l ⌝ }
+{
+    let mut q = 0;
+    while q < l.productions {
+        if is_alike(s, l, q, m, t) {
+            pointing::say_production(text, q);
         }
         q += 1;
     }
@@ -203,8 +224,8 @@ fn say_s_entry(s: &[u8], l: Layout, list: &[u8], i: usize)
     say_s_fault(s, l, q, byte_at(list, i + 2), byte_at(list, i + 3));
 }
 
-// The entry at i.
-fn say_entry(s: &[u8], l: Layout, list: &[u8], i: usize)
+// The entry at i, of rules with a text.
+fn say_entry(s: &[u8], l: Layout, list: &[u8], i: usize, text: &[u8])
     requires { ⌜ LaidOut (now s) l ⌝ }
     requires { ⌜ RunsInside (now s) ⌝ }
     requires { ⌜ i + 3 < length (now list) ⌝ }
@@ -216,17 +237,18 @@ fn say_entry(s: &[u8], l: Layout, list: &[u8], i: usize)
     if rule == 8 {
         say_t_entry(s, l, list, i);
         say_bytes(rule, first, second, third);
+        say_places_alike(s, l, first, second, text);
         return;
     }
     say_s_entry(s, l, list, i);
     say_bytes(rule, first, second, third);
     if first < l.productions {
-        say_reason(s, l, first, second, third);
+        say_reason(s, l, first, second, third, text);
     }
 }
 
 // The first `count` entries.
-pub(crate) fn say_all(s: &[u8], l: Layout, list: &[u8], count: usize)
+pub(crate) fn say_all(s: &[u8], l: Layout, list: &[u8], count: usize, text: &[u8])
     requires { ⌜ LaidOut (now s) l ⌝ }
     requires { ⌜ RunsInside (now s) ⌝ }
 {
@@ -236,7 +258,7 @@ pub(crate) fn say_all(s: &[u8], l: Layout, list: &[u8], count: usize)
         if list.len() - i < 4 {
             return;
         }
-        say_entry(s, l, list, i);
+        say_entry(s, l, list, i, text);
         i += 4;
         done += 1;
     }

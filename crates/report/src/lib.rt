@@ -23,12 +23,12 @@ fn head(name: &[u8], number: u8, count: usize) {
 }
 
 // Every fault of a list, of a sheet that is well-formed where there are any.
-fn say_faults(sheet: &[u8], list: &[u8], count: usize) {
+fn say_faults(sheet: &[u8], list: &[u8], count: usize, text: &[u8]) {
     if sheet::defect(sheet) > 0 {
         return;
     }
     let l = layout_of(sheet);
-    faults_told::say_all(sheet, l, list, count);
+    faults_told::say_all(sheet, l, list, count, text);
 }
 
 // Says which elements are open, by the numbers of their productions from the outside in, on which lines they began, and at which place the innermost stands, in a
@@ -41,22 +41,27 @@ pub fn say_open(sheet: &[u8], productions: &[u8], lines: &[u64], place: usize) {
     opened::say_around(sheet, l, productions, lines, place);
 }
 
-// What was found: the number, the first wrong record, every fault.
-fn tell(name: &[u8], sheet: &[u8], number: u8, count: usize, list: &[u8]) {
+// What was found: the number, the first wrong record, or every nonterminal of a text that has no production; every fault.
+fn tell(name: &[u8], sheet: &[u8], text: &[u8], number: u8, count: usize, list: &[u8]) {
     head(name, number, count);
+    if (number == 7) & (text.len() > 0) {
+        pointing::say_all_missing(text, sheet);
+        return;
+    }
     wrong::say_place(sheet, number);
     if (number == 8) | (number == 9) {
-        say_faults(sheet, list, count);
+        say_faults(sheet, list, count, text);
     }
 }
 
-// Checks a sheet, says on standard output what was found, and answers the number of the table.
-pub fn report(name: &[u8], sheet: &[u8]) -> u8
+// Checks a sheet, says on standard output what was found, and answers the number of the table. The text is the one that was written as the sheet: where its places
+// are told. It has no byte where there is none.
+pub fn report(name: &[u8], sheet: &[u8], text: &[u8]) -> u8
     ensures { λ r. ⌜ VerdictIs (now (sheet .entry)) r ⌝ }
 {
     let mut list = io::large_buffer();
     let r = faults::check(sheet, &mut list);
     let number = r.number;
-    tell(name, sheet, number, r.count, &list);
+    tell(name, sheet, text, number, r.count, &list);
     number
 }

@@ -147,7 +147,7 @@ fn say_atoms(s: &[u8], l: Layout, first: usize, x: usize, one: Row, other: Row)
 }
 
 // Why there is a fault at place p of production q, where x is next.
-pub(crate) fn say_reason(s: &[u8], l: Layout, q: usize, p: usize, x: usize)
+pub(crate) fn say_reason(s: &[u8], l: Layout, q: usize, p: usize, x: usize, text: &[u8])
     requires { ⌜ LaidOut (now s) l ⌝ }
     requires { ⌜ q < l .productions ⌝ }
 {
@@ -163,4 +163,5 @@ pub(crate) fn say_reason(s: &[u8], l: Layout, q: usize, p: usize, x: usize)
     say(b"; the two part at ");
     say_sign(s, l, first, r.sign);
     say(b"\n");
+    pointing::say_sign(text, s, q, r.sign);
 }

@@ -1,4 +1,4 @@
-// Rules from a file: a sheet as it stands there, or a text, which is written as a sheet. What is wrong with a text is told.
+// Rules from a file: a sheet as it stands there, or a text, which is written as a sheet. What is wrong with a text, and with rules, is told.
 ghost use mathlib.Core.Path.{_≡_};
 ghost use lib.ListN.{length};
 ghost use Rattle.io.specs.Counts.{Counts};
@@ -105,20 +105,18 @@ pub fn load(path: &[u8], sheet: &mut [u8]) -> Loaded {
     load_into(path, &mut bytes, sheet)
 }
 
-// Where the productions begin, in the text that a file holds; of a sheet nothing is said.
-fn say_lines_in(path: &[u8], bytes: &mut [u8]) {
+// What is found of a sheet, whose rules are a file's: with their places where it holds a text. It is read once more, into lent memory.
+fn report_from(path: &[u8], sheet: &[u8], bytes: &mut [u8]) -> u8 {
     let whole = files::read_whole(path, bytes);
     let n = whole.held;
     if is_text(&bytes[..n]) {
-        say(b"\nIn ");
-        say(path);
-        say(b":\n");
-        mending::say_productions(&bytes[..n]);
+        return report::report(path, sheet, &bytes[..n]);
     }
+    report::report(path, sheet, b"")
 }
 
-// Where the productions of a file's rules begin, if they are typed as text.
-pub fn say_lines(path: &[u8]) {
+// Checks a sheet whose rules are a file's, says what was found, and answers the number of the table.
+pub fn report(path: &[u8], sheet: &[u8]) -> u8 {
     let mut bytes = memory();
-    say_lines_in(path, &mut bytes);
+    report_from(path, sheet, &mut bytes)
 }

@@ -1,4 +1,2 @@
 pub mod Answers
 pub mod Rows
-pub mod Passes
-pub mod Rulings

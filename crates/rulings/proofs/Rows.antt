@@ -3,7 +3,6 @@ use mathlib.Core.Path.{_≡_, refl, sym, _∙_, ap, subst}
 use mathlib.Core.Bool.{Bool, true, false}
 use mathlib.Core.Option.{Option, none, some}
 use mathlib.Core.List.{List}
-use Prim.Native.Nat.{ℕ}
 use native.Mathlib.Decide.{ℕ-discrete}
 use lib.ListN.{getD}
 use Rattle.programs.specs.Limits.{Visit}
@@ -11,15 +10,14 @@ use Rattle.programs.specs.Parsed.{visit}
 use Rattle.notation.specs.Limits.{ProgramWithin}
 use Rattle.notation.specs.Tokens.{Token, sign, UNBRACE}
 use Rattle.reading.specs.Statements.{Listing, stepStatements, valueOfList, finishedList}
-use Rattle.reading.specs.Rules.{Progress, beginning}
+use Rattle.reading.specs.Rules.{beginning}
 use Rattle.lexemes.specs.Kinds.{kindOf, TokenFits}
 use Rattle.lexemes.proofs.Found.{kind-below}
-use Rattle.verdicts.specs.Judged.{Takes}
 use Rattle.sketches.specs.Figures.{present}
-use Rattle.sketches.specs.Moves.{Sketch, sketchStart, programAt, textEnds}
+use Rattle.sketches.specs.Moves.{sketchStart, textEnds}
 use Rattle.sketches.specs.Sketched.{listingOf}
-use Rattle.sketches.specs.Promises.{Drawn, ProgramTaken, goes-on, ends, ProgramRow}
-use Rattle.sketches.proofs.Promises.{drawn-first, ends-alike, plain-takes, program-takes, plain-marks, program-marks}
+use Rattle.sketches.specs.Promises.{Drawn, goes-on, ends, ProgramRow}
+use Rattle.sketches.proofs.Promises.{drawn-first, ends-alike, plain-marks, program-marks}
 use Rattle.sketches.proofs.Fitting.{no-unbrace}
 use Rattle.drafts.specs.declared.Draft.{Draft}
 use Rattle.drafts.specs.declared.Place.{Place}
@@ -33,8 +31,8 @@ use Rattle.scripts.specs.Promises.{ScriptIs}
 use Rattle.scripts.proofs.Machines.{end-of-machine}
 use Rattle.rows.specs.Rows.{TextRow, OutlineRow}
 use Rattle.rulings.specs.declared.Reader.{Reader}
-use Rattle.rulings.specs.Readers.{Holds, ReadsFor, RowIs, StartIs, EndIs}
-use Rattle.rulings.proofs.Answers.{unbrace-kind, none-some, there, same-program, no-listing, a-listing}
+use Rattle.rulings.specs.Readers.{ReadsFor, RowIs, StartIs, EndIs}
+use Rattle.rulings.proofs.Answers.{unbrace-kind, none-some, no-listing, a-listing}
 
 -- outside programs the row is the draft's
 pub row-in-text : (r : Reader) (w : Place) (m : List Bool) → PlaceIs (r .draft .point) w → w .reads ≡ false → TextRow (r .draft) m → RowIs r m
@@ -65,20 +63,6 @@ row-in-program r w m p y h = λ s u.
     let a : ReadsFor r (w .second) = p .program ∙ ap (λ b. programIf b (w .second)) y in
     let l = a-listing s r (w .second) u a in
     program-marks s (sketchOf (r .draft)) (visit (w .second)) (l .0) m (u .drawn) (l .1) a (program-marked (visit (w .second)) (l .0) (r .script) m (u .program (l .0) (l .1)) h)
-
-program-fits : (v : Visit) (q : Listing) (t : Token) (k : Sketch) (s′ : Progress) → ProgramTaken v q t k s′ → TokenFits t
-program-fits v q t k s′ (goes-on q′ e w f n l) = f
-program-fits v q t k s′ (ends p e j n l) = subst TokenFits (sym e) tt
-
--- the machine takes only tokens that a text may have
-pub taken-fits : (s : Progress) (r : Reader) (t : Token) → Holds s r → Takes s t → TokenFits t
-taken-fits s r t u g = on (listingOf s) refl
-  where
-    on : (o : Option Listing) → listingOf s ≡ o → TokenFits t
-    on none e = plain-takes s (g .0) (sketchOf (r .draft)) t (u .drawn) e (g .1) .fit
-    on (some q) e =
-        let v = there (programAt (r .draft .point)) (sym (same-program s r u) ∙ ap present e) in
-        program-fits (v .0) q t (sketchOf (r .draft)) (g .0) (program-takes s (g .0) (sketchOf (r .draft)) (v .0) q t (u .drawn) e (v .1) (g .1))
 
 pub started : (d : Draft) (f : Script) → DraftIs sketchStart d → (outlineOf f ≡ outlineStart) × Standing f → StartIs (record { draft = d; script = f })
 started d f h i = record {

@@ -1,4 +1,1 @@
 pub mod Readers
-pub mod Passes
-pub mod Strides
-pub mod Rulings

@@ -1,13 +1,8 @@
-// A reader of rules: where it stands in a text, and in the program that is being read there. It steps by kinds of token, and so a text is judged.
+// A reader of rules: where it stands in a text, and in the program that is being read there. It steps by kinds of token.
 ghost use mathlib.Core.Path.{_≡_};
 ghost use Prim.Native.Nat.{_<_};
-ghost use lib.ListN.{length};
-ghost use Rattle.gaps.specs.declared.Skipped.{Skipped};
-ghost use Rattle.gaps.specs.Skipped.{SkippedIs};
 ghost use Rattle.lexemes.specs.Kinds.{kinds};
 ghost use Rattle.rulings.specs.Readers.{Firm, ReadsAny, ReadsFor, Plain, AnswerIs, RowIs, StartIs, EndIs};
-ghost use Rattle.rulings.specs.Strides.{StrideIs};
-ghost use Rattle.rulings.specs.Rulings.{RulingIs};
 
 pub struct Reader {
     pub draft: drafts::Draft,
@@ -142,93 +137,4 @@ pub fn may_end(r: Reader) -> bool
     let p = d.point;
     let w = drafts::place_of(p);
     w.ends
-}
-
-// What one token more has led to: the reader goes on behind it; or what is told of the text, that it writes rules or the byte at which it is refused.
-pub struct Stride {
-    pub going: bool,
-    pub written: bool,
-    pub to: usize,
-    pub reader: Reader,
-}
-
-// At a byte that is in no gap.
-fn at_token(x: &[u8], i: usize, r: Reader) -> Stride
-    requires { ⌜ Firm r × ((i < length (now x)) × SkippedIs (now x) (Skipped.To i)) ⌝ }
-    ensures { λ a. ⌜ StrideIs (now (x .entry)) r a ⌝ }
-{
-    let may = row(r);
-    match lexemes::lex(&x[i..], may) {
-        lexemes::Lexeme::Token(k, _, l) => {
-            let a = take(r, k);
-            let next = a.reader;
-            return Stride {
-                going: true,
-                written: false,
-                to: i + l,
-                reader: next,
-            };
-        }
-        lexemes::Lexeme::Stuck(k) => {
-            return Stride {
-                going: false,
-                written: false,
-                to: i + k,
-                reader: r,
-            };
-        }
-    }
-}
-
-// A gap, and what stands behind it.
-fn one_more(x: &[u8], r: Reader) -> Stride
-    requires { ⌜ Firm r ⌝ }
-    ensures { λ a. ⌜ StrideIs (now (x .entry)) r a ⌝ }
-{
-    match gaps::skip(x) {
-        gaps::Skipped::To(i) => return at_token(x, i, r),
-        gaps::Skipped::End => {
-            let whole = may_end(r);
-            return Stride {
-                going: false,
-                written: whole,
-                to: x.len(),
-                reader: r,
-            };
-        }
-        gaps::Skipped::Bad(i) => {
-            return Stride {
-                going: false,
-                written: false,
-                to: i,
-                reader: r,
-            };
-        }
-    }
-}
-
-// What is told of a text.
-pub enum Ruling {
-    // It writes rules.
-    Rules,
-    // It writes none: the byte that goes with the number 40.
-    Refused(usize),
-}
-
-// A text is judged.
-pub fn judge(text: &[u8]) -> Ruling
-    ensures { λ a. ⌜ RulingIs (now (text .entry)) a ⌝ }
-{
-    let first = start();
-    let mut from = 0;
-    let mut s = one_more(text, first);
-    while s.going {
-        from += s.to;
-        let r = s.reader;
-        s = one_more(&text[from..], r);
-    }
-    if s.written {
-        return Ruling::Rules;
-    }
-    Ruling::Refused(from + s.to)
 }

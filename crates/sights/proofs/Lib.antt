@@ -1,2 +1,4 @@
+pub mod Bounds
 pub mod Seen
 pub mod Rest
+pub mod Rulings

@@ -7,12 +7,12 @@ use native.Mathlib.Omega.{arith}
 use lib.ListN.{length, drop, length-drop}
 use Rattle.reading.specs.Rules.{Progress}
 use Rattle.lexing.proofs.Spellings.{part, part-is}
-use Rattle.verdicts.specs.Judged.{Verdict, writes, refused-at, later, Judged}
+use Rattle.verdicts.specs.Judged.{Verdict, writes, refused-at, later, Judged, ended}
 use Rattle.rulings.specs.declared.Reader.{Reader}
-use Rattle.rulings.specs.declared.Ruling.{Ruling}
 use Rattle.rulings.specs.Readers.{Holds, Firm}
 use Rattle.ledgers.proofs.Telling.{later-none, later-twice, judged-on}
 use Rattle.sights.specs.declared.Glance.{Glance}
+use Rattle.sights.specs.declared.Ruling.{Ruling}
 use Rattle.sights.specs.Glances.{Met, Seen, meets, writes-rules, refuses, GlanceIs, Somewhere, Told, rest-writes, rest-refused, RestIs}
 
 -- what is found behind the first bytes
@@ -70,7 +70,7 @@ along-onward x first from g a y = let f = a .onto (a .some-state) (a .some-seen)
 
 rules-told : (s : Progress) (x : List ℕ) (from : ℕ) (g : Glance) (f : Onto s x from g) → g .going ≡ false → g .written ≡ true → Seen (f .state) (drop from x) g → Told s x Ruling.Rules
 rules-told s x from g f y w (meets e m) = absurd (true≢false (sym e ∙ y))
-rules-told s x from g f y w (writes-rules e h v a j) = rest-writes v (f .judged (writes v) j)
+rules-told s x from g f y w (writes-rules e h v a j) = rest-writes v (f .judged (writes v) (ended j a))
 rules-told s x from g f y w (refuses e h j) = absurd (true≢false (sym w ∙ h))
 
 refusal-told : (s : Progress) (x : List ℕ) (from : ℕ) (g : Glance) (f : Onto s x from g) → g .going ≡ false → g .written ≡ false → Seen (f .state) (drop from x) g → Told s x (Ruling.Refused (from + g .at))

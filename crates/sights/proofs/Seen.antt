@@ -15,17 +15,17 @@ use Rattle.gaps.specs.declared.Skipped.{Skipped}
 use Rattle.gaps.specs.Skipped.{SkippedIs, a-byte, the-end, a-comment}
 use Rattle.lexemes.specs.declared.Lexeme.{Lexeme}
 use Rattle.lexemes.specs.Kinds.{kindOf, Lexed}
-use Rattle.verdicts.specs.Judged.{Goes, Takes, writes, refused-at, Judged, ended, early}
+use Rattle.verdicts.specs.Judged.{Goes, Takes, writes, refused-at, Judged, early}
 use Rattle.verdicts.proofs.Stepping.{judges-comment, judges-stuck}
 use Rattle.sketches.specs.Figures.{present}
 use Rattle.rulings.specs.declared.Reader.{Reader}
 use Rattle.rulings.specs.declared.Answer.{Answer}
 use Rattle.rulings.specs.Readers.{Holds, Firm, Answered, goes, stays, AnswerIs, RowIs, EndIs}
-use Rattle.rulings.proofs.Rulings.{to-below, token-within, stuck-within}
 use Rattle.rulings.proofs.Answers.{absent, there}
 use Rattle.ledgers.specs.Trodden.{TokenAt}
 use Rattle.sights.specs.declared.Glance.{Glance}
 use Rattle.sights.specs.Glances.{Met, Seen, meets, writes-rules, refuses, GlanceIs}
+use Rattle.sights.proofs.Bounds.{token-within, stuck-within, bad-below}
 
 abbrev pub taken : ℕ → ℕ → ℕ → ℕ → Reader → Glance
 taken i k n l r = record { going = true; written = false; at = i; kind = k; number = n; long = l; reader = r }
@@ -84,14 +84,11 @@ seen-stuck x r may i k g f h w y e = subst (GlanceIs x r) (sym e) (record {
   told = λ s u. refuses refl refl (judges-stuck s may x i k (w s u) (h .1) y);
 })
 
-bad-below : (x : List ℕ) (i : ℕ) → SkippedIs x (Skipped.Bad i) → i ≤ length x
-bad-below x i (a-comment {b = b} g c y h a e l n m) = omega (arith, l, ap length e, length-append g (35 ∷ (c ++ b ∷ y)), length-append c (b ∷ y))
-
 pub seen-comment : (x : List ℕ) (r : Reader) (i : ℕ) (g : Glance) → Firm r → SkippedIs x (Skipped.Bad i) → g ≡ nothing r false i → GlanceIs x r g
 seen-comment x r i g f h e = subst (GlanceIs x r) (sym e) (record { high = let z = bad-below x i h in omega (arith, z); firm = f; told = λ s u. refuses refl refl (judges-comment s x i h) })
 
 end-seen : (s : Progress) (x : List ℕ) (r : Reader) (b : Bool) → SkippedIs x Skipped.End → b ≡ present (valueOfRules s) → Seen s x (nothing r b (length x))
-end-seen s x r true (the-end e) h = let v = there (valueOfRules s) (sym h) in writes-rules refl refl (v .0) (v .1) (ended e (v .1))
+end-seen s x r true (the-end e) h = let v = there (valueOfRules s) (sym h) in writes-rules refl refl (v .0) (v .1) e
 end-seen s x r false (the-end e) h = refuses refl refl (early e (absent (valueOfRules s) (sym h)))
 
 pub seen-end : (x : List ℕ) (r : Reader) (b : Bool) (g : Glance) → Firm r → EndIs r b → SkippedIs x Skipped.End → g ≡ nothing r b (length x) → GlanceIs x r g

@@ -7,14 +7,15 @@ use Prim.Native.Nat.{ℕ, _+_, _≤_}
 use lib.ListN.{length}
 use Rattle.notation.specs.Rules.{Rules}
 use Rattle.notation.specs.Tokens.{Token}
+use Rattle.notation.specs.Gaps.{Ending}
 use Rattle.reading.specs.Rules.{Progress, valueOfRules}
 use Rattle.lexemes.specs.Kinds.{kindOf, numberOf}
 use Rattle.verdicts.specs.Judged.{writes, refused-at, Judged}
 use Rattle.rulings.specs.declared.Reader.{Reader}
-use Rattle.rulings.specs.declared.Ruling.{Ruling}
 use Rattle.rulings.specs.Readers.{Holds, Firm}
 use Rattle.ledgers.specs.Trodden.{TokenAt}
 use Rattle.sights.specs.declared.Glance.{Glance}
+use Rattle.sights.specs.declared.Ruling.{Ruling}
 
 -- a token that the machine takes
 pub record Met (s : Progress) (x : List ℕ) (a : Glance) : Type 0 where
@@ -28,7 +29,7 @@ pub record Met (s : Progress) (x : List ℕ) (a : Glance) : Type 0 where
 
 pub data Seen (s : Progress) (x : List ℕ) (a : Glance) : Type 0 where
   meets : a .going ≡ true → Met s x a → Seen s x a
-  writes-rules : a .going ≡ false → a .written ≡ true → (v : Rules) → valueOfRules s ≡ some v → Judged s x (writes v) → Seen s x a
+  writes-rules : a .going ≡ false → a .written ≡ true → (v : Rules) → valueOfRules s ≡ some v → Ending x → Seen s x a
   refuses : a .going ≡ false → a .written ≡ false → Judged s x (refused-at (a .at)) → Seen s x a
 
 -- whichever state it is that the reader holds

@@ -1,4 +1,4 @@
-// The next token of a text of rules, with its kind, its number and its place, and the reader behind it; and what is told of the rest of a text.
+// The next token of a text of rules, with its kind, its number and its place, and the reader behind it; and what is told of a text, or of its rest.
 ghost use mathlib.Core.Path.{_≡_};
 ghost use mathlib.Core.Bool.{false};
 ghost use Prim.Native.Nat.{_<_};
@@ -7,6 +7,7 @@ ghost use Rattle.gaps.specs.declared.Skipped.{Skipped};
 ghost use Rattle.gaps.specs.Skipped.{SkippedIs};
 ghost use Rattle.rulings.specs.Readers.{Firm};
 ghost use Rattle.sights.specs.Glances.{GlanceIs, Somewhere, RestIs};
+ghost use Rattle.sights.specs.Rulings.{RulingIs};
 
 // A token that is taken: behind how many bytes it stands, its kind, its number, how many bytes it takes, and the reader behind it. Or none: that the
 // text writes rules, or the byte at which it is refused.
@@ -74,8 +75,16 @@ pub fn look(x: &[u8], r: rulings::Reader) -> Glance
     }
 }
 
+// What is told of a text.
+pub enum Ruling {
+    // It writes rules.
+    Rules,
+    // It writes none: the byte that goes with the number 40.
+    Refused(usize),
+}
+
 // What is told of the rest of a text, from a reader on.
-pub fn judge_rest(x: &[u8], r: rulings::Reader) -> rulings::Ruling
+pub fn judge_rest(x: &[u8], r: rulings::Reader) -> Ruling
     requires { ⌜ Firm r × Somewhere r ⌝ }
     ensures { λ a. ⌜ RestIs (now (x .entry)) r a ⌝ }
 {
@@ -88,7 +97,15 @@ pub fn judge_rest(x: &[u8], r: rulings::Reader) -> rulings::Ruling
         g = look(&x[from..], next);
     }
     if g.written {
-        return rulings::Ruling::Rules;
+        return Ruling::Rules;
     }
-    rulings::Ruling::Refused(from + g.at)
+    Ruling::Refused(from + g.at)
+}
+
+// A text is judged.
+pub fn judge(text: &[u8]) -> Ruling
+    ensures { λ a. ⌜ RulingIs (now (text .entry)) a ⌝ }
+{
+    let first = rulings::start();
+    judge_rest(text, first)
 }

@@ -155,11 +155,7 @@ fn check_file(path: &[u8]) -> u64 {
         return loaded.number;
     }
     let n = files::within(loaded.length, &sheet);
-    let number = report::report(path, &sheet[..n]);
-    if (number > 6) & (number < 10) {
-        rulebooks::say_lines(path);
-    }
-    number as u64
+    rulebooks::report(path, &sheet[..n]) as u64
 }
 
 // Puts a sheet in place, and says so.

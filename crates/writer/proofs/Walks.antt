@@ -15,7 +15,7 @@ use Rattle.encoding.specs.Encoded.{bytesOfEach}
 use Rattle.reading.specs.Rules.{Progress, beginning}
 use Rattle.lexing.proofs.Spellings.{part, part-is}
 use Rattle.lexemes.specs.Kinds.{kindOf, numberOf, TokenFits}
-use Rattle.verdicts.specs.Judged.{writes, refused-at, Judged}
+use Rattle.verdicts.specs.Judged.{writes, refused-at, Judged, ended}
 use Rattle.verdicts.proofs.Judging.{judged-right}
 use Rattle.stores.specs.Rows.{RowsIn}
 use Rattle.stores.proofs.Mentioning.{empty-store}
@@ -26,7 +26,7 @@ use Rattle.ledgers.specs.Trodden.{Trodden, TokenAt, Leads}
 use Rattle.ledgers.specs.Space.{Space}
 use Rattle.ledgers.proofs.Telling.{trodden-first, trodden-on, trodden-tidy, leads-back, tells-rules, tells-40, tells-41}
 use Rattle.rulings.specs.declared.Reader.{Reader}
-use Rattle.rulings.specs.declared.Ruling.{Ruling}
+use Rattle.sights.specs.declared.Ruling.{Ruling}
 use Rattle.rulings.specs.Readers.{Holds, Firm, StartIs}
 use Rattle.sights.specs.declared.Glance.{Glance}
 use Rattle.sights.specs.Glances.{Met, Seen, meets, writes-rules, refuses, GlanceIs, Somewhere, Told, rest-writes, rest-refused, RestIs}
@@ -281,7 +281,7 @@ module _ (text area : List ℕ) (w : Walk) (tb te sb se pb pe productions nodes 
       → (r : Rules) × WholeAt r (u .state)
   whole-at u y v (meets e m) = absurd (true≢false (sym e ∙ y))
   whole-at u y v (writes-rules e f r a j) =
-      let t = tells-rules text (w .from) (u .state) r (u .trodden) j in
+      let t = tells-rules text (w .from) (u .state) r (u .trodden) (ended j a) in
       let k = u .kept r (t .leads) in (
         r,
         record {

@@ -173,13 +173,13 @@ fn settle(
     let from = w.from;
     if w.full {
         match sights::judge_rest(&text[from..], r) {
-            rulings::Ruling::Rules => {
+            sights::Ruling::Rules => {
                 return Written {
                     number: 41,
                     count: w.byte,
                 };
             }
-            rulings::Ruling::Refused(k) => {
+            sights::Ruling::Refused(k) => {
                 return Written {
                     number: 40,
                     count: from + k,

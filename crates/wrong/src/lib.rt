@@ -7,6 +7,7 @@ mod tags;
 mod trailer;
 
 ghost use Prim.Native.Nat.{_<_};
+pub use nodes::is_produced;
 pub use trailer::field_of;
 use words::say;
 use words::say_number;

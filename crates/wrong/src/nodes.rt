@@ -120,7 +120,7 @@ pub(crate) fn say_expression(s: &[u8]) {
 }
 
 // Whether a production is of nonterminal n.
-fn is_produced(s: &[u8], n: usize) -> bool {
+pub fn is_produced(s: &[u8], n: usize) -> bool {
     let count = field_of(s, 3);
     let mut q = 0;
     while q < count {

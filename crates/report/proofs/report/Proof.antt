@@ -10,27 +10,21 @@ use Rattle.faults.proofs.check.Reads as check-reads
 use Rattle.io.proofs.large_buffer.Reads as large-buffer-reads
 use Rattle.report.proofs.tell.Reads as tell-reads
 
--- src/lib.rt:57:20
 large-buffer-requires : tie.Need-large-buffer-requires
 large-buffer-requires c κs = search needs
 
--- src/lib.rt:58:34
 slice-aggregate-check : tie.Need-slice-aggregate-check
 slice-aggregate-check c = search needs
 
--- src/lib.rt:58:9
 check-requires : tie.Need-check-requires
 check-requires c κs = search needs
 
--- src/lib.rt:60:40
 slice-aggregate-tell : tie.Need-slice-aggregate-tell
 slice-aggregate-tell c = search needs
 
--- src/lib.rt:60:5
 tell-requires : tie.Need-tell-requires
 tell-requires c κs = search needs
 
--- src/lib.rt:54:1
 returns : tie.Need-returns
 returns c = verdict-reported (c .before .before .before .check .ensures) (omega (arith, c .before .before .before .before .before .large-buffer .ensures))
 

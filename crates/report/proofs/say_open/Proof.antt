@@ -11,25 +11,20 @@ use Rattle.layout.proofs.layout_of.Reads as layout-of-reads
 use Rattle.report.proofs.opened.say_around.Reads as say-around-reads
 use Rattle.sheet.proofs.defect.Reads as defect-reads
 
--- src/lib.rt:75:8
 defect-requires : tie.Need-defect-requires
 defect-requires c κs = search needs
 
--- src/lib.rt:76:9
 returns : tie.Need-returns
 returns c = search needs
 
--- src/lib.rt:78:9
 layout-of-requires : tie.Need-layout-of-requires
 layout-of-requires c κs = no-defect (c .before .defect .ensures) (omega arith) .size .least
 
--- src/lib.rt:79:5
 say-around-requires : tie.Need-say-around-requires
 say-around-requires c κs =
     let w = no-defect (c .before .before .defect .ensures) (omega arith) in
     (laid-out (c .layout-of .ensures) (w .size) (w .sections), runs-inside _ (w .productions))
 
--- src/lib.rt:74:1
 returns-2 : tie.Need-returns-2
 returns-2 c = search needs
 

@@ -1,5 +1,5 @@
 use Rattle.lexemes.specs.declared.Lexeme.{Lexeme}
-use Rattle.rulings.proofs.Rulings.{lexed-as, token-within, stuck-within}
+use Rattle.sights.proofs.Bounds.{lexed-as, token-within, stuck-within}
 use Rattle.sights.proofs.Seen.{seen-token, seen-stuck}
 use borrow.Author.Needs.{needs}
 use Rattle.sights.proofs.at_token.Statement.{statement}
@@ -11,31 +11,24 @@ use Rattle.lexemes.proofs.lex.Reads as lex-reads
 use Rattle.rulings.proofs.row.Reads as row-reads
 use Rattle.rulings.proofs.take.Reads as take-reads
 
--- src/lib.rt:43:9
 row-requires : tie.Need-row-requires
 row-requires c κs = search needs
 
--- src/lib.rt:44:24
 sub-lex : tie.Need-sub-lex
 sub-lex c = search needs
 
--- src/lib.rt:44:24
 part-lex-start : tie.Need-part-lex-start
 part-lex-start c = search needs
 
--- src/lib.rt:44:24
 part-lex-end : tie.Need-part-lex-end
 part-lex-end c = search needs
 
--- src/lib.rt:44:11
 lex-requires : tie.Need-lex-requires
 lex-requires c κs = search needs
 
--- src/lib.rt:45:32
 enum-known-k : tie.Need-enum-known-k
 enum-known-k c = search needs
 
--- src/lib.rt:46:17
 take-requires : tie.Need-take-requires
 take-requires c κs =
     let p = c .before .before .before .before .before .before .before in
@@ -43,7 +36,6 @@ take-requires c κs =
     let y = lexed-as (c .before .before .before .before .before .row .result) x (p .args .i) (c .before .before .before .lex .result) (Lexeme.Token _ _ _) (c .before .k .given .1) (c .before .before .before .lex .ensures) in
     (token-within (c .before .before .before .before .before .row .result) x (p .args .i) _ _ _ (p .pre .1 .0) y .0, p .pre .0)
 
--- src/lib.rt:48:13
 returns : tie.Need-returns
 returns c =
     let p = c .before .before .before .before .before .before .before .before .before in
@@ -51,11 +43,9 @@ returns c =
     let y = lexed-as (c .before .before .before .before .before .before .before .row .result) x (p .args .i) (c .before .before .before .before .before .lex .result) (Lexeme.Token _ _ _) (c .before .before .before .k .given .1) (c .before .before .before .before .before .lex .ensures) in
     seen-token x (p .args .r) (c .before .before .before .before .before .before .before .row .result) (p .args .i) _ _ _ (c .before .take .result) (p .pre .1) (c .before .before .before .before .before .before .before .row .ensures) y (c .before .take .ensures)
 
--- src/lib.rt:58:32
 enum-known-k-2 : tie.Need-enum-known-k-2
 enum-known-k-2 c = search needs
 
--- src/lib.rt:58:60
 add-told : tie.Need-add-told
 add-told c =
     let p = c .before .before .before .before .before .before .before in
@@ -64,11 +54,9 @@ add-told c =
     let z = stuck-within (c .before .before .before .before .before .row .result) x (p .args .i) _ (p .pre .1 .0) y in
     search (z, needs)
 
--- src/lib.rt:58:38
 told-requires : tie.Need-told-requires
 told-requires c κs = search needs
 
--- src/lib.rt:58:38
 returns-2 : tie.Need-returns-2
 returns-2 c =
     let p = c .before .before .before .before .before .before .before .before in

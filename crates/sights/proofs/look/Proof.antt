@@ -1,4 +1,4 @@
-use Rattle.rulings.proofs.Rulings.{to-below, skipped-as}
+use Rattle.sights.proofs.Bounds.{to-below, skipped-as}
 use Rattle.sights.proofs.Seen.{seen-end, seen-comment}
 use borrow.Author.Needs.{needs}
 use Rattle.sights.proofs.look.Statement.{statement}
@@ -10,47 +10,36 @@ use Rattle.sights.proofs.at_token.Reads as at-token-reads
 use Rattle.sights.proofs.told.Reads as told-reads
 use Rattle.rulings.proofs.may_end.Reads as may-end-reads
 
--- src/lib.rt:67:11
 skip-requires : tie.Need-skip-requires
 skip-requires c κs = search needs
 
--- src/lib.rt:68:27
 enum-known-i : tie.Need-enum-known-i
 enum-known-i c = search needs
 
--- src/lib.rt:68:33
 at-token-requires : tie.Need-at-token-requires
 at-token-requires c κs = search (to-below, skipped-as, needs)
 
--- src/lib.rt:68:33
 returns : tie.Need-returns
 returns c = search needs
 
--- src/lib.rt:70:17
 enum-told : tie.Need-enum-told
 enum-told c = search needs
 
--- src/lib.rt:70:17
 may-end-requires : tie.Need-may-end-requires
 may-end-requires c κs = search needs
 
--- src/lib.rt:71:13
 told-requires : tie.Need-told-requires
 told-requires c κs = search needs
 
--- src/lib.rt:71:13
 returns-2 : tie.Need-returns-2
 returns-2 c = search (seen-end, skipped-as, needs)
 
--- src/lib.rt:73:28
 enum-known-i-2 : tie.Need-enum-known-i-2
 enum-known-i-2 c = search needs
 
--- src/lib.rt:73:34
 told-requires-2 : tie.Need-told-requires-2
 told-requires-2 c κs = search needs
 
--- src/lib.rt:73:34
 returns-3 : tie.Need-returns-3
 returns-3 c = search (seen-comment, skipped-as, needs)
 

@@ -9,44 +9,35 @@ use Rattle.report.proofs.faults_told.say_all.Lts as lts
 use Rattle.report.proofs.faults_told.say_entry.Reads as say-entry-reads
 
 abbrev Inv-loop : tie.InvT-loop
-Inv-loop s l list count i₀ done₀ i done = (i ≤ length list) × (done ≤ count)
+Inv-loop s l list count text i₀ done₀ i done = (i ≤ length list) × (done ≤ count)
 
 abbrev μ-loop : tie.MeasureT-loop
-μ-loop s l list count i₀ done₀ i done = count - done
+μ-loop s l list count text i₀ done₀ i done = count - done
 
--- src/faults_told.rt:213:5
 loop-holds : tie.Need-loop-holds Inv-loop μ-loop
 loop-holds c = search needs
 
--- src/faults_told.rt:214:12
 sub-if1 : tie.Need-sub-if1 Inv-loop μ-loop
 sub-if1 c = search needs
 
--- src/faults_told.rt:215:13
 returns : tie.Need-returns Inv-loop μ-loop
 returns c = search needs
 
--- src/faults_told.rt:217:9
 say-entry-requires : tie.Need-say-entry-requires Inv-loop μ-loop
 say-entry-requires c κs = (search needs, (search needs, search needs))
 
--- src/faults_told.rt:218:9
 add-i : tie.Need-add-i Inv-loop μ-loop
 add-i c = search needs
 
--- src/faults_told.rt:219:9
 add-done : tie.Need-add-done Inv-loop μ-loop
 add-done c = search needs
 
--- src/faults_told.rt:213:5
 loop-less : tie.Need-loop-less Inv-loop μ-loop
 loop-less c = search needs
 
--- src/faults_told.rt:213:5
 loop-again : tie.Need-loop-again Inv-loop μ-loop
 loop-again c = search needs
 
--- src/faults_told.rt:207:1
 returns-2 : tie.Need-returns-2 Inv-loop μ-loop
 returns-2 c = search needs
 

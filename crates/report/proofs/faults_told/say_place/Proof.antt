@@ -10,76 +10,59 @@ use Rattle.words.proofs.say_atom.Reads as say-atom-reads
 use Rattle.words.proofs.say.Reads as say-reads
 use Rattle.words.proofs.say_ordinal.Reads as say-ordinal-reads
 
--- src/faults_told.rt:70:13
 slice-aggregate-say : tie.Need-slice-aggregate-say
 slice-aggregate-say c = search needs
 
--- src/faults_told.rt:70:9
 say-requires : tie.Need-say-requires
 say-requires c κs = search needs
 
--- src/faults_told.rt:71:9
 returns : tie.Need-returns
 returns c = search needs
 
--- src/faults_told.rt:73:9
 slice-aggregate-say-2 : tie.Need-slice-aggregate-say-2
 slice-aggregate-say-2 c = search needs
 
--- src/faults_told.rt:73:5
 say-requires-2 : tie.Need-say-requires-2
 say-requires-2 c κs = search needs
 
--- src/faults_told.rt:74:5
 say-ordinal-requires : tie.Need-say-ordinal-requires
 say-ordinal-requires c κs = search needs
 
--- src/faults_told.rt:75:9
 slice-aggregate-say-3 : tie.Need-slice-aggregate-say-3
 slice-aggregate-say-3 c = search needs
 
--- src/faults_told.rt:75:5
 say-requires-3 : tie.Need-say-requires-3
 say-requires-3 c κs = search needs
 
--- src/faults_told.rt:76:9
 node-of-atom-requires : tie.Need-node-of-atom-requires
 node-of-atom-requires c κs = search needs
 
--- src/faults_told.rt:77:29
 enum-known-found : tie.Need-enum-known-found
 enum-known-found c = search needs
 
--- src/faults_told.rt:78:13
 slice-aggregate-say-4 : tie.Need-slice-aggregate-say-4
 slice-aggregate-say-4 c = search needs
 
--- src/faults_told.rt:78:9
 say-requires-4 : tie.Need-say-requires-4
 say-requires-4 c κs = search needs
 
--- src/faults_told.rt:79:9
 say-atom-requires : tie.Need-say-atom-requires
 say-atom-requires c κs =
     let w = c .before .before .before .before .before .before .before .before .before .before .before .before .before in
     (w .pre .0, found-inside (w .args .p) (w .pre .0) (w .pre .1 .0) (w .pre .1 .1) (rw (c .before .before .before .found .given .1) at (c .before .before .before .before .before .node-of-atom .ensures)))
 
--- src/faults_told.rt:80:13
 slice-aggregate-say-5 : tie.Need-slice-aggregate-say-5
 slice-aggregate-say-5 c = search needs
 
--- src/faults_told.rt:80:9
 say-requires-5 : tie.Need-say-requires-5
 say-requires-5 c κs = search needs
 
 enum-told : tie.Need-enum-told
 enum-told c = search needs
 
--- src/faults_told.rt:64:1
 returns-2 : tie.Need-returns-2
 returns-2 c = search needs
 
--- src/faults_told.rt:64:1
 returns-3 : tie.Need-returns-3
 returns-3 c = search needs
 

@@ -1,0 +1,4 @@
+pub mod Posts
+pub mod ByKind
+pub mod Found
+pub mod Promises
