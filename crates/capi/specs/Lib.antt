@@ -2,5 +2,4 @@ pub mod Packed
 pub mod Counted
 pub mod Started
 pub mod RunAnswer
-pub mod Hosts
 pub mod Salvaging

@@ -22,8 +22,8 @@ use Rattle.converter.specs.Answered.{heldOf}
 use Rattle.converter.specs.Fed.{resultIn, BytesCall}
 use Rattle.converter.proofs.Theorems.{bytes-fed-converted, bytes-fed-accepted, bytes-as-lent}
 use Rattle.converter.proofs.Told.{bytes-fed-exactly, bytes-fed-read-back}
 use Rattle.capi.specs.Started.{StartedAs, too-short, fresh}
-use Rattle.capi.specs.Hosts.{RunCall, RunAsLent, HostAccepts, HostConverts, HostFedExactly, HostFedReadBack}
+use Rattle.hosts.specs.Hosts.{RunCall, RunAsLent, HostAccepts, HostConverts, HostFedExactly, HostFedReadBack}
 
 twice-not : (b : Bool) → not (not b) ≡ b
 twice-not true = refl
