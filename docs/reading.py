@@ -39,6 +39,11 @@ DEMANDS = [
     ('Demand 2: `<a/>` and `<a></a>`', ['calls.Empty.EmptyIsBoth', 'calls.Empty.EmptyForBoth']),
     ('Demand 3: the list of faults', ['faults.Checked.CheckedAs', 'expressions.FaultList.IsFaultList']),
     ('The starred examples', ['worked.Worked.RowHolds', 'worked.Worked.worked']),
+    ('§1: rules typed as text, written as a sheet', ['writing.Written.WrittenAs', 'writing.Promises.OneWriting']),
+    ('§1: sheets printed as text, and the way back', ['printing.Printed.PrintedAs', 'printing.Promises.RoundTrips', 'printing.Promises.WritesTheSame']),
+    ('§6: content models from a DTD', ['declaring.Declares.DeclaredAs', 'declaring.Promises.ModelsAreWritten', 'models.Promises.SameLanguage']),
+    ('§12: what a stream is salvaged to', ['salvage.Promises.OneSalvage', 'salvage.Promises.SalvageIsCut']),
+    ('§12: a call of the salvage run over bytes', ['rescued.Salvaged.SalvagedAs']),
 ]
 
 

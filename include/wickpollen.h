@@ -1,4 +1,4 @@
-/* The sheet checker, the converter, the salvage run, and the writer and the printer of rules as text, for hosts in C and C++. Build: `rt staticlib capi`, and link target/staticlib/libcapi.a; or
+/* The sheet checker, the converter, the salvage run, the writer and the printer of rules as text, and the reader of content models, for hosts in C and C++. Build: `rt staticlib capi`, and link target/staticlib/libcapi.a; or
    `bin/install PREFIX`, and ask `pkg-config --cflags --libs wickpollen`.
 
    The numbers are those of the table in README.md. In every call the lent areas must not overlap, and each must hold as many bytes as
@@ -6,8 +6,9 @@
    run at the same time.
 
    The library is for x86-64 and needs of a C library memcpy and memset alone; it allocates nothing, opens nothing and has no variables. Its
-   stack is bounded by the sheet's limits: a call of wickpollen_check or wickpollen_run takes at most 24 kB of it, most of them for expressions nested 12 deep (bench/stack adds them up);
-   wickpollen_write keeps its stores there, some 220 kB, and wickpollen_print the strings that it has met, some 74 kB: give a thread that calls these half a megabyte. */
+   stack is bounded by the sheet's limits: a call of wickpollen_check or wickpollen_run takes at most 25 kB of it, most of them for expressions nested 12 deep, one of wickpollen_salvage 32 kB
+   (bench/stack adds them up); wickpollen_write keeps its stores there, some 350 kB with what it calls, wickpollen_models what it has read of a text, some 105 kB, and wickpollen_print the strings
+   that it has met, some 95 kB: give a thread that calls these half a megabyte. */
 #ifndef WICKPOLLEN_H
 #define WICKPOLLEN_H
 #include <stddef.h>
@@ -101,6 +102,18 @@ uint64_t wickpollen_write(const uint8_t *text, size_t text_len, uint8_t *sheet, 
 
    With any number but 0 the area is as lent. */
 uint64_t wickpollen_print(const uint8_t *sheet, size_t sheet_len, uint8_t *text, size_t text_len);
+
+/* Writes the content models of a DTD as a rule sheet without programs: element declarations, EMPTY, mixed content and groups with their marks, names of at most 15 bytes, and
+   white space between them. Names are nonterminals in the order of their first mention, and the first declared element is the start, 0. The answer as above:
+
+     0          the sheet stands in sheet[0 .. answer / 256), and every byte past it is as lent. It keeps the numbers 1 to 6; whether it passes, wickpollen_check says. 3352 bytes always suffice.
+     43         the area is shorter than the sheet; the length needed.
+     50 to 55   no text of declarations goes on at this byte (the text's length where it ends too early): 50 the content is ANY, 51 an entity, 52 an attribute list, 53 a model of over 32 nodes,
+                54 one nested over 12 deep or with over 32 parentheses open, 55 anything else.
+     56         over 64 declarations, 64 different names or 256 nodes in all: the > of the first declaration that is too much.
+
+   With any number but 0 the area is as lent. The text may be of any length; wickpollen_print prints the sheet as text, to add the statements. */
+uint64_t wickpollen_models(const uint8_t *dtd, size_t dtd_len, uint8_t *sheet, size_t sheet_len);
 
 #ifdef __cplusplus
 }

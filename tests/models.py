@@ -1,11 +1,15 @@
 #!/usr/bin/env python3
 """Content models from a DTD (§6): the definitions of crate models once more, against libxml2.
 
-    python3 tests/models.py [SEED [MODELS]]    tells how many words, texts and worked examples agree; the exit status says whether all do
+    python3 tests/models.py [SEED [MODELS]]          tells how many words, texts and worked examples agree; the exit status says whether all do
+    python3 tests/models.py --run [SEED [MODELS]]    the same of declarations that bin/wickpollen reads, and of documents that it tries under their rules
 
 A model is drawn by lot, with words of its children and characters. Three opinions on each word: the rows that the model matches (`Valid.Valid`), the language of the
 expression that it becomes (`Expressions.specContent`), and `xmllint --dtdvalid`. Texts that are nearly declarations are read by the machine of `Reader`, and xmllint
 says whether they are well-formed. The answers 50 to 56 are compared with those worked out by hand. Without xmllint only the opinions of this file are compared.
+
+With --run the program itself is asked: `wickpollen models` of declarations must end with the number, and print the text, that tests/partners.py, sheets.py and rules.py give them; where that is 0,
+`wickpollen try` of a document under the text must end with 0 exactly where xmllint finds it valid, and `Valid.Valid` too. What libxml2 calls ambiguous must be 9.
 """
 import os
 import random
@@ -14,6 +18,10 @@ import shutil
 import subprocess
 import sys
 import tempfile
+
+import partners
+import rules
+import sheets
 
 NAMES = 'abcd'
 
@@ -394,13 +402,87 @@ def xmllint(folder, dtd, documents):
     return 'Could not parse DTD' not in out, [i not in bad for i in range(len(documents))], 'not determinist' in out
 
 
+# ---------------------------------------------------------------------------------------------------------------------
+# The program itself. The elements that a model is over have contents of their own, so that a document is a tree.
+
+HERE = os.path.join(os.path.dirname(os.path.abspath(__file__)), '..')
+INSIDE = {'a': ('nothing',), 'b': ('mixed', []), 'c': ('mixed', ['a', 'b']), 'd': ('children', ('sequence', ('called', 'a'), ('optional', ('called', 'b'))))}
+DECLARED = '<!ELEMENT a EMPTY><!ELEMENT b (#PCDATA)><!ELEMENT c (#PCDATA|a|b)*><!ELEMENT d (a,b?)>'
+
+
+def some_tree(lot, name, c, changes):
+    """An element as text, and whether it is valid. White space between children is no character where the content has none."""
+    w = grown(lot, content(c))[:8]
+    if lot.random() < changes:
+        i = lot.randrange(len(w) + 1)
+        w = w[:i] + lot.choice(['', lot.choice(NAMES + 't')]) + w[i + lot.randrange(2):]
+    right, parts = valid(c, w), []
+    for k in w:
+        text, fine = ('x', True) if k == 't' else some_tree(lot, k, INSIDE[k], changes / 4)
+        right = right and fine
+        parts.append(text)
+    if c[0] != 'nothing' or lot.random() < 0.2:
+        parts = [p + gap(lot) for p in [''] + parts]
+    inside = ''.join(parts)
+    if c[0] == 'nothing' and inside:
+        right = False
+    return '<%s>%s</%s>' % (name, inside, name), right
+
+
+def wickpollen(folder, *words):
+    done = subprocess.run([os.path.join(HERE, 'bin', 'wickpollen')] + list(words), cwd=folder, capture_output=True)
+    return done.returncode, done.stdout
+
+
+def expected(declarations):
+    """The number, and the text that is printed with 0, 7, 8 and 9."""
+    number, _, sheet = partners.declare(declarations.encode())
+    return (number, b'') if number else (sheets.check(sheet, 65536)[0], rules.print_(sheet)[2])
+
+
+def program_tries(folder, lot, c, declarations):
+    """How many documents were tried, whether libxml2 was asked, and what differs."""
+    number, text = expected(declarations)
+    with open(os.path.join(folder, 'd.dtd'), 'w', newline='') as f:
+        f.write(declarations)
+    told = wickpollen(folder, 'models', 'd.dtd')
+    if told != (number, text):
+        return 0, False, ['%r: %s, and not %s' % (declarations, told, (number, text))]
+    documents = [some_tree(lot, 'r', c, 0.5) for _ in range(8)]
+    _, judged, unclear = xmllint(folder, declarations, [d for d, _ in documents])
+    wrong = ['%r is ambiguous in libxml2, and %d here' % (declarations, number)] if unclear and number not in (9, 53, 54) else []
+    if number:
+        return 0, False, wrong
+    with open(os.path.join(folder, 'rules'), 'wb') as f:
+        f.write(text)
+    for i, (document, right) in enumerate(documents):
+        taken = wickpollen(folder, 'try', 'rules', '%d.xml' % i)[0] == 0
+        if not taken == right == judged[i]:
+            wrong.append('%r under %r: %s' % (document, declarations, [taken, right, judged[i]]))
+    return len(documents), True, wrong
+
+
+def against_the_program(seed, count):
+    lot, tried, asked, wrong = random.Random(seed), 0, 0, []
+    with tempfile.TemporaryDirectory() as folder:
+        for _ in range(count):
+            c, text = some_content(lot)
+            more, passed, differs = program_tries(folder, lot, c, '<!ELEMENT r %s>' % text + gap(lot) + DECLARED)
+            tried, asked, wrong = tried + more, asked + passed, wrong + differs
+    print('\n'.join(wrong + ['%d documents under %d of %d models; %d differ' % (tried, asked, count, len(wrong))]))
+    return 1 if wrong else 0
+
+
 def changed(lot, text):
     i = lot.randrange(len(text))
     return text[:i] + lot.choice(['', lot.choice("()|,?*+ #>a.")]) + text[i + lot.randrange(2):]
 
 
 def main():
-    seed, count = (int(sys.argv[1]) if len(sys.argv) > 1 else 1), (int(sys.argv[2]) if len(sys.argv) > 2 else 300)
+    numbers = [int(word) for word in sys.argv[1:] if word != '--run']
+    seed, count = (numbers + [1])[0], (numbers[1:] + [300])[0]
+    if '--run' in sys.argv:
+        return against_the_program(seed, count)
     lot = random.Random(seed)
     there = shutil.which('xmllint') is not None
     words = asked = ambiguous = texts = wrong = 0

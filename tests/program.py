@@ -523,6 +523,62 @@ def a_fault_is_shown_by_two_atoms_and_the_sign():
         expect(f"{says!r} is said", says in out)
 
 
+# ---- declarations of a DTD
+
+
+DECLARATIONS = [
+    (b"<!ELEMENT r (a,b?)>\n<!ELEMENT a EMPTY>\n<!ELEMENT b (#PCDATA|a)*>\n", 0, b"n0\nn0 ::= r(n1.(n2|EMPTY))\nn1 ::= a()\nn2 ::= b((CHAR|n1)*)\n"),
+    (b"<!ELEMENT name (year,title,author+)>", 7, b"n0\nn0 ::= name(n1.n2.(n3.n3*))\n"),
+    (b"<!ELEMENT r EMPTY><!ELEMENT r EMPTY>", 8, b"n0\nn0 ::= r()\nn0 ::= r()\n"),
+    (b"<!ELEMENT r (r*)?>", 9, b"n0\nn0 ::= r(n0*|EMPTY)\n"),
+]
+
+
+@test
+def declarations_are_printed_as_rules():
+    for dtd, number, text in DECLARATIONS:
+        write("d.dtd", dtd)
+        status, out, err = run("models", "d.dtd")
+        expect(f"{dtd}: {status} {out} {err}", status == number and out == text and err.endswith(b"wickpollen: %d\n" % number))
+        write("d.rules", out)
+        expect(f"{dtd}: its rules", run("check", "d.rules")[0] == number)
+
+
+@test
+def a_name_that_is_not_declared_is_said():
+    write("d.dtd", DECLARATIONS[1][0])
+    err = run("models", "d.dtd")[2]
+    for name in (b"year", b"title", b"author"):
+        expect(f"{name} in {err}", name in err)
+
+
+@test
+def declarations_that_are_refused_print_nothing():
+    before = b"<!ELEMENT r EMPTY>\n"
+    for dtd, number, column in [
+        (b"<!ELEMENT a ANY>", 50, 13), (b"<!ENTITY x 'y'>", 51, 4), (b"<!ELEMENT a (%x;)>", 51, 14), (b"<!ATTLIST a b CDATA #IMPLIED>", 52, 3),
+        (b"<!ELEMENT a ((((b)+)+)+)+>", 53, 25), (b"<!ELEMENT a (b,b,b,b,b,b,b,b,b,b,b,b,b)>", 54, 37), (b"<!-- a comment -->", 55, 3), (b"<!ELEMENT a (b", 55, 15), (b"<!ELEMENT a EMPTY>" * 64, 56, 18 * 64),
+    ]:
+        write("d.dtd", before + dtd)
+        status, out, err = run("models", "d.dtd")
+        expect(f"{dtd[:40]}: {status} {out} {err}", status == number and out == b"" and b"line 2, column %d" % column in err and err.endswith(b"wickpollen: %d\n" % number))
+
+
+@test
+def declarations_written_as_told_pass():
+    """The models that `models` and the README say to write in place of others."""
+    names = [b"n%d" % i for i in range(16)]
+    fours = b"((" + b"),(".join(b",".join(names[i:i + 4]) for i in range(0, 16, 4)) + b"))"
+    for model, number, instead in [
+        (b"(n0*)?", 9, b"(n0*)"), (b"(n0?)*", 9, b"(n0*)"), (b"(n0+)+", 9, b"(n0+)"), (b"(n0+)*", 9, b"(n0*)"), (b"(n0*)+", 9, b"(n0*)"), (b"(n0?,n1?)?", 9, b"(n0?,n1?)"), (b"(n0*,n1*)*", 9, b"(n0|n1)*"),
+        (b"(n0?|n1?)", 9, b"(n0|n1)?"), (b"(n0*|n1*)", 9, b"(n0+|n1+)?"), (b"(n0*,n0)", 9, b"(n0+)"), (b"(n0?,n0)", 9, b"(n0,n0?)"), (b"((n0,n1)|(n0,n2))", 9, b"(n0,(n1|n2))"),
+        (b"(#PCDATA|n0|n0)*", 9, b"(#PCDATA|n0)*"), (b"(" + b",".join(names) + b")", 54, fours), (b"((((n0)+)+)+)+", 53, b"(n0+)"), (b"ANY", 50, b"(#PCDATA|n0|n1)*"),
+    ]:
+        for content, status in ((model, number), (instead, 0)):
+            write("d.dtd", b"<!ELEMENT r %s>" % content + b"".join(b"<!ELEMENT %s EMPTY>" % name for name in names))
+            expect(f"{content}", run("models", "d.dtd")[0] == status)
+
+
 @test
 def a_byte_order_mark_is_named():
     out = told(b"\xef\xbb\xbf" + programme(b""), 23)

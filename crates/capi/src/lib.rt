@@ -1,8 +1,9 @@
-// The checker, the converter, the salvage run, the writer and the printer for hosts in C: include/wickpollen.h.
+// The checker, the converter, the salvage run, the writer, the printer and the reader of declarations for hosts in C: include/wickpollen.h.
 ghost use mathlib.Core.Path.{_≡_};
 ghost use Prim.Native.Nat.{_+_, _*_, _%_, _≤_, _<_};
 ghost use Rattle.writing.specs.Written.{WrittenAs};
 ghost use Rattle.printing.specs.Printed.{PrintedAs};
+ghost use Rattle.declaring.specs.Declares.{DeclaredAs};
 ghost use Rattle.capi.specs.Counted.{counts, CountedAs};
 ghost use Rattle.salvages.specs.Started.{SalvageStarted};
 ghost use Rattle.capi.specs.Salvaging.{SalvageRunAs};
@@ -92,6 +93,15 @@ pub extern "C" fn wickpollen_print(sheet: &[u8], text: &mut [u8]) -> u64
 {
     let p = prints::print(sheet, text);
     counted(p.number as usize, p.count)
+}
+
+// Writes the content models of a DTD as a sheet, as dtds::declare does.
+#[no_mangle]
+pub extern "C" fn wickpollen_models(dtd: &[u8], sheet: &mut [u8]) -> u64
+    ensures { λ w. ⌜ CountedAs (DeclaredAs (now (dtd .entry)) (now (sheet .entry))) (now (sheet .exit)) w ⌝ }
+{
+    let d = dtds::declare(dtd, sheet);
+    counted(d.number, d.count)
 }
 
 // Writes a fresh state of a salvage run at the start of the area and answers how many bytes it has; 0, and nothing is written, where the area is too short.

@@ -7,7 +7,6 @@ use Prim.Native.Nat.{ℕ, suc, _+_, _-_, _*_, _≤_, _<_, max}
 use native.Mathlib.Omega.{arith}
 use lib.ListN.{length, take, drop, length-append}
 use lib.Seq.{length-take-le, take-at}
-use Rattle.limits.specs.Limits.{nodesAtMost}
 use Rattle.lent.specs.Put.{PutAs}
 use Rattle.lent.proofs.Laws.{put-all}
 use Rattle.expressions.specs.Expr.{nonterminal, anychar, Exp, atom, cat, alt, star, empty, nodes, depth}
@@ -17,7 +16,7 @@ use Rattle.models.specs.Spelling.{MarkIs, unmarked, question, asterisk, plus}
 use Rattle.models.specs.Reader.{LeftOf, fresh, commas, bars, behindLeft}
 use Rattle.models.proofs.Counted.{counted}
 use Rattle.declarations.specs.declared.NodeRow.{NodeRow}
-use Rattle.declarations.specs.Nodes.{preorder, mostBytes, Lays, Shows, LeafIs, JoinedNodes, Deeper, Operator, catenation, union, operatorKind, operated, OverTwoIs, StarShown, MarkedAs, LeftShown, BehindAs, OrNameIs}
+use Rattle.declarations.specs.Nodes.{preorder, roomForNodes, mostBytes, Lays, Shows, LeafIs, JoinedNodes, Deeper, Operator, catenation, union, operatorKind, operated, OverTwoIs, StarShown, MarkedAs, LeftShown, BehindAs, OrNameIs}
 
 -- two bytes a node
 pub two-bytes : (e : Exp) → length (preorder e) ≡ 2 * nodes e
@@ -125,7 +124,7 @@ module _ (mark : ℕ) (a : NodeRow) where
   pub question-marked : (leaf r : NodeRow) → mark ≡ 63 → LeafIs 6 0 leaf → OverTwoIs 4 a leaf r → MarkedAs mark a r
   question-marked leaf r e h o = record { is = λ number x y m s few. go number x y m refl s few }
     where
-      go : (number : List ℕ → ℕ) (x y : Model) {k : List ℕ} → MarkIs x k y → k ≡ mark ∷ [] → Shows (modelExpression number x) a → modelNodes y ≤ nodesAtMost → Shows (modelExpression number y) r
+      go : (number : List ℕ → ℕ) (x y : Model) {k : List ℕ} → MarkIs x k y → k ≡ mark ∷ [] → Shows (modelExpression number x) a → modelNodes y ≤ roomForNodes → Shows (modelExpression number y) r
       go number x y unmarked q s few = absurd (let z : length (mark ∷ []) ≡ 0 = ap length (sym q) in omega (arith, z))
       go number x y question q s few = o .is union refl (modelExpression number x) empty s (empty-shown leaf h) (omega (arith, counted number x, few))
       go number x y asterisk q s few = absurd (let z : 42 ≡ mark = cc in omega (arith, z, e))
@@ -134,7 +133,7 @@ module _ (mark : ℕ) (a : NodeRow) where
   pub asterisk-marked : (r : NodeRow) → mark ≡ 42 → StarShown a r → MarkedAs mark a r
   asterisk-marked r e o = record { is = λ number x y m s few. go number x y m refl s few }
     where
-      go : (number : List ℕ → ℕ) (x y : Model) {k : List ℕ} → MarkIs x k y → k ≡ mark ∷ [] → Shows (modelExpression number x) a → modelNodes y ≤ nodesAtMost → Shows (modelExpression number y) r
+      go : (number : List ℕ → ℕ) (x y : Model) {k : List ℕ} → MarkIs x k y → k ≡ mark ∷ [] → Shows (modelExpression number x) a → modelNodes y ≤ roomForNodes → Shows (modelExpression number y) r
       go number x y unmarked q s few = absurd (let z : length (mark ∷ []) ≡ 0 = ap length (sym q) in omega (arith, z))
       go number x y question q s few = absurd (let z : 63 ≡ mark = cc in omega (arith, z, e))
       go number x y asterisk q s few = o .is (modelExpression number x) s (omega (arith, counted number x, few))
@@ -143,7 +142,7 @@ module _ (mark : ℕ) (a : NodeRow) where
   pub plus-marked : (star′ r : NodeRow) → mark ≡ 43 → StarShown a star′ → OverTwoIs 3 a star′ r → MarkedAs mark a r
   plus-marked star′ r e t o = record { is = λ number x y m s few. go number x y m refl s few }
     where
-      go : (number : List ℕ → ℕ) (x y : Model) {k : List ℕ} → MarkIs x k y → k ≡ mark ∷ [] → Shows (modelExpression number x) a → modelNodes y ≤ nodesAtMost → Shows (modelExpression number y) r
+      go : (number : List ℕ → ℕ) (x y : Model) {k : List ℕ} → MarkIs x k y → k ≡ mark ∷ [] → Shows (modelExpression number x) a → modelNodes y ≤ roomForNodes → Shows (modelExpression number y) r
       go number x y unmarked q s few = absurd (let z : length (mark ∷ []) ≡ 0 = ap length (sym q) in omega (arith, z))
       go number x y question q s few = absurd (let z : 63 ≡ mark = cc in omega (arith, z, e))
       go number x y asterisk q s few = absurd (let z : 42 ≡ mark = cc in omega (arith, z, e))
@@ -172,7 +171,7 @@ module _ (kind : ℕ) (left a : NodeRow) where
   pub behind-some : (r : NodeRow) → (kind ≡ 0 → ⊥) → OverTwoIs kind left a r → BehindAs kind left a r
   behind-some r n o = record { is = λ number l x h s few. go number l x h s few }
     where
-      go : (number : List ℕ → ℕ) (l : LeftOf) (x : Model) → LeftShown number l kind left → Shows (modelExpression number x) a → modelNodes (behindLeft l x) ≤ nodesAtMost → Shows (modelExpression number (behindLeft l x)) r
+      go : (number : List ℕ → ℕ) (l : LeftOf) (x : Model) → LeftShown number l kind left → Shows (modelExpression number x) a → modelNodes (behindLeft l x) ≤ roomForNodes → Shows (modelExpression number (behindLeft l x)) r
       go number fresh x h s few = absurd (n h)
       go number (commas y) x h s few = o .is catenation (h .0) (modelExpression number y) (modelExpression number x) (h .1) s (omega (arith, counted number x, counted number y, few))
       go number (bars y) x h s few = o .is union (h .0) (modelExpression number y) (modelExpression number x) (h .1) s (omega (arith, counted number x, counted number y, few))

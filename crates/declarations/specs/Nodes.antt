@@ -4,7 +4,7 @@ use mathlib.Core.List.{List, [], _∷_, _++_}
 use Prim.Native.Nat.{ℕ, _+_, _*_, _≤_, _<_, max}
 use lib.ListN.{length, take}
 use Rattle.limits.specs.Limits.{nodesAtMost}
-use Rattle.expressions.specs.Expr.{nonterminal, anychar, Exp, atom, cat, alt, star, empty, nodes, depth}
+use Rattle.expressions.specs.Expr.{nonterminal, anychar, Exp, atom, cat, alt, star, empty, nodes, depth, Content, nothing, tree}
 use Rattle.models.specs.Models.{Model}
 use Rattle.models.specs.Expressions.{modelExpression, modelNodes}
 use Rattle.models.specs.Spelling.{MarkIs}
@@ -20,8 +20,16 @@ preorder (alt e f) = 4 ∷ 0 ∷ (preorder e ++ preorder f)
 preorder (star e) = 5 ∷ 0 ∷ preorder e
 preorder empty = 6 ∷ 0 ∷ []
 
+abbrev pub contentPreorder : Content → List ℕ
+contentPreorder nothing = []
+contentPreorder (tree e) = preorder e
+
+-- a model is measured behind each byte, so there is room for what one byte makes of one within its limits: at most x+ of all its nodes
+abbrev pub roomForNodes : ℕ
+roomForNodes = 2 * nodesAtMost + 2
+
 abbrev pub mostBytes : ℕ
-mostBytes = 2 * nodesAtMost
+mostBytes = 2 * roomForNodes
 
 -- r holds these bytes
 pub record Lays (l : List ℕ) (r : NodeRow) : Type 0 where
@@ -61,14 +69,14 @@ operated catenation e f = cat e f
 operated union e f = alt e f
 
 pub record OverTwoIs (kind : ℕ) (a b r : NodeRow) : Type 0 where
-  pub is : (o : Operator) → kind ≡ operatorKind o → (e f : Exp) → Shows e a → Shows f b → nodes e + nodes f < nodesAtMost → Shows (operated o e f) r
+  pub is : (o : Operator) → kind ≡ operatorKind o → (e f : Exp) → Shows e a → Shows f b → nodes e + nodes f < roomForNodes → Shows (operated o e f) r
 
 pub record StarShown (a r : NodeRow) : Type 0 where
-  pub is : (e : Exp) → Shows e a → nodes e < nodesAtMost → Shows (star e) r
+  pub is : (e : Exp) → Shows e a → nodes e < roomForNodes → Shows (star e) r
 
--- with the mark, where the model keeps its limit
+-- with the mark, where there is room
 pub record MarkedAs (mark : ℕ) (a r : NodeRow) : Type 0 where
-  pub is : (number : List ℕ → ℕ) (x y : Model) → MarkIs x (mark ∷ []) y → Shows (modelExpression number x) a → modelNodes y ≤ nodesAtMost → Shows (modelExpression number y) r
+  pub is : (number : List ℕ → ℕ) (x y : Model) → MarkIs x (mark ∷ []) y → Shows (modelExpression number x) a → modelNodes y ≤ roomForNodes → Shows (modelExpression number y) r
 
 -- what stands to the left, as the code holds it: 0 for nothing, else its operator's kind and its nodes
 abbrev pub LeftShown : (List ℕ → ℕ) → LeftOf → ℕ → NodeRow → Type 0
@@ -77,9 +85,9 @@ LeftShown number (commas y) kind left = (kind ≡ 3) × Shows (modelExpression n
 LeftShown number (bars y) kind left = (kind ≡ 4) × Shows (modelExpression number y) left
 
 pub record BehindAs (kind : ℕ) (left a r : NodeRow) : Type 0 where
-  pub is : (number : List ℕ → ℕ) (l : LeftOf) (x : Model) → LeftShown number l kind left → Shows (modelExpression number x) a → modelNodes (behindLeft l x) ≤ nodesAtMost
+  pub is : (number : List ℕ → ℕ) (l : LeftOf) (x : Model) → LeftShown number l kind left → Shows (modelExpression number x) a → modelNodes (behindLeft l x) ≤ roomForNodes
       → Shows (modelExpression number (behindLeft l x)) r
 
 -- a union with one name more, as mixed content has it
 pub record OrNameIs (a : NodeRow) (number : ℕ) (r : NodeRow) : Type 0 where
-  pub is : (e : Exp) → Shows e a → nodes e + 1 < nodesAtMost → Shows (alt e (atom (nonterminal number))) r
+  pub is : (e : Exp) → Shows e a → nodes e + 1 < roomForNodes → Shows (alt e (atom (nonterminal number))) r

@@ -3,21 +3,21 @@ ghost use mathlib.Core.Path.{_≡_};
 ghost use Rattle.expressions.specs.Expr.{nonterminal, anychar, atom};
 ghost use Rattle.declarations.specs.Nodes.{Shows, OrNameIs, LeafIs, JoinedNodes, Deeper, OverTwoIs, StarShown, MarkedAs, BehindAs};
 
-// The bytes of the most nodes that a model may have.
-pub const MOST: usize = 64;
+// The bytes of the most nodes that one byte of a text makes of a model within its limits.
+pub const MOST: usize = 132;
 
 pub struct NodeRow {
     // How many of the bytes are the model's, two for each node.
     pub length: usize,
     pub deep: usize,
-    pub bytes: [u8; 64],
+    pub bytes: [u8; 132],
 }
 
 // A lone node.
 pub fn leaf(kind: u8, argument: u8) -> NodeRow
     ensures { λ r. ⌜ LeafIs kind argument r ⌝ }
 {
-    let mut bytes = [0; 64];
+    let mut bytes = [0; 132];
     bytes[0] = kind;
     bytes[1] = argument;
     NodeRow {
@@ -27,7 +27,7 @@ pub fn leaf(kind: u8, argument: u8) -> NodeRow
     }
 }
 
-// Nodes and then others; the first alone where there is no room, which no model within its limits comes to.
+// Nodes and then others; the first alone where there is no room, which no model within its limits comes to in one byte.
 fn joined(a: NodeRow, b: NodeRow) -> NodeRow
     ensures { λ r. ⌜ JoinedNodes a b r ⌝ }
 {

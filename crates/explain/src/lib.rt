@@ -4,3 +4,4 @@ mod shown;
 
 pub use front::say_what_stands;
 pub use shown::say_shown;
+pub use shown::show;

@@ -3,7 +3,7 @@ ghost use Prim.Native.Nat.{_≤_};
 use libc::STDOUT_FILENO;
 use std::num::wrapping_add_usize;
 use text::Decoded;
-use words::say;
+use words::tell;
 
 // How many bytes were shown, and in how many columns.
 struct Step {
@@ -12,12 +12,12 @@ struct Step {
 }
 
 // A byte by its number.
-fn say_by_number(b: u8) -> Step
+fn show_by_number(fd: i32, b: u8) -> Step
     ensures { λ r. ⌜ 1 ≤ r .bytes ⌝ }
     ensures { λ r. ⌜ r .bytes ≤ 4 ⌝ }
 {
-    say(b"\\x");
-    io::print_hex(STDOUT_FILENO, b as u64, 2);
+    tell(fd, b"\\x");
+    io::print_hex(fd, b as u64, 2);
     Step {
         bytes: 1,
         columns: 4,
@@ -47,13 +47,13 @@ fn is_seen(c: u32) -> bool {
 }
 
 // The first character or byte of some bytes, of which there is one at least. A backslash is doubled.
-fn show_one(f: &[u8]) -> Step
+fn show_one(fd: i32, f: &[u8]) -> Step
     ensures { λ r. ⌜ 1 ≤ r .bytes ⌝ }
     ensures { λ r. ⌜ r .bytes ≤ 4 ⌝ }
 {
     let first = wrong::byte(f, 0);
     if first == b'\\' {
-        say(b"\\\\");
+        tell(fd, b"\\\\");
         return Step {
             bytes: 1,
             columns: 2,
@@ -61,13 +61,13 @@ fn show_one(f: &[u8]) -> Step
     }
     let d = text::decode(f);
     let Decoded::Whole(c, n) = d else {
-        return say_by_number(first);
+        return show_by_number(fd, first);
     };
     if !is_seen(c) {
-        return say_by_number(first);
+        return show_by_number(fd, first);
     }
     let m = files::within(n, f);
-    say(&f[..m]);
+    tell(fd, &f[..m]);
     Step {
         bytes: one_to_four(n),
         columns: 1,
@@ -85,13 +85,18 @@ fn step_within(shown: usize, left: usize) -> usize
 }
 
 // Shows some bytes, and answers in how many columns.
-pub fn say_shown(f: &[u8]) -> usize {
+pub fn show(fd: i32, f: &[u8]) -> usize {
     let mut columns = 0;
     let mut i = 0;
     while i < f.len() {
-        let step = show_one(&f[i..]);
+        let step = show_one(fd, &f[i..]);
         columns = wrapping_add_usize(columns, step.columns);
         i += step_within(step.bytes, f.len() - i);
     }
     columns
+}
+
+// The same on standard output.
+pub fn say_shown(f: &[u8]) -> usize {
+    show(STDOUT_FILENO, f)
 }

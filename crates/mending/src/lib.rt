@@ -6,9 +6,7 @@ ghost use Rattle.lexemes.specs.Kinds.{kinds};
 use files::within;
 use gaps::Skipped;
 use lexemes::Lexeme;
-use places::Place;
-use places::say_line;
-use places::say_place;
+use libc::STDOUT_FILENO;
 use posts::Wanted;
 use spoken::say_kind;
 use words::say;
@@ -66,13 +64,7 @@ fn say_instead(right: &[u8]) {
 // Says where in a text of rules a place is, with its line and a mark under it.
 pub fn say_where(text: &[u8], place: usize) {
     let at = within(place, text);
-    say_place(Place::behind(&text[..at]));
-    if at == text.len() {
-        say(b"The text ends too early:\n");
-    } else {
-        say(b"What stands there is marked:\n");
-    }
-    say_line(text, at, 0);
+    places::tell_where(STDOUT_FILENO, text, at);
 }
 
 // Says where a text of rules is refused, what stands there and what may stand there.

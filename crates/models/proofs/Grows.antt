@@ -177,9 +177,6 @@ depth-last : (ds : List Declaration) (d e : Declaration) → SpecUnder (d .conte
 depth-last [] d e u f = (omega (arith, u .low, f .0), tt)
 depth-last (x ∷ ds) d e u f = (f .0, depth-last ds d e u (f .1))
 
-fits-last : (ds : List Declaration) (d e : Declaration) → SpecUnder (d .content) (e .content) → DtdFits (ds ++ e ∷ []) → DtdFits (ds ++ d ∷ [])
-fits-last ds d e u f = record { few = nodes-last ds d e u (f .few); shallow = depth-last ds d e u (f .shallow) }
-
 nodes-front : (ds : List Declaration) (d : Declaration) → EachFewNodes (ds ++ d ∷ []) → EachFewNodes ds
 nodes-front [] d f = tt
 nodes-front (x ∷ ds) d f = (f .0, nodes-front ds d (f .1))
@@ -193,17 +190,28 @@ pub finished-some : (ds : List Declaration) (d : Declaration) → finishedDtd (o
 finished-some [] d = refl
 finished-some (x ∷ ds) d = refl
 
-moved-grows : (ds : List Declaration) (d : Declaration) (o : Option Move) → Grown (d .content) o → IfSome (λ z. DtdFits (finishedDtd z) → DtdFits (ds ++ d ∷ [])) (movedBy ds o)
-moved-grows ds d none h = tt
-moved-grows ds d (some (to q)) h = λ f. fits-last ds d (finishedPhase q) h f
-moved-grows ds d (some (over e)) h = λ f. fits-last ds d e h (subst DtdFits (finished-some ds e) f)
+-- limits that a declaration with less in it keeps, and so do fewer declarations
+module _ (Fits : List Declaration → Type 0) (last : (ds : List Declaration) (d e : Declaration) → SpecUnder (d .content) (e .content) → Fits (ds ++ e ∷ []) → Fits (ds ++ d ∷ []))
+    (front : (ds : List Declaration) (d : Declaration) → Fits (ds ++ d ∷ []) → Fits ds) where
+  moved-grows : (ds : List Declaration) (d : Declaration) (o : Option Move) → Grown (d .content) o → IfSome (λ z. Fits (finishedDtd z) → Fits (ds ++ d ∷ [])) (movedBy ds o)
+  moved-grows ds d none h = tt
+  moved-grows ds d (some (to q)) h = λ f. last ds d (finishedPhase q) h f
+  moved-grows ds d (some (over e)) h = λ f. last ds d e h (subst Fits (finished-some ds e) f)
+
+  limits-grow : (p : ℕ) (s : DtdProgress) (b : ℕ) → IfSome (λ z. Fits (finishedDtd z) → Fits (finishedDtd s)) (stepDeclarations p s b)
+  limits-grow p (outside ds) b = on (blank b) (eqb b 60) ds
+    where
+      on : (t u : Bool) (ds : List Declaration) → IfSome (λ z. Fits (finishedDtd z) → Fits (finishedDtd (outside ds))) (cond t (some (outside ds)) (movedBy ds (onlyIfTrue u (opening (33 ∷ 69 ∷ 76 ∷ 69 ∷ 77 ∷ 69 ∷ 78 ∷ 84 ∷ [])))))
+      on true u ds = λ f. f
+      on false true [] = λ f. f
+      on false true (d ∷ ds) = λ f. front (d ∷ ds) (record { declared = shortName; content = nothing-inside }) f
+      on false false ds = tt
+  limits-grow p (within ds q) b = moved-grows ds (finishedPhase q) (stepPhase p q b) (phase-grows p q b)
 
 pub step-grows : (p : ℕ) (s : DtdProgress) (b : ℕ) → IfSome (λ z. DtdFits (finishedDtd z) → DtdFits (finishedDtd s)) (stepDeclarations p s b)
-step-grows p (outside ds) b = on (blank b) (eqb b 60) ds
-  where
-    on : (t u : Bool) (ds : List Declaration) → IfSome (λ z. DtdFits (finishedDtd z) → DtdFits (finishedDtd (outside ds))) (cond t (some (outside ds)) (movedBy ds (onlyIfTrue u (opening (33 ∷ 69 ∷ 76 ∷ 69 ∷ 77 ∷ 69 ∷ 78 ∷ 84 ∷ [])))))
-    on true u ds = λ f. f
-    on false true [] = λ f. f
-    on false true (d ∷ ds) = λ f. record { few = nodes-front (d ∷ ds) _ (f .few); shallow = depth-front (d ∷ ds) _ (f .shallow) }
-    on false false ds = tt
-step-grows p (within ds q) b = moved-grows ds (finishedPhase q) (stepPhase p q b) (phase-grows p q b)
+step-grows =
+    limits-grow DtdFits (λ ds d e u f. record { few = nodes-last ds d e u (f .few); shallow = depth-last ds d e u (f .shallow) })
+    (λ ds d f. record { few = nodes-front ds d (f .few); shallow = depth-front ds d (f .shallow) })
+
+pub nodes-grow : (p : ℕ) (s : DtdProgress) (b : ℕ) → IfSome (λ z. EachFewNodes (finishedDtd z) → EachFewNodes (finishedDtd s)) (stepDeclarations p s b)
+nodes-grow = limits-grow EachFewNodes nodes-last nodes-front

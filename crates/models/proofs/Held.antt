@@ -152,6 +152,11 @@ pub record HashText (rest w : Text) : Type 0 where
   pub word : pcdataWord ≡ front ++ rest
   pub is : w ≡ 40 ∷ (gap ++ front)
 
+-- the first byte of EMPTY or more
+pub record EmptyText (rest w : Text) : Type 0 where
+  pub word : emptyWord ≡ w ++ rest
+  pub begun : 1 ≤ length w
+
 pub record InsideText (w : Text) : Type 0 where
   pub gap : Text
   pub blanks : Blanks gap
@@ -190,7 +195,7 @@ PhaseHeld p (opening rest) u = elementWord ≡ u ++ rest
 PhaseHeld p naming u = NamingText u
 PhaseHeld p (named n) u = NamedText n u
 PhaseHeld p (contents n) u = FrontText n u
-PhaseHeld p (emptying n rest) u = In n (λ w. emptyWord ≡ w ++ rest) u
+PhaseHeld p (emptying n rest) u = In n (EmptyText rest) u
 PhaseHeld p (inside n) u = In n InsideText u
 PhaseHeld p (hashing n rest) u = In n (HashText rest) u
 PhaseHeld p (mixing n names) u = In n (MixingText names) u
@@ -495,10 +500,10 @@ phase-step p (named n) u b h =
     behind = ap (λ l. l ++ b ∷ []) (h .is) ∙ ap (λ l. elementWord ++ l) (append-assoc (h .gap) n (b ∷ []))
 phase-step p (contents n) u b h =
     branch (suc p) (u ++ b ∷ []) (blank b) (some (to (contents n))) (cond (eqb b 69) (some (to (emptying n (77 ∷ 80 ∷ 84 ∷ 89 ∷ [])))) (onlyIfTrue (eqb b 40) (inside n))) (λ k. front-blank b h k)
-    (at-byte (suc p) u b 69 (some (to (emptying n (77 ∷ 80 ∷ 84 ∷ 89 ∷ [])))) (onlyIfTrue (eqb b 40) (inside n)) (begun 69 h refl)
+    (at-byte (suc p) u b 69 (some (to (emptying n (77 ∷ 80 ∷ 84 ∷ 89 ∷ [])))) (onlyIfTrue (eqb b 40) (inside n)) (begun 69 h (record { word = refl; begun = omega arith }))
     (at-byte (suc p) u b 40 (some (to (inside n))) none (begun 40 h (record { gap = []; blanks = no-blank; is = refl })) tt))
-phase-step p (emptying n []) u b h = ended-step b (same-content h (ended-bare (subst (λ w. SpecIs (suc p) w nothing-inside) (h .held ∙ append-nil (h .content-bytes)) is-empty)))
-phase-step p (emptying n (c ∷ rest)) u b h = at-byte (suc p) u b c (some (to (emptying n rest))) none (further c h (word-on emptyWord (h .content-bytes) c rest (h .held))) tt
+phase-step p (emptying n []) u b h = ended-step b (same-content h (ended-bare (subst (λ w. SpecIs (suc p) w nothing-inside) (h .held .word ∙ append-nil (h .content-bytes)) is-empty)))
+phase-step p (emptying n (c ∷ rest)) u b h = at-byte (suc p) u b c (some (to (emptying n rest))) none (further c h (record { word = word-on emptyWord (h .content-bytes) c rest (h .held .word); begun = simp length-append (omega arith) })) tt
 phase-step p (inside n) u b h =
     branch (suc p) (u ++ b ∷ []) (blank b) (some (to (inside n))) (cond (eqb b 35) (some (to (hashing n (80 ∷ 67 ∷ 68 ∷ 65 ∷ 84 ∷ 65 ∷ [])))) (stepItem (suc p) n fresh [] b)) (λ k. further b h (inside-blank b (h .held) k))
     (at-byte (suc p) u b 35 (some (to (hashing n (80 ∷ 67 ∷ 68 ∷ 65 ∷ 84 ∷ 65 ∷ [])))) (stepItem (suc p) n fresh [] b)

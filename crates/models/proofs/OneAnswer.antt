@@ -29,15 +29,15 @@ one-family : (text : List ℕ) (ds es : List Declaration) → Family text ds →
 one-family text ds es a b = one-dtd _ _ text ds es (a .spelled) (b .spelled)
 
 -- what stands at a byte
-starts-any : (text : List ℕ) (k : ℕ) → AnyAt text k → (r : List ℕ) × (drop k text ≡ 65 ∷ 78 ∷ r)
+pub starts-any : (text : List ℕ) (k : ℕ) → AnyAt text k → (r : List ℕ) × (drop k text ≡ 65 ∷ 78 ∷ r)
 starts-any text k a = (89 ∷ a .any .rest, a .any .is)
 
-starts-entity : (text : List ℕ) (k : ℕ) → EntityAt text k → (c : ℕ) × (r : List ℕ) × (drop k text ≡ c ∷ r) × (c ≡ 65 → ⊥)
+pub starts-entity : (text : List ℕ) (k : ℕ) → EntityAt text k → (c : ℕ) × (r : List ℕ) × (drop k text ≡ c ∷ r) × (c ≡ 65 → ⊥)
 starts-entity text k (inl h) = (37, h .0, h .1, λ e. omega (arith, e))
 starts-entity text k (inr (inl h)) = (38, h .0, h .1, λ e. omega (arith, e))
 starts-entity text k (inr (inr h)) = (78, 84 ∷ 73 ∷ 84 ∷ 89 ∷ h .entity .rest, h .entity .is, λ e. omega (arith, e))
 
-starts-attlist : (text : List ℕ) (k : ℕ) → AttlistAt text k → (r : List ℕ) × (drop k text ≡ 65 ∷ 84 ∷ r)
+pub starts-attlist : (text : List ℕ) (k : ℕ) → AttlistAt text k → (r : List ℕ) × (drop k text ≡ 65 ∷ 84 ∷ r)
 starts-attlist text k a = (84 ∷ 76 ∷ 73 ∷ 83 ∷ 84 ∷ a .attlist .rest, a .attlist .is)
 
 any-or-entity : (text : List ℕ) (k : ℕ) → AnyAt text k → EntityAt text k → ⊥

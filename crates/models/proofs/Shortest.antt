@@ -80,7 +80,7 @@ phase-shortest p (named n) u h = (
       (ap (λ l. l ++ 32 ∷ (emptyWord ++ 62 ∷ [])) (h .is) ∙ ap (λ l. elementWord ++ l) (append-assoc (h .gap) n (32 ∷ (emptyWord ++ 62 ∷ [])))),
 )
 phase-shortest p (contents n) u h = ends-with u emptyWord (record { front = u; content-bytes = emptyWord; fronted = h; held = ended-bare is-empty; is = refl })
-phase-shortest p (emptying n rest) u h = a-spec rest h (subst (λ w. SpecIs (suc p) w nothing-inside) (h .held) is-empty)
+phase-shortest p (emptying n rest) u h = a-spec rest h (subst (λ w. SpecIs (suc p) w nothing-inside) (h .held .word) is-empty)
 phase-shortest p (inside n) u h = a-group-spec h (97 ∷ 41 ∷ [], subst (λ z. GroupIs (suc p) (z ++ 97 ∷ 41 ∷ []) (called shortName)) (sym (h .held .is)) (closes (fresh-text (h .held .blanks)) (a-short-name p) no-blank))
 phase-shortest p (hashing n rest) u h =
     a-spec (rest ++ 41 ∷ []) h (is-mixed (characters (h .held .blanks) no-blank
@@ -136,7 +136,7 @@ keeps p (within ds q) b row h =
 pub held : (p : ℕ) (s : DtdProgress) (row : Text) → walk (stepDeclarations (suc p)) (outside []) row ≡ some s → ProgressHeld (suc p) s row
 held p s row e = held-after (stepDeclarations (suc p)) (ProgressHeld (suc p)) (keeps p) (outside []) s row (DeclarationsAre.none no-blank) e
 
-not-empty : (ds : List Declaration) (d : Declaration) → ds ++ d ∷ [] ≡ [] → ⊥
+pub not-empty : (ds : List Declaration) (d : Declaration) → ds ++ d ∷ [] ≡ [] → ⊥
 not-empty ds d e = omega (arith, simp length-append at (ap length e))
 
 pub sound : (p : ℕ) (row : Text) (s : DtdProgress) (v : List Declaration) → ProgressHeld (suc p) s row → valueOfDtd s ≡ some v → DtdIs (suc p) row v

@@ -22,16 +22,16 @@ use Rattle.models.proofs.Walk.{declarations-walk}
 use Rattle.models.proofs.Shortest.{held, sound, shortest}
 use Rattle.models.proofs.Grows.{step-grows}
 
-value-of : (ds : List Declaration) → (ds ≡ [] → ⊥) → valueOfDtd (outside ds) ≡ some ds
+pub value-of : (ds : List Declaration) → (ds ≡ [] → ⊥) → valueOfDtd (outside ds) ≡ some ds
 value-of [] h = absurd (h refl)
 value-of (d ∷ ds) h = refl
 
-finished-value : (s : DtdProgress) (v : List Declaration) → valueOfDtd s ≡ some v → finishedDtd s ≡ v
+pub finished-value : (s : DtdProgress) (v : List Declaration) → valueOfDtd s ≡ some v → finishedDtd s ≡ v
 finished-value (outside []) v e = absurd (none≢some refl e)
 finished-value (outside (d ∷ ds)) v e = cc
 finished-value (within ds q) v e = absurd (none≢some refl e)
 
-ends : (p : ℕ) (row : List ℕ) (v : List Declaration) → DtdIs (suc p) row v → Ends (dtds (suc p)) row v
+pub ends : (p : ℕ) (row : List ℕ) (v : List Declaration) → DtdIs (suc p) row v → Ends (dtds (suc p)) row v
 ends p row v h = record {
   last = outside v;
   walked = ap (walk (stepDeclarations (suc p)) (outside [])) (sym (append-nil row)) ∙ declarations-walk (suc p) (h .are) (omega arith) [];
@@ -48,11 +48,11 @@ reads-dtds p = record {
   starts = record { few = (omega arith, tt); shallow = (omega arith, tt) };
 }
 
-few? : (ds : List Declaration) → Dec (EachFewNodes ds)
+pub few? : (ds : List Declaration) → Dec (EachFewNodes ds)
 few? [] = yes tt
 few? (d ∷ ds) = both? (decLe (specNodes (d .content)) nodesAtMost) (few? ds)
 
-shallow? : (ds : List Declaration) → Dec (Shallow ds)
+pub shallow? : (ds : List Declaration) → Dec (Shallow ds)
 shallow? [] = yes tt
 shallow? (d ∷ ds) = both? (decLe (specDepth (d .content)) deepestTree) (shallow? ds)
 

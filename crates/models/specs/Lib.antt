@@ -5,6 +5,7 @@ pub mod Spelling
 pub mod Family
 pub mod Answers
 pub mod Reader
+pub mod Names
 pub mod Promises
 pub mod Sheets
 pub mod Worked

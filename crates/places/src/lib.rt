@@ -4,7 +4,7 @@ ghost use lib.ListN.{length};
 use libc::STDOUT_FILENO;
 use std::num::wrapping_add_u64;
 use std::num::wrapping_add_usize;
-use words::say;
+use words::tell;
 
 // The line and the column are counted from 1, the column in characters.
 pub struct Place {
@@ -125,29 +125,37 @@ fn rest_of_character(bytes: &[u8]) -> usize
 }
 
 // The last bytes before a place, as far as they are of its line; what comes before them in the line is left out. Answers in how many columns.
-pub fn say_line_before(bytes: &[u8], is_all: bool) -> usize {
+fn tell_line_before(fd: i32, bytes: &[u8], is_all: bool) -> usize {
     let from = last_line(bytes);
     if (from > 0) | is_all {
-        return explain::say_shown(&bytes[from..]);
+        return explain::show(fd, &bytes[from..]);
     }
     let whole = rest_of_character(bytes);
-    say(b".. ");
-    wrapping_add_usize(explain::say_shown(&bytes[whole..]), 3)
+    tell(fd, b".. ");
+    wrapping_add_usize(explain::show(fd, &bytes[whole..]), 3)
+}
+
+pub fn say_line_before(bytes: &[u8], is_all: bool) -> usize {
+    tell_line_before(STDOUT_FILENO, bytes, is_all)
 }
 
 // So many spaces.
-fn say_spaces(n: usize) {
+fn tell_spaces(fd: i32, n: usize) {
     let mut i = 0;
     while i < n {
-        say(b" ");
+        tell(fd, b" ");
         i += 1;
     }
 }
 
 // A mark under a column, counted from 0.
+fn tell_mark(fd: i32, column: usize) {
+    tell_spaces(fd, column);
+    tell(fd, b"^\n");
+}
+
 pub fn say_mark(column: usize) {
-    say_spaces(column);
-    say(b"^\n");
+    tell_mark(STDOUT_FILENO, column);
 }
 
 // The most bytes that are shown of a line of a text before a place, and behind it.
@@ -169,9 +177,9 @@ fn rest_of_line(bytes: &[u8]) -> usize
     i
 }
 
-fn say_rest_of_line(bytes: &[u8]) {
+fn tell_rest_of_line(fd: i32, bytes: &[u8]) {
     let n = rest_of_line(bytes);
-    explain::say_shown(&bytes[0..n]);
+    explain::show(fd, &bytes[0..n]);
 }
 
 // Where what is shown before a place begins.
@@ -182,16 +190,22 @@ fn shown_from(at: usize) -> usize
 }
 
 // The line of a text that a place stands in, and a mark under the place; both behind so many spaces.
-pub fn say_line(text: &[u8], at: usize, margin: usize)
+fn tell_line(fd: i32, text: &[u8], at: usize, margin: usize)
     requires { ⌜ at ≤ length (now text) ⌝ }
 {
     let from = shown_from(at);
-    say_spaces(margin);
-    let column = say_line_before(&text[from..at], from == 0);
-    say_rest_of_line(&text[at..]);
-    say(b"\n");
-    say_spaces(margin);
-    say_mark(column);
+    tell_spaces(fd, margin);
+    let column = tell_line_before(fd, &text[from..at], from == 0);
+    tell_rest_of_line(fd, &text[at..]);
+    tell(fd, b"\n");
+    tell_spaces(fd, margin);
+    tell_mark(fd, column);
+}
+
+pub fn say_line(text: &[u8], at: usize, margin: usize)
+    requires { ⌜ at ≤ length (now text) ⌝ }
+{
+    tell_line(STDOUT_FILENO, text, at, margin);
 }
 
 // A number in decimal digits.
@@ -200,12 +214,29 @@ pub fn say_count(n: u64) {
 }
 
 // How far everything was right.
+fn tell_place(fd: i32, place: Place) {
+    tell(fd, b"Refused after ");
+    io::print_decimal(fd, place.offset);
+    tell(fd, b" bytes, at line ");
+    io::print_decimal(fd, place.line);
+    tell(fd, b", column ");
+    io::print_decimal(fd, place.column);
+    tell(fd, b". ");
+}
+
 pub fn say_place(place: Place) {
-    say(b"Refused after ");
-    say_count(place.offset);
-    say(b" bytes, at line ");
-    say_count(place.line);
-    say(b", column ");
-    say_count(place.column);
-    say(b". ");
+    tell_place(STDOUT_FILENO, place);
+}
+
+// Where a text is refused, and the line of that place with a mark under it.
+pub fn tell_where(fd: i32, text: &[u8], at: usize)
+    requires { ⌜ at ≤ length (now text) ⌝ }
+{
+    tell_place(fd, Place::behind(&text[0..at]));
+    if at == text.len() {
+        tell(fd, b"The text ends too early:\n");
+    } else {
+        tell(fd, b"What stands there is marked:\n");
+    }
+    tell_line(fd, text, at, 0);
 }

@@ -19,7 +19,7 @@ use Rattle.binding.proofs.Tags.{sixteen, short-all}
 use Rattle.binding.proofs.Sections.{binds-sheets}
 use Rattle.sealing.specs.Sealed.{SectionsOf, SealedIs}
 
-tags-length : (l : List (List ℕ)) → AllShort l → length (tagsSection l) ≡ 16 * length l
+pub tags-length : (l : List (List ℕ)) → AllShort l → length (tagsSection l) ≡ 16 * length l
 tags-length [] s = refl
 tags-length (n ∷ l) s = omega (arith, length-append (tagRecord n) (tagsSection l), sixteen n (s .0), tags-length l (s .1))
 

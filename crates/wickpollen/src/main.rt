@@ -1,5 +1,5 @@
-// The program that people run: wickpollen check RULES, write RULES SHEET, print SHEET, try RULES SCHEDULE, convert [--salvage] RULES SCHEDULE LISTING, help. RULES is a sheet, or
-// rules as text.
+// The program that people run: wickpollen check RULES, write RULES SHEET, print SHEET, models DTD, try RULES SCHEDULE, convert [--salvage] RULES SCHEDULE LISTING, help. RULES is a
+// sheet, or rules as text.
 // What is found goes to standard output; the last line of standard error is always "wickpollen: N". A program here has no exit status: where the
 // first word is --tell, as from bin/wickpollen, the number is told on a descriptor of its own too, and becomes the exit status there.
 ghost use mathlib.Core.Path.{_≡_};
@@ -13,6 +13,13 @@ use words::say;
 
 // The command was not understood: a number that the paper's table has not.
 const USAGE: u64 = 101;
+
+// What becomes of one file: it is checked; printed; or printed as the rules that its declarations are.
+const CHECKS: usize = 0;
+
+const PRINTS: usize = 1;
+
+const MODELS: usize = 2;
 
 // What becomes of a schedule: it is tried; converted; or converted without the records that are damaged.
 const TRIES: usize = 0;
@@ -33,6 +40,9 @@ fn usage() -> u64 {
         b"       wickpollen write RULES SHEET                 write rules that pass as a rule sheet, and put it in place\n",
     );
     complain(b"       wickpollen print SHEET                       print a rule sheet as text\n");
+    complain(
+        b"       wickpollen models DTD                        print a partner's element declarations as rules\n",
+    );
     complain(
         b"       wickpollen try RULES SCHEDULE                say what convert would say, and write nothing\n",
     );
@@ -65,6 +75,17 @@ fn help_rules() {
     );
 }
 
+fn help_models() {
+    say(b"wickpollen models DTD\n");
+    say(
+        b"    Prints the element declarations (<!ELEMENT ..>) in the file DTD as rules, and nothing else; what is refused is told on standard error. The\n",
+    );
+    say(
+        b"    first element that is declared is the root: the first word of the rules names it. The rules say what each element may hold, and keep\n",
+    );
+    say(b"    nothing yet: add {ECHO} and the other statements.\n");
+}
+
 fn help_salvage() {
     say(b"wickpollen convert --salvage RULES SCHEDULE LISTING [--progress]\n");
     say(
@@ -80,6 +101,7 @@ fn help_salvage() {
 
 fn help_commands() {
     help_rules();
+    help_models();
     say(b"wickpollen try RULES SCHEDULE [--progress]\n");
     say(
         b"    Says what convert would say of the same rules and schedule, with the same number, and writes nothing.\n",
@@ -223,6 +245,12 @@ fn print_file(path: &[u8]) -> u64 {
     print_sheet(path, &sheet[..n])
 }
 
+// Prints the declarations of a file as rules.
+fn print_models(path: &[u8]) -> u64 {
+    let mut memory = rulebooks::memory();
+    modelling::print_models(path, &mut memory)
+}
+
 fn same(a: &[u8], b: &[u8]) -> bool
     ensures { λ r. ⌜ Tells (now (a .entry) ≡ now (b .entry)) r ⌝ }
 {
@@ -239,21 +267,22 @@ fn same(a: &[u8], b: &[u8]) -> bool
     true
 }
 
-// `check` or `print` and its one file.
-fn run_on_one(told: bool, prints: bool) -> u64 {
+// `check`, `print` or `models` and its one file.
+fn run_on_one(told: bool, what: usize) -> u64 {
     if !has_words(told, 3) {
         return usage();
     }
     let mut path = io::buffer();
     let n = word(told, 2, &mut path);
     if os::errno() != 0 {
-        os::fail(b"RULES");
+        os::fail(b"the name of the file");
         return FILE;
     }
-    if prints {
-        return print_file(&path[..n]);
+    match what {
+        MODELS => print_models(&path[..n]),
+        PRINTS => print_file(&path[..n]),
+        _ => check_file(&path[..n]),
     }
-    check_file(&path[..n])
 }
 
 // `write`, with the name of its rules.
@@ -378,10 +407,13 @@ fn run_other(command: &[u8]) -> u64 {
 
 fn run_command(told: bool, command: &[u8]) -> u64 {
     if same(command, b"check") {
-        return run_on_one(told, false);
+        return run_on_one(told, CHECKS);
     }
     if same(command, b"print") {
-        return run_on_one(told, true);
+        return run_on_one(told, PRINTS);
+    }
+    if same(command, b"models") {
+        return run_on_one(told, MODELS);
     }
     if same(command, b"write") {
         return run_write(told);

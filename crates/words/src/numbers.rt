@@ -1,6 +1,8 @@
 // The numbers of the table, in plain words.
 use crate::speech::say;
 use crate::speech::say_number;
+use crate::speech::tell;
+use libc::STDOUT_FILENO;
 
 // What a number says of a sheet, and what to do next.
 fn say_of_sheet(number: usize) {
@@ -109,12 +111,47 @@ fn say_of_rules(number: usize) {
     }
 }
 
+// What a number says of declarations of a DTD, and what to do next.
+pub fn tell_of_declarations(fd: i32, number: usize) {
+    match number {
+        50 => tell(
+            fd,
+            b"An element is declared as ANY, and rules must say what each element holds. Write what it may hold in place of ANY: EMPTY, (#PCDATA) for text, (#PCDATA|a|b)* for text with elements a and b in it, or a model of elements as (a,b?,c*).",
+        ),
+        51 => tell(
+            fd,
+            b"An entity, which is not read here. Put what it stands for in its place (of %name; or &name;), and leave its declaration out.",
+        ),
+        52 => tell(
+            fd,
+            b"An attribute list, which is not read here: schedules have no attributes. Leave it out, from <!ATTLIST to its >.",
+        ),
+        53 => tell(
+            fd,
+            b"This makes the model larger than the 32 nodes that a rule may have. A name is one node, and so is each , and |; ? adds two, * adds one, and + adds two and all of what it stands behind once more. Leave out marks that say the same twice (((a)+)+ is (a+)). If it is still too large, let it hold more than it says: (a|b|c)* takes any row of a, b and c, with room for 16 names; or give a part of the model to an element of its own, which the schedules must then have.",
+        ),
+        54 => tell(
+            fd,
+            b"This makes the model deeper than the 12 levels that a rule may have, or opens more than 32 parentheses at once. Each , or | of a row puts all that stands before it one level deeper, and so does each mark: put parts of a long row in parentheses, as ((a,b,c),(d,e,f)) for (a,b,c,d,e,f), and leave out parentheses around one name and marks over marks. In mixed content there are no groups: name at most 10 elements there, and add the others in the rules. If it is still too deep, give a part of the model to an element of its own, which the schedules must then have.",
+        ),
+        55 => tell(
+            fd,
+            b"No element declaration goes on like this. Everything before it is right so far; mend it here. Read are <!ELEMENT name content> one after the other and nothing else: no comments, no <?xml?> and no <!DOCTYPE, and a name has at most 15 bytes, of A to Z, a to z, 0 to 9, _ . - and not 0 to 9, . or - first.",
+        ),
+        _ => tell(
+            fd,
+            b"The declarations are right, but more than one set of rules can hold: at most 64 declarations, 64 different names and 256 nodes together (53 says what is a node). The first that is too many ends here. Leave out the declarations of elements that the schedules do not have, and their names from the other declarations.",
+        ),
+    }
+}
+
 // What a number of the table means, and what to do next.
 pub fn say_meaning(number: usize) {
     match number {
         0..=10 => say_of_sheet(number),
         20..=26 => say_of_token(number),
         34..=43 => say_of_rules(number),
+        50..=56 => tell_of_declarations(STDOUT_FILENO, number),
         _ => say_of_call(number),
     }
 }
@@ -122,7 +159,7 @@ pub fn say_meaning(number: usize) {
 // Whether the table has the number.
 fn is_number(n: usize) -> bool {
     match n {
-        0..=10 | 16 | 17 | 20..=30 | 34 | 40..=43 => true,
+        0..=10 | 16 | 17 | 20..=30 | 34 | 40..=43 | 50..=56 => true,
         _ => false,
     }
 }
@@ -142,7 +179,7 @@ fn say_row(n: usize) {
 // Every number with its words.
 pub fn table() {
     let mut n = 0;
-    while n < 44 {
+    while n < 57 {
         if is_number(n) {
             say_row(n);
         }

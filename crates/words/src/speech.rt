@@ -1,12 +1,20 @@
-// Text on standard output.
+// Text on standard output, or on another descriptor.
 use libc::STDOUT_FILENO;
 
+pub fn tell(fd: i32, text: &[u8]) {
+    io::write_all(fd, text);
+}
+
+pub fn tell_number(fd: i32, n: usize) {
+    io::print_decimal(fd, n as u64);
+}
+
 pub fn say(text: &[u8]) {
-    io::write_all(STDOUT_FILENO, text);
+    tell(STDOUT_FILENO, text);
 }
 
 pub fn say_number(n: usize) {
-    io::print_decimal(STDOUT_FILENO, n as u64);
+    tell_number(STDOUT_FILENO, n);
 }
 
 // 1st, 2nd, 3rd, 4th ..; an expression has at most 32 atoms.

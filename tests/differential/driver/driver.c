@@ -10,7 +10,7 @@
 #include "system.h"
 
 enum { AREA = 1 << 18, GUARD = 1 << 16, CANARY = 64, CANARY_BYTE = 0xC5 };
-enum { CHECK = 1, FRESH = 2, RUN = 3, SALVAGE_FRESH = 4, SALVAGE = 5 };
+enum { CHECK = 1, FRESH = 2, RUN = 3, SALVAGE_FRESH = 4, SALVAGE = 5, MODELS = 6 };
 
 /* One lent area: `end` is where unmapped memory begins. */
 struct area { uint8_t *end; };
@@ -87,15 +87,12 @@ static void serve_one(void) {
     protect(&part, 1);
     if (function == CHECK) say[0] = wickpollen_check(s, sheet_length, l, lent_length);
     for (int i = 0; i < 5; i++) c[i] = 0x5A5A5A5A5A5A5A5A;
-#ifdef RUNS
     if (function == FRESH) say[0] = wickpollen_fresh(l, lent_length);
     if (function == RUN) say[0] = wickpollen_run(s, sheet_length, l, lent_length, p, part_length, ended, o, output_length, c);
-#endif
-#ifdef SALVAGES
     if (function == SALVAGE_FRESH) say[0] = wickpollen_salvage_fresh(l, lent_length);
     if (function == SALVAGE)
         say[0] = wickpollen_salvage(s, sheet_length, l, lent_length, p, part_length, ended, o, output_length, w, waiting_length, r, report_length, c);
-#endif
+    if (function == MODELS) say[0] = wickpollen_models(p, part_length, o, output_length);
     for (int i = 0; i < 5; i++) say[1 + i] = c[i];
     say[6] = broken(&sheet, sheet_length) | broken(&list_or_state, lent_length) | broken(&part, part_length)
         | broken(&output, output_length) | broken(&waiting, waiting_length) | broken(&report, report_length) | broken(&counts, 40);

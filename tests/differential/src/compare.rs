@@ -1,5 +1,6 @@
 //! One case: one call of the library held against the model, with everything that was lent.
 
+use crate::model::declarations;
 use crate::model::run::{run, Call};
 use crate::model::salvage;
 use crate::model::state::{State, LENGTH};
@@ -138,6 +139,24 @@ impl Compare {
                 Err(format!("{what} differs\n{}\nthe model: {} counts {counts:?}\n{theirs}\nstate {}", case(), call.number, hex(&said.area)))
             }
         }
+    }
+
+    /// Declarations, with `room` bytes for the sheet.
+    pub fn models(&mut self, random: &mut Random, text: &[u8], room: usize) -> Outcome<()> {
+        let fill = random.byte();
+        let case = || format!("models, {room} bytes of {fill:02x} for the sheet\ntext {}", hex(text));
+        let said = self.subject.call(&Ask::Models { text, room }, fill).map_err(|error| format!("{error}\n{}", case()))?;
+        let told = declarations::read(text);
+        let short = told.number == 0 && room < told.count;
+        let number = if short { 43 } else { told.number };
+        let mut sheet = if short { Vec::new() } else { told.sheet };
+        sheet.resize(room, fill);
+        self.count("models", number);
+        let expected = number as u64 + 256 * told.count as u64;
+        if said.answer != expected || said.output != sheet {
+            return Err(format!("{}\nthe model: {}\nthe library: {} sheet {}", case(), show(expected), show(said.answer), hex(trimmed(&said.output, fill))));
+        }
+        Ok(())
     }
 
     fn count(&mut self, function: &'static str, number: u8) {

@@ -3,6 +3,7 @@
 pub mod corners;
 pub mod damage;
 pub mod days;
+pub mod declarations;
 pub mod limits;
 pub mod programs;
 pub mod sheets;

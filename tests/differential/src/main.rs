@@ -1,7 +1,6 @@
 //! Holds the proved library against the model on random calls. See README.md beside the source.
 //!
-//!     compare COUNT SEED WHAT DRIVER...    WHAT is "sheets" where the library has only the checker, "runs" where it has the converter too, "all" where it has the
-//!                                          salvage run as well, and "salvage" for calls of that alone
+//!     compare COUNT SEED WHAT DRIVER...    WHAT is "all", or "salvage" for calls of the salvage run alone, or "models" for texts of declarations alone
 
 #![cfg_attr(test, allow(dead_code))] // the worked examples need neither the driver nor the random cases
 
@@ -27,8 +26,9 @@ fn main() {
     let subject = subject::Subject::start(&words[4..]).expect("the driver starts");
     let mut compare = compare::Compare::new(subject);
     let outcome = match words[3].as_str() {
-        "salvage" => salvages(&mut compare, count as usize, seed),
-        what => all(&mut compare, count as usize, seed, what != "sheets", what == "all"),
+        "salvage" => only(upload::salvage, &mut compare, count as usize, seed),
+        "models" => only(upload::models, &mut compare, count as usize, seed),
+        _ => all(&mut compare, count as usize, seed),
     };
     for ((function, number), times) in &compare.met {
         println!("{function} {number}: {times}");
@@ -42,31 +42,34 @@ fn main() {
     }
 }
 
-fn all(compare: &mut compare::Compare, count: usize, seed: u64, runs: bool, salvages: bool) -> Result<(), String> {
+fn all(compare: &mut compare::Compare, count: usize, seed: u64) -> Result<(), String> {
     let mut random = random::Random::new(seed);
     for sheet in gen::limits::sheets() {
-        upload::limit(&mut random, compare, &sheet, runs)?;
+        upload::limit(&mut random, compare, &sheet)?;
     }
-    for case in gen::corners::cases().into_iter().filter(|_| runs) {
+    for case in gen::corners::cases() {
         upload::corner(&mut random, compare, &case)?;
     }
     while compare.cases < count {
         match random.below(100) {
-            0 if runs => upload::fresh(&mut random, compare)?,
-            41 if salvages => upload::salvage_fresh(&mut random, compare)?,
-            42..=75 if salvages => upload::salvage(&mut random, compare)?,
-            1..=40 if runs => upload::run(&mut random, compare)?,
+            0 => upload::fresh(&mut random, compare)?,
+            41 => upload::salvage_fresh(&mut random, compare)?,
+            42..=75 => upload::salvage(&mut random, compare)?,
+            76..=83 => upload::models(&mut random, compare)?,
+            1..=40 => upload::run(&mut random, compare)?,
             _ => upload::check(&mut random, compare)?,
         }
     }
     Ok(())
 }
 
-/// Calls of the salvage run alone.
-fn salvages(compare: &mut compare::Compare, count: usize, seed: u64) -> Result<(), String> {
+type Case = fn(&mut random::Random, &mut compare::Compare) -> Result<(), String>;
+
+/// Cases of one sort alone.
+fn only(case: Case, compare: &mut compare::Compare, count: usize, seed: u64) -> Result<(), String> {
     let mut random = random::Random::new(seed);
     while compare.cases < count {
-        upload::salvage(&mut random, compare)?;
+        case(&mut random, compare)?;
     }
     Ok(())
 }

@@ -1,6 +1,7 @@
-//! A second implementation of document 01, written from the document and docs/DECISIONS.md alone. Nothing here is taken from the
+//! A second implementation of document 01 and of requests that have landed, written from the document and docs/DECISIONS.md alone. Nothing here is taken from the
 //! proved code, and where a choice was free the plainest way was taken rather than the fastest.
 
+pub mod declarations;
 pub mod faults;
 pub mod programs;
 pub mod run;

@@ -16,6 +16,7 @@ pub enum Ask<'a> {
     Run { sheet: &'a [u8], state: &'a [u8], part: &'a [u8], ended: u64, room: usize },
     SalvageFresh { room: usize },
     Salvage { sheet: &'a [u8], state: &'a [u8], part: &'a [u8], ended: u64, room: usize, waiting: &'a [u8], report: usize },
+    Models { text: &'a [u8], room: usize },
 }
 
 /// What the function answered, and the lent areas afterwards, whole.
@@ -52,6 +53,7 @@ impl Subject {
             Ask::Run { sheet, state, part, ended, room } => (3, *sheet, state.len(), *state, *part, *room, *ended, nothing, 0),
             Ask::SalvageFresh { room } => (4, nothing, *room, nothing, nothing, 0, 0, nothing, 0),
             Ask::Salvage { sheet, state, part, ended, room, waiting, report } => (5, *sheet, state.len(), *state, *part, *room, *ended, *waiting, *report),
+            Ask::Models { text, room } => (6, nothing, 0, nothing, *text, *room, 0, nothing, 0),
         };
         let lengths = [lent, part.len(), room, waiting.len(), report].map(|length| length as u64);
         let header = [&[function, sheet.len() as u64], &lengths[..], &[ended, fill as u64]].concat();

@@ -2,7 +2,7 @@
 
 use crate::compare::{Compare, Lent, Spare};
 use crate::gen::corners::Case;
-use crate::gen::{damage, days, sheets, streams};
+use crate::gen::{damage, days, declarations, sheets, streams};
 use crate::model::salvage;
 use crate::model::sheet::Sheet;
 use crate::model::state::{State, FRAMES, LENGTH};
@@ -33,13 +33,24 @@ pub fn fresh(random: &mut Random, compare: &mut Compare) -> Result<(), String> {
     compare.fresh(random, room).map(|_| ())
 }
 
+/// Declarations, with rooms around the length that their sheet needs.
+pub fn models(random: &mut Random, compare: &mut Compare) -> Result<(), String> {
+    let text = declarations::text(random);
+    let needed = crate::model::declarations::read(&text).sheet.len();
+    let room = match random.below(6) {
+        0 => needed.saturating_sub(random.within(1, 30)),
+        1 => needed,
+        2 => needed + random.below(9),
+        _ => 3352,
+    };
+    compare.models(random, &text, room)
+}
+
 /// A sheet at a limit: checked, and run on one stream as a whole.
-pub fn limit(random: &mut Random, compare: &mut Compare, sheet: &[u8], runs: bool) -> Result<(), String> {
+pub fn limit(random: &mut Random, compare: &mut Compare, sheet: &[u8]) -> Result<(), String> {
     compare.check(random, sheet, 65_536)?;
-    if runs {
-        let (state, part) = (State::fresh().write(), stream(random, sheet));
-        compare.run(random, &Lent { sheet, state: &state, part: &part, ended: true, room: 60_000 })?;
-    }
+    let (state, part) = (State::fresh().write(), stream(random, sheet));
+    compare.run(random, &Lent { sheet, state: &state, part: &part, ended: true, room: 60_000 })?;
     Ok(())
 }
 

@@ -478,3 +478,36 @@ fn worked_salvage() {
         assert_eq!(answer, (number, output.to_string(), Some(visits), report), "{stream}");
     }
 }
+
+fn declared(text: &str) -> (u8, usize) {
+    let told = crate::model::declarations::read(text.as_bytes());
+    (told.number, told.count)
+}
+
+fn row(count: usize, sign: &str) -> String {
+    (0..count).map(|i| format!("n{i}")).collect::<Vec<_>>().join(sign)
+}
+
+#[test]
+fn worked_declarations() {
+    let told = [
+        ("<!ELEMENT a ANY>", (50, 12)), ("<!ELEMENT a ANYTHING>", (55, 12)), ("<!ENTITY x 'y'>", (51, 3)), ("<!ELEMENT a (%x;)>", (51, 13)),
+        ("<!ATTLIST a b CDATA #IMPLIED>", (52, 2)), ("<!ELEMENT a ((((b)+)+)+)+>", (53, 24)), ("", (55, 0)), ("<!ELEMENT a (b,c|d)>", (55, 16)),
+        ("<!ELEMENT a (#PCDATA|b)>", (55, 23)), ("<!ELEMENT a (b) *>", (55, 16)), ("<!ELEMENT a(b)>", (55, 11)), ("<!ELEMENT a ()>", (55, 13)),
+        ("<!ELEMENT name (year,title,author+)>", (0, 100)), ("<!ELEMENT a EMPTY>", (0, 52)), ("<!ELEMENT a (#PCDATA|a|b)*>", (0, 88)), ("<!ELEMENT a (a?)>", (0, 70)),
+    ];
+    for (text, answer) in told {
+        assert_eq!(declared(text), answer, "{text}");
+    }
+    for sign in [",", "|"] {
+        let thirteen = format!("<!ELEMENT a ({})>", row(13, sign));
+        assert_eq!(declared(&thirteen), (54, thirteen.rfind(sign).unwrap()));
+        assert_eq!(declared(&format!("<!ELEMENT a ({})>", row(12, sign))).0, 0);
+    }
+    let mixed = |count: usize| declared(&format!("<!ELEMENT a (#PCDATA|{})*>", row(count, "|"))).0;
+    let repeated = |count: usize| declared(&format!("<!ELEMENT a ({})+>", row(count, ","))).0;
+    let nested = |count: usize| declared(&format!("<!ELEMENT a {}b{}>", "(".repeat(count), ")".repeat(count)));
+    assert_eq!((mixed(10), mixed(11), repeated(8), repeated(9)), (0, 54, 0, 53));
+    assert_eq!((nested(32).0, nested(33)), (0, (54, 44)));
+    assert_eq!((declared(&"<!ELEMENT a EMPTY>".repeat(64)).0, declared(&"<!ELEMENT a EMPTY>".repeat(65))), (0, (56, 18 * 65 - 1)));
+}

@@ -24,20 +24,20 @@ returns-2 c =
 array-share-prefix-more : tie.Need-array-share-prefix-more
 array-share-prefix-more c =
     let start = c .before .before .before .before .before in
-    let full : length (start .args .b .bytes) ≡ 64 = search needs in
+    let full : length (start .args .b .bytes) ≡ 132 = search needs in
     let fits : start .args .b .length ≤ length (start .args .b .bytes) = omega (arith, full, c .before .before .before .before .if1 .left) in
     fits
 
 slice-aggregate-put-bytes-2 : tie.Need-slice-aggregate-put-bytes-2
 slice-aggregate-put-bytes-2 c =
     let start = c .before .before .before .before .before .before in
-    let full : length (start .args .b .bytes) ≡ 64 = search needs in
+    let full : length (start .args .b .bytes) ≡ 132 = search needs in
     sym (length-take-le (start .args .b .length) (start .args .b .bytes) (omega (arith, full, c .before .before .before .before .before .if1 .left)))
 
 put-bytes-requires : tie.Need-put-bytes-requires
 put-bytes-requires c κs =
     let start = c .before .before .before .before .before .before in
-    let full : length (start .args .b .bytes) ≡ 64 = search needs in
+    let full : length (start .args .b .bytes) ≡ 132 = search needs in
     let long : length (take (start .args .b .length) (start .args .b .bytes)) ≡ start .args .b .length = length-take-le (start .args .b .length) (start .args .b .bytes) (omega (arith, full, c .before .before .before .before .before .if1 .left)) in
     let fits : start .args .a .length + length (take (start .args .b .length) (start .args .b .bytes)) < 2 ^ 64 = omega (arith, long, c .before .before .before .before .before .if1 .left, c .before .before .before .before .if2 .left) in
     fits
@@ -45,8 +45,8 @@ put-bytes-requires c κs =
 returns-3 : tie.Need-returns-3
 returns-3 c =
     let start = c .before .before .before .before .before .before .before .before .before in
-    let full : length (start .args .a .bytes) ≡ 64 = search needs in
-    let full′ : length (start .args .b .bytes) ≡ 64 = search needs in
+    let full : length (start .args .a .bytes) ≡ 132 = search needs in
+    let full′ : length (start .args .b .bytes) ≡ 132 = search needs in
     joined-put (start .args .a) (start .args .b) (omega (arith, full)) (omega (arith, full′)) (c .before .before .before .before .before .before .before .before .if1 .left) _ (c .before .before .put-bytes .ensures) (c .larger .ensures)
 
 pub joined-spec : {M : Type 1} → statement M

@@ -9,10 +9,10 @@ use Rattle.words.proofs.numbers.is_number.Reads as is-number-reads
 use Rattle.words.proofs.numbers.say_row.Reads as say-row-reads
 
 abbrev Inv-loop : tie.InvT-loop
-Inv-loop n₀ n = n ≤ 44
+Inv-loop n₀ n = n ≤ 57
 
 abbrev μ-loop : tie.MeasureT-loop
-μ-loop n₀ n = 44 - n
+μ-loop n₀ n = 57 - n
 
 pub table-spec : {M : Type 1} → statement M
 table-spec =

@@ -1,0 +1,9 @@
+pub mod Words
+pub mod Marks
+pub mod Parentheses
+pub mod Goes
+pub mod Refused
+pub mod Contents
+pub mod Much
+pub mod Every
+pub mod Worked

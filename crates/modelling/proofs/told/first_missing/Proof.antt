@@ -1,0 +1,26 @@
+use Prim.Native.Nat.{_≤_, _-_}
+use lib.ListN.{length}
+use borrow.Author.Needs.{needs}
+use Rattle.modelling.proofs.told.first_missing.Statement.{statement}
+use Rattle.modelling.proofs.told.first_missing.Tie as tie
+use Rattle.modelling.proofs.told.first_missing.Reads as reads
+use Rattle.modelling.proofs.told.first_missing.Lts as lts
+use Rattle.modelling.proofs.names.after.Reads as after-reads
+use Rattle.modelling.proofs.names.first_name.Reads as first-name-reads
+use Rattle.modelling.proofs.names.is_declared.Reads as is-declared-reads
+use Rattle.modelling.proofs.names.is_new.Reads as is-new-reads
+use Rattle.std.proofs.num.wrapping_add_usize.Reads as wrapping-add-usize-reads
+
+abbrev Inv-loop : tie.InvT-loop
+Inv-loop text number₀ w₀ number w = (w .from ≤ w .to) × (w .to ≤ length text)
+
+abbrev μ-loop : tie.MeasureT-loop
+μ-loop text number₀ w₀ number w = length text - w .from
+
+pub first-missing-spec : {M : Type 1} → statement M
+first-missing-spec =
+    tie.close
+    (tie.spec
+    Inv-loop
+    μ-loop
+    (λ c κs. search needs) (λ c. search needs) (λ c κs. search needs) (λ c κs. search needs) (λ c. search needs) (λ c κs. search needs) (λ c κs. search needs) (λ c. search needs) (λ c. search needs) (λ c. search needs))

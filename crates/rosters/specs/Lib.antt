@@ -1,0 +1,3 @@
+pub mod Names
+pub mod Rosters
+pub mod Promises

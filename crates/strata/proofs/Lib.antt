@@ -1,0 +1,4 @@
+pub mod Marks
+pub mod Laws
+pub mod Sizes
+pub mod Promises

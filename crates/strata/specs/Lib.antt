@@ -1,0 +1,2 @@
+pub mod Particles
+pub mod Promises
