@@ -416,15 +416,7 @@ def words():
 
 def damaged():
     heading('Each byte of a good text cut off there, left out, and replaced')
-    for given in DAMAGED:
-        case('whole', given, 0)
-        given = given.encode()
-        for i in range(len(given)):
-            case('cut at %d' % i, given[:i])
-            case('without byte %d' % i, given[:i] + given[i + 1:])
-            for b in ((b'(', b'%'), (b')', b'|'), (b'>', b'+'), (b' ', b','), (b'A', b'\x80'), (b'N', b'<'))[i % 6]:
-                if given[i:i + 1] != b:
-                    case('%r at %d' % (b, i), given[:i] + b + given[i + 1:])
+    rules.each_damaged(case, DAMAGED, ((b'(', b'%'), (b')', b'|'), (b'>', b'+'), (b' ', b','), (b'A', b'\x80'), (b'N', b'<')), True)
 
 
 def rooms():

@@ -795,16 +795,23 @@ def limits():
         text('programs of %d bytes' % (16065 + 159 + n + 1), given, number, len(given) - 1 if number else None)
 
 
-def damaged():
-    heading('Each byte of a good text cut off there, and replaced')
-    for given in DAMAGED:
-        text('whole', given, 0)
+def each_damaged(case, texts, others, left_out):
+    """Good texts, and each with one byte cut off there, left out or replaced: others are the bytes that take its place, by turns."""
+    for given in texts:
+        case('whole', given, 0)
         given = given.encode()
         for i in range(len(given)):
-            text('cut at %d' % i, given[:i])
-            for b in (b'(', b'n', b'\x80') if i % 3 == 0 else (b'}',) if i % 3 == 1 else (b'0', b' '):
+            case('cut at %d' % i, given[:i])
+            if left_out:
+                case('without byte %d' % i, given[:i] + given[i + 1:])
+            for b in others[i % len(others)]:
                 if given[i:i + 1] != b:
-                    text('%r at %d' % (b, i), given[:i] + b + given[i + 1:])
+                    case('%r at %d' % (b, i), given[:i] + b + given[i + 1:])
+
+
+def damaged():
+    heading('Each byte of a good text cut off there, and replaced')
+    each_damaged(text, DAMAGED, ((b'(', b'n', b'\x80'), (b'}',), (b'0', b' ')), False)
 
 
 def strings():
