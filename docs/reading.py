@@ -38,6 +38,7 @@ DEMANDS = [
     ('Demand 2: what each single call writes reads back, from any state', ['converter.ReadsBack.WrittenReadsBack', 'converter.ReadsBack.BytesWrittenReadBack']),
     ('Demand 2: `<a/>` and `<a></a>`', ['calls.Empty.EmptyIsBoth', 'calls.Empty.EmptyForBoth']),
     ('Demand 3: the list of faults', ['faults.Checked.CheckedAs', 'expressions.FaultList.IsFaultList']),
+    ('Demand 3: a shortest input up to a place', ['shortest.Promises.ShortestLeads', 'shortest.Answers.ShortestAs']),
     ('The starred examples', ['worked.Worked.RowHolds', 'worked.Worked.worked']),
     ('§1: rules typed as text, written as a sheet', ['writing.Written.WrittenAs', 'writing.Promises.OneWriting']),
     ('§1: sheets printed as text, and the way back', ['printing.Printed.PrintedAs', 'printing.Promises.RoundTrips', 'printing.Promises.WritesTheSame']),

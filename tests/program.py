@@ -523,6 +523,78 @@ def a_fault_is_shown_by_two_atoms_and_the_sign():
         expect(f"{says!r} is said", says in out)
 
 
+@test
+def a_fault_is_shown_by_a_shortest_input():
+    for text, inputs in [
+        # the shorter side of a union, the left one of two that are as short, no turn of a star
+        ("n0 ::= r((n1.n1|n2).n3*.n3*)\nn1 ::= b()\nn2 ::= c(n1)\nn3 ::= d()\nn3 ::= a(n1)\n",
+         {2: "<r><b/><b/>", 3: "<r><c>..</c>", 4: "<r><c>..</c><d/>"}),
+        ("n0 ::= r((n1|n2).CHAR*.CHAR*)\nn1 ::= b()\nn2 ::= c()\n", {1: "<r><b/>", 2: "<r><c/>", 3: "<r><b/>x"}),
+        # the lowest tag of a nonterminal, and the first production of those
+        ("n0 ::= r(n1*.n1*)\nn1 ::= r()\nn1 ::= b()\nn1 ::= b(n1)\nn1 ::= r(n1)\n", {0: "<r>", 1: "<r><r/>"}),
+    ]:
+        write("a.rules", text.encode())
+        _, out, _ = run("check", "a.rules")
+        for place, shown in shown_inputs(out.decode(), 0):
+            expect(f"{shown!r} at place {place} of {text!r}", inputs.get(place) == shown)
+        expect(f"each of these places of {text!r}", {place for place, _ in shown_inputs(out.decode(), 0)} == set(inputs))
+
+
+def shown_inputs(out, production):
+    """The place of each fault of rule S that is told of a production, and the input that it is shown by."""
+    said = out.splitlines()
+    entries = [(line.rpartition(" [9 ")[2][:-1].split(), said[i + 1]) for i, line in enumerate(said) if line.startswith("- production ")]
+    head = "  shortest input up to there: "
+    expect("each fault has its input", all(line.startswith(head) for _, line in entries))
+    return [(int(place), line[len(head):]) for (q, place, _), line in entries if int(q) == production]
+
+
+@test
+def no_input_up_to_a_place_is_shorter():
+    """A second way to find them: breadth first over which atom may follow which."""
+    import random
+    random = random.Random(11)
+    kinds = {"n1": "1", "n2": "2", "CHAR": "x"}
+
+    def part(deep, atoms):
+        """The text of an expression, whether it can be empty, its first and its last atoms, and which follow which."""
+        if deep == 0 or random.random() < 0.15:
+            kind = random.choice([*kinds, "EMPTY"])
+            if kind == "EMPTY":
+                return kind, True, set(), set(), set()
+            atoms.append(kind)
+            return kind, False, {len(atoms)}, {len(atoms)}, set()
+        text, empty, first, last, after = part(deep - 1, atoms)
+        sign = random.choice(".|.|*")
+        if sign == "*":
+            return f"({text})*", True, first, last, after | {(a, b) for a in last for b in first}
+        text2, empty2, first2, last2, after2 = part(deep - 1, atoms)
+        both = after | after2
+        if sign == "|":
+            return f"({text}|{text2})", empty or empty2, first | first2, last | last2, both
+        return (f"({text}.{text2})", empty and empty2, first | (first2 if empty else set()), last2 | (last if empty2 else set()),
+                both | {(a, b) for a in last for b in first2})
+
+    told = 0
+    for _ in range(60):
+        atoms = []
+        text, _, first, _, after = part(3, atoms)
+        write("a.rules", f"n0 ::= r({text})\nn1 ::= b(n1)\nn2 ::= c()\n".encode())
+        _, out, _ = run("check", "a.rules")
+        far = {a: 1 for a in first}
+        for steps in range(2, 40):
+            far.update({b: steps for a, b in after if far.get(a) == steps - 1 and b not in far})
+        for place, shown in shown_inputs(out.decode(), 0):
+            row = shown[len("<r>"):].replace("<b>..</b>", "1").replace("<c/>", "2")
+            expect(f"{shown!r} is as short as any, in {text!r}", shown.startswith("<r>") and len(row) == far.get(place, 0))
+            here = {0}
+            for kind in row:
+                here = {b for a, b in after | {(0, b) for b in first} if a in here and kinds[atoms[b - 1]] == kind}
+            expect(f"{shown!r} leads to place {place} of {text!r}", place in here)
+            told += 1
+    expect(f"many were told, not {told}", told > 100)
+
+
 # ---- declarations of a DTD
 
 

@@ -3,6 +3,7 @@ ghost use Prim.Native.Nat.{_+_, _<_};
 ghost use lib.ListN.{length};
 ghost use Rattle.layout.specs.LaidOut.{LaidOut};
 ghost use Rattle.trees.specs.Parsed.{RunsInside};
+use crate::example::say_example;
 use crate::reasons::say_reason;
 use layout::Layout;
 use layout::byte_at;
@@ -147,7 +148,7 @@ fn say_about_s() {
         b"\nPlaces where the same input could be read in two ways, so the listing could come out in two ways.\n",
     );
     say(
-        b"A production says what an element may hold. Its atoms are numbered from the left, [1 ..] [2 ..]; n1 is nonterminal 1, and * is\nany number of times. Under each place stands what could come next there, and the sign at which the two ways to read it part.\n",
+        b"A production says what an element may hold. Its atoms are numbered from the left, [1 ..] [2 ..]; n1 is nonterminal 1, and * is\nany number of times. Under each place stand a shortest input from the element's start tag up to it, what could come next there,\nand the sign at which the two ways to read it part. In that input <a>..</a> is an element, whatever it holds; x is any character.\n",
     );
     say(
         b"Change the expression so that one way is left: one change often mends several places. Usual causes: a star over a part\n",
@@ -243,6 +244,7 @@ fn say_entry(s: &[u8], l: Layout, list: &[u8], i: usize, text: &[u8])
     say_s_entry(s, l, list, i);
     say_bytes(rule, first, second, third);
     if first < l.productions {
+        say_example(s, l, first, second);
         say_reason(s, l, first, second, third, text);
     }
 }

@@ -1,4 +1,5 @@
 // What people are told of a rule sheet: whether it passes and every place to mend; and where in its expressions a schedule stands.
+mod example;
 mod faults_told;
 mod opened;
 mod reasons;

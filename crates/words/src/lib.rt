@@ -27,6 +27,8 @@ pub use speech::say_ordinal;
 pub use speech::tell;
 pub use speech::tell_number;
 pub use symbols::say_atom;
+pub use symbols::say_empty_tag;
+pub use symbols::say_end_tag;
 pub use symbols::say_next;
 pub use symbols::say_tag;
 pub use symbols::say_tags_of;

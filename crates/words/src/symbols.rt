@@ -39,15 +39,36 @@ fn say_name_of(s: &[u8], l: Layout, t: usize)
     say_name(&s[at..end]);
 }
 
+// The name of tag t between two signs.
+fn say_named(s: &[u8], l: Layout, t: usize, before: &[u8], behind: &[u8])
+    requires { ⌜ LaidOut (now s) l ⌝ }
+{
+    say(before);
+    if t < l.tags {
+        say_name_of(s, l, t);
+    }
+    say(behind);
+}
+
 // A start tag.
 pub fn say_tag(s: &[u8], l: Layout, t: usize)
     requires { ⌜ LaidOut (now s) l ⌝ }
 {
-    say(b"<");
-    if t < l.tags {
-        say_name_of(s, l, t);
-    }
-    say(b">");
+    say_named(s, l, t, b"<", b">");
+}
+
+// An end tag.
+pub fn say_end_tag(s: &[u8], l: Layout, t: usize)
+    requires { ⌜ LaidOut (now s) l ⌝ }
+{
+    say_named(s, l, t, b"</", b">");
+}
+
+// An empty tag.
+pub fn say_empty_tag(s: &[u8], l: Layout, t: usize)
+    requires { ⌜ LaidOut (now s) l ⌝ }
+{
+    say_named(s, l, t, b"<", b"/>");
 }
 
 // The next symbol of an entry.

@@ -1,0 +1,4 @@
+pub mod Cut
+pub mod Least
+pub mod Walks
+pub mod Answers
