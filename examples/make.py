@@ -159,6 +159,11 @@ REFUSALS = {
     'after': (26, '<schedule/>', 'No element is open there; the root of a schedule is <schedule>.\n'),
 }
 
+# What is said of a program that rejects.
+REJECTS = {
+    'twice': 'What rejected: the program in front of <title>, of production 3 (n3 <title>).\n',
+}
+
 MEANINGS = {
     22: 'An end tag is not that of the innermost open element. Close that element first, or take this end tag out.',
     23: 'The sheet does not allow this here. Take it out, put it where it may stand, or put in what has to come before it.',
@@ -243,8 +248,8 @@ def refused(name, schedule, how):
     number, what, around = how
     before = schedule[:schedule.rindex(what)]
     rest = schedule[len(before):].encode()
-    return '%s.schedule: number %d.\n%s\nRefused after %d bytes, at line %d, column %d. What stands there is marked:\n%s' % (
-        name, number, MEANINGS[number], len(before.encode()), before.count('\n') + 1, len(before) - before.rfind('\n'), marked(before.encode(), rest)) + around
+    return '%s.schedule: number %d.\n%s\n%sRefused after %d bytes, at line %d, column %d. What stands there is marked:\n%s' % (
+        name, number, MEANINGS[number], REJECTS.get(name, ''), len(before.encode()), before.count('\n') + 1, len(before) - before.rfind('\n'), marked(before.encode(), rest)) + around
 
 
 def stretches(name, schedule):

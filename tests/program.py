@@ -715,6 +715,26 @@ def what_may_come_is_listed():
         expect(f"{says!r} is said of {schedule!r}", says in out)
 
 
+@test
+def the_program_that_rejects_is_named():
+    out = told(read(example("twice.schedule")), 25)
+    expect("the program of an element", b"What rejected: the program in front of <title>, of production 3 (n3 <title>).\n" in out)
+    for rules, schedule, says in [
+        (b"n0 ::= list(n1*) {if $.a0 = 2 then reject}\nn1 ::= {$.a0 := 2} item()", b"<list><item/></list>", b"behind <list>, of production 0 (n0 <list>)"),
+        (b"n0 ::= list(n1*)\nn1 ::= item() {reject}", b"<list><item/></list>", b"behind <item>, of production 1 (n1 <item>)"),
+        (b"n0 ::= {reject} list(n1*)\nn1 ::= item()", b" <list><item/></list>", b"in front of <list>, of production 0 (n0 <list>)"),
+        (b"n0 ::= list(({reject} n1*).n2)\nn1 ::= item()\nn2 ::= last()", b"<list><item/></list>", b"in front of [1 n1 <item>]*, in production 0 (n0 <list>)"),
+        (b"n0 ::= list((n1* {reject}).n2)\nn1 ::= item()\nn2 ::= last()", b"<list><item/><last/></list>", b"behind [1 n1 <item>]*, in production 0 (n0 <list>)"),
+        (b"n0 ::= list(({reject} n1)|{reject} n2)\nn1 ::= item()\nn2 ::= last()", b"<list><last/></list>", b"in front of [2 n2 <last>], in production 0 (n0 <list>)"),
+        (b"n0 ::= list({reject} CHAR*)", b"<list>x</list>", b"in front of [1 any character]*, in production 0 (n0 <list>)"),
+    ]:
+        write("rules", rules)
+        write("schedule", schedule)
+        status, out, _ = run("try", "rules", "schedule")
+        expect(f"25, not {status}, of {rules!r}", status == 25)
+        expect(f"{says!r} is said of {rules!r}", b"What rejected: the program " + says + b".\n" in out)
+
+
 def damaged(at, byte):
     sheet = bytearray(read(example("schedule.sheet")))
     sheet[at] = byte

@@ -10,6 +10,8 @@ use places::say_count;
 use places::say_line_before;
 use places::say_mark;
 use places::say_place;
+use rejecting::Rejecter;
+use rejecting::find_rejecter;
 use state::State;
 use std::num::wrapping_add_usize;
 use words::say;
@@ -117,6 +119,25 @@ fn say_of_room(number: usize) {
     }
 }
 
+// Which program rejected what is left of the schedule, from the refused token on: the state is the one before it.
+fn say_of_program(sheet: &[u8], number: usize, z: State, left: &[u8]) {
+    if number != 25 {
+        return;
+    }
+    let rejecter = find_rejecter(sheet, z, left);
+    match rejecter {
+        Rejecter::Node {
+            production,
+            node,
+            again,
+        } => report::say_rejected(sheet, production, node, again),
+        Rejecter::Element { production, again } => {
+            report::say_rejected(sheet, production, 0, again)
+        }
+        Rejecter::Nobody => (),
+    }
+}
+
 // The number that a file was refused with.
 pub fn tell_number(path: &[u8], number: usize) {
     say(path);
@@ -144,6 +165,7 @@ pub(crate) fn tell_refusal(sheet: &[u8], schedule: &[u8], s: Standing, left: &[u
     let lines = behind.lines;
     tell_number(schedule, number);
     say_of_room(number);
+    say_of_program(sheet, number, state, left);
     tell_place(s, left);
     say_of_mark(place, left);
     say_of_front(number, left);

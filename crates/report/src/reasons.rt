@@ -56,7 +56,7 @@ fn atom_number(s: &[u8], l: Layout, first: usize, i: usize) -> usize
 }
 
 // The node of a bracket, which is counted from 1 in its production; the sheet's count of nodes where it has no such node.
-fn node_of(l: Layout, first: usize, bracket: usize) -> usize
+pub(crate) fn node_of(l: Layout, first: usize, bracket: usize) -> usize
     ensures { λ r. ⌜ r ≤ l .nodes ⌝ }
 {
     if l.nodes < first {
@@ -97,7 +97,7 @@ fn say_atom_at(s: &[u8], l: Layout, first: usize, i: usize)
 }
 
 // The tree whose first node is i.
-fn say_part(s: &[u8], l: Layout, first: usize, i: usize)
+pub(crate) fn say_part(s: &[u8], l: Layout, first: usize, i: usize)
     requires { ⌜ LaidOut (now s) l ⌝ }
     requires { ⌜ i ≤ l .nodes ⌝ }
 {

@@ -1,0 +1,4 @@
+pub mod First
+pub mod Named
+pub mod Told
+pub mod Promises
