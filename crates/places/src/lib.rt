@@ -1,6 +1,9 @@
 // Where in a file: how many bytes come before, the line and the column; and the line that is shown, with a mark under the place.
-ghost use Prim.Native.Nat.{_≤_, _<_};
-ghost use lib.ListN.{length};
+ghost use mathlib.Core.Path.{_≡_};
+ghost use mathlib.Core.List.{[]};
+ghost use Prim.Native.Nat.{suc, _≤_, _<_};
+ghost use lib.ListN.{length, getD, drop};
+ghost use Rattle.places.specs.Lines.{goesOn, endsLine, lineEnds, LastLineAt, charactersIn, GoesOnTo, PlaceIs, Passes};
 use libc::STDOUT_FILENO;
 use std::num::wrapping_add_u64;
 use std::num::wrapping_add_usize;
@@ -18,7 +21,9 @@ const LINE_FEED: u8 = 10;
 pub const CARRIAGE_RETURN: u8 = 13;
 
 // Whether a byte is a character's second, third or fourth: those are 80 to BF.
-pub fn goes_on(b: u8) -> bool {
+pub fn goes_on(b: u8) -> bool
+    ensures { λ r. ⌜ r ≡ goesOn b ⌝ }
+{
     (b >= 0x80) & (b < 0xC0)
 }
 
@@ -26,6 +31,7 @@ pub fn goes_on(b: u8) -> bool {
 // tokens, so a carriage return that is the last byte has none.
 pub fn ends_line(bytes: &[u8], i: usize) -> bool
     requires { ⌜ i < length (now bytes) ⌝ }
+    ensures { λ r. ⌜ r ≡ endsLine (getD (now (bytes .entry)) i 0) (drop (suc i) (now (bytes .entry))) ⌝ }
 {
     let b = bytes[i];
     if b == LINE_FEED {
@@ -43,7 +49,7 @@ pub fn ends_line(bytes: &[u8], i: usize) -> bool
 
 // Where the last line of some bytes starts.
 pub fn last_line(bytes: &[u8]) -> usize
-    ensures { λ r. ⌜ r ≤ length (now (bytes .entry)) ⌝ }
+    ensures { λ r. ⌜ LastLineAt (now (bytes .entry)) r ⌝ }
 {
     let mut i = bytes.len();
     while 0 < i {
@@ -56,7 +62,9 @@ pub fn last_line(bytes: &[u8]) -> usize
 }
 
 // How many characters start in some bytes.
-fn characters(bytes: &[u8]) -> u64 {
+fn characters(bytes: &[u8]) -> u64
+    ensures { λ r. ⌜ r ≡ charactersIn (now (bytes .entry)) ⌝ }
+{
     let mut n: u64 = 0;
     let mut i = 0;
     while i < bytes.len() {
@@ -69,7 +77,9 @@ fn characters(bytes: &[u8]) -> u64 {
 }
 
 // How many lines end in some bytes.
-pub fn line_ends(bytes: &[u8]) -> u64 {
+pub fn line_ends(bytes: &[u8]) -> u64
+    ensures { λ r. ⌜ r ≡ lineEnds (now (bytes .entry)) ⌝ }
+{
     let mut n: u64 = 0;
     let mut i = 0;
     while i < bytes.len() {
@@ -83,7 +93,9 @@ pub fn line_ends(bytes: &[u8]) -> u64 {
 
 impl Place {
     // Before the first byte.
-    pub fn start() -> Place {
+    pub fn start() -> Place
+        ensures { λ r. ⌜ PlaceIs [] r ⌝ }
+    {
         Place {
             offset: 0,
             line: 1,
@@ -92,14 +104,18 @@ impl Place {
     }
 
     // Behind the bytes that a file begins with.
-    pub fn behind(bytes: &[u8]) -> Place {
+    pub fn behind(bytes: &[u8]) -> Place
+        ensures { λ r. ⌜ PlaceIs (now (bytes .entry)) r ⌝ }
+    {
         let start = Place::start();
         start.after(bytes, wrapping_add_u64(1, line_ends(bytes)))
     }
 
     // Past some bytes, behind which it is that line. A line ends with a line feed that is handed on: LF, CR LF or CR. No file is so long that a number here would
     // begin again from 0.
-    pub fn after(self, bytes: &[u8], line: u64) -> Place {
+    pub fn after(self, bytes: &[u8], line: u64) -> Place
+        ensures { λ r. ⌜ Passes self (now (bytes .entry)) line r ⌝ }
+    {
         let from = last_line(bytes);
         let column = if from == 0 { self.column } else { 1 };
         Place {
@@ -112,7 +128,7 @@ impl Place {
 
 // How many bytes at the start are the rest of a character that starts before them.
 fn rest_of_character(bytes: &[u8]) -> usize
-    ensures { λ r. ⌜ r ≤ length (now (bytes .entry)) ⌝ }
+    ensures { λ r. ⌜ GoesOnTo (now (bytes .entry)) r ⌝ }
 {
     let mut i = 0;
     while i < bytes.len() {

@@ -6,7 +6,10 @@ mod programs_told;
 mod tags;
 mod trailer;
 
+ghost use mathlib.Core.Path.{_≡_};
 ghost use Prim.Native.Nat.{_<_};
+ghost use Rattle.layout.specs.Layout.{byteAt};
+ghost use Rattle.wrong.specs.Read.{ByteIs, WordIs};
 pub use nodes::is_produced;
 pub use trailer::field_of;
 use words::say;
@@ -16,13 +19,15 @@ use words::say_number;
 const LONGEST: usize = 27928;
 
 // A byte of the sheet; 0 where there is none.
-pub fn byte(s: &[u8], i: usize) -> u8 {
+pub fn byte(s: &[u8], i: usize) -> u8
+    ensures { λ r. ⌜ r ≡ byteAt (now (s .entry)) i ⌝ }
+{
     if i < s.len() { s[i] } else { 0 }
 }
 
 // A byte as a number.
 pub fn small(s: &[u8], i: usize) -> usize
-    ensures { λ r. ⌜ r < 256 ⌝ }
+    ensures { λ r. ⌜ ByteIs (now (s .entry)) i r ⌝ }
 {
     byte(s, i) as usize
 }
@@ -30,7 +35,7 @@ pub fn small(s: &[u8], i: usize) -> usize
 // Two bytes as a number, the lower first.
 pub fn word(s: &[u8], i: usize) -> usize
     requires { ⌜ i < 2000000 ⌝ }
-    ensures { λ r. ⌜ r < 65536 ⌝ }
+    ensures { λ r. ⌜ WordIs (now (s .entry)) i r ⌝ }
 {
     small(s, i) + 256 * small(s, i + 1)
 }

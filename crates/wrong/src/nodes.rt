@@ -1,5 +1,8 @@
 // The first wrong expression, and the first nonterminal without a production.
 ghost use Prim.Native.Nat.{_<_};
+ghost use Rattle.tells.specs.Tells.{Tells};
+ghost use Rattle.layout.specs.Layout.{Size};
+ghost use Rattle.sheet.specs.Grounded.{Produced};
 use crate::field_of;
 use crate::productions::first_node;
 use crate::productions::node_count;
@@ -120,7 +123,9 @@ pub(crate) fn say_expression(s: &[u8]) {
 }
 
 // Whether a production is of nonterminal n.
-pub fn is_produced(s: &[u8], n: usize) -> bool {
+pub fn is_produced(s: &[u8], n: usize) -> bool
+    ensures { λ r. ⌜ (Size (now (s .entry)) → Tells (Produced (now (s .entry)) n) r) ⌝ }
+{
     let count = field_of(s, 3);
     let mut q = 0;
     while q < count {

@@ -1,5 +1,6 @@
 // The first wrong production.
 ghost use Prim.Native.Nat.{_<_};
+ghost use Rattle.wrong.specs.Read.{RecordIs};
 use crate::field_of;
 use crate::say_record;
 use crate::small;
@@ -13,7 +14,7 @@ const WIDTH: usize = 12;
 // The first byte of production q's record.
 pub(crate) fn record_of(s: &[u8], q: usize) -> usize
     requires { ⌜ q < 65536 ⌝ }
-    ensures { λ r. ⌜ r < 851968 ⌝ }
+    ensures { λ r. ⌜ RecordIs (now (s .entry)) q r ⌝ }
 {
     field_of(s, 2) + WIDTH * q
 }

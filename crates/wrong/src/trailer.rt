@@ -1,5 +1,6 @@
 // The trailer: its twelve numbers, and the first that does not fit.
 ghost use Prim.Native.Nat.{_<_};
+ghost use Rattle.wrong.specs.Read.{FieldIs, TrailerAt};
 use crate::LONGEST;
 use crate::word;
 use words::say;
@@ -10,7 +11,7 @@ const TRAILER: usize = 24;
 
 // The trailer's first byte; 0 where there is no trailer.
 fn start(s: &[u8]) -> usize
-    ensures { λ r. ⌜ r < 27905 ⌝ }
+    ensures { λ r. ⌜ TrailerAt (now (s .entry)) r ⌝ }
 {
     if s.len() < TRAILER {
         return 0;
@@ -25,7 +26,7 @@ fn start(s: &[u8]) -> usize
 // length, start, mark.
 pub fn field_of(s: &[u8], k: usize) -> usize
     requires { ⌜ k < 12 ⌝ }
-    ensures { λ r. ⌜ r < 65536 ⌝ }
+    ensures { λ r. ⌜ FieldIs (now (s .entry)) k r ⌝ }
 {
     word(s, start(s) + 2 * k)
 }

@@ -1,19 +1,34 @@
--- The bytes are passed one by one.
-use Prim.Native.Nat.{_≤_, _-_}
-use lib.ListN.{length}
+-- What is counted and what is left to count are all of them.
+use mathlib.Core.Path.{_≡_, sym, _∙_}
+use mathlib.Core.Logic.{⊎-elim}
+use Prim.Native.Nat.{_+_, _≤_, _-_}
+use lib.ListN.{length, drop}
+use native.Mathlib.Omega.{arith}
 use borrow.Author.Needs.{needs}
+use Rattle.places.specs.Lines.{endsLine, lineEnds}
+use Rattle.places.proofs.Laws.{counts-on, passes-on, counts-all}
 use Rattle.places.proofs.line_ends.Statement.{statement}
 use Rattle.places.proofs.line_ends.Tie as tie
-use Rattle.places.proofs.line_ends.Reads as reads
-use Rattle.places.proofs.line_ends.Lts as lts
-use Rattle.places.proofs.ends_line.Reads as ends-line-reads
-use Rattle.std.proofs.num.wrapping_add_u64.Reads as wrapping-add-u64-reads
 
 abbrev Inv-loop : tie.InvT-loop
-Inv-loop bytes n₀ i₀ n i = i ≤ length bytes
+Inv-loop bytes n₀ i₀ n i = (i ≤ length bytes) × (n + lineEnds (drop i bytes) ≡ lineEnds bytes)
 
 abbrev μ-loop : tie.MeasureT-loop
 μ-loop bytes n₀ i₀ n i = length bytes - i
+
+loop-again : tie.Need-loop-again Inv-loop μ-loop
+loop-again c =
+    let at = c .before .before .before .loop in
+    let tells = sym (c .before .ends-line .ensures) in (
+      search needs,
+      ⊎-elim
+          (λ w. counts-on endsLine _ (at .i) (at .n) _ (c .before .before .loop-test .taken) (omega arith) (at .inv .1) (tells ∙ w .0 .taken) (w .2 ∙ w .1 .ensures))
+          (λ w. passes-on endsLine _ (at .i) (at .n) _ (c .before .before .loop-test .taken) (at .inv .1) (tells ∙ w .0 .left) (w .1))
+          (c .if1 .came),
+    )
+
+returns : tie.Need-returns Inv-loop μ-loop
+returns c = counts-all endsLine _ (c .before .loop .i) _ (c .loop-test .left) (c .before .loop .inv .1)
 
 pub line-ends-spec : {M : Type 1} → statement M
 line-ends-spec =
@@ -21,4 +36,4 @@ line-ends-spec =
     (tie.spec
     Inv-loop
     μ-loop
-    (λ c. search needs) (λ c κs. search needs) (λ c κs. search needs) (λ c. search needs) (λ c. search needs) (λ c. search needs) (λ c. search needs))
+    (λ c. search needs) (λ c κs. search needs) (λ c κs. search needs) (λ c. search needs) (λ c. search needs) loop-again returns)

@@ -1,42 +1,33 @@
--- The bytes are passed one by one.
-use Prim.Native.Nat.{_≤_, _-_}
-use lib.ListN.{length}
+-- The bytes that are passed and those that go on behind them are all that go on.
+use mathlib.Core.Path.{_≡_, sym, _∙_}
+use Prim.Native.Nat.{_+_, _≤_, _-_}
+use native.Mathlib.Omega.{arith}
+use lib.ListN.{length, drop}
 use borrow.Author.Needs.{needs}
+use borrow.Author.Tests.{not-true, not-false}
+use Rattle.places.specs.Lines.{goingOn}
+use Rattle.places.proofs.Laws.{rest-on, rest-stops, rest-ends}
 use Rattle.places.proofs.rest_of_character.Statement.{statement}
 use Rattle.places.proofs.rest_of_character.Tie as tie
-use Rattle.places.proofs.rest_of_character.Reads as reads
-use Rattle.places.proofs.rest_of_character.Lts as lts
-use Rattle.places.proofs.goes_on.Reads as goes-on-reads
 
 abbrev Inv-loop : tie.InvT-loop
-Inv-loop bytes i₀ i = i ≤ length bytes
+Inv-loop bytes i₀ i = (i ≤ length bytes) × (i + goingOn (drop i bytes) ≡ goingOn bytes)
 
 abbrev μ-loop : tie.MeasureT-loop
 μ-loop bytes i₀ i = length bytes - i
 
-loop-holds : tie.Need-loop-holds Inv-loop μ-loop
-loop-holds c = search needs
-
-shared-slice-read-goes-on : tie.Need-shared-slice-read-goes-on Inv-loop μ-loop
-shared-slice-read-goes-on c = search needs
-
-goes-on-requires : tie.Need-goes-on-requires Inv-loop μ-loop
-goes-on-requires c κs = search needs
-
 returns : tie.Need-returns Inv-loop μ-loop
-returns c = search needs
-
-add-i : tie.Need-add-i Inv-loop μ-loop
-add-i c = search needs
-
-loop-less : tie.Need-loop-less Inv-loop μ-loop
-loop-less c = search needs
+returns c =
+    let at = c .before .before .before .before .loop in
+    rest-stops _ (at .i) (c .before .before .before .loop-test .taken) (at .inv .1) (sym (c .before .goes-on .ensures) ∙ not-true _ (c .if1 .taken))
 
 loop-again : tie.Need-loop-again Inv-loop μ-loop
-loop-again c = search needs
+loop-again c =
+    let at = c .before .before .before .before .loop in
+    (search needs, rest-on _ (at .i) (c .before .before .before .loop-test .taken) (at .inv .1) (sym (c .before .goes-on .ensures) ∙ not-false _ (c .if1 .left)))
 
 returns-2 : tie.Need-returns-2 Inv-loop μ-loop
-returns-2 c = search needs
+returns-2 c = rest-ends _ (c .before .loop .i) (c .before .loop .inv .0) (c .loop-test .left) (c .before .loop .inv .1)
 
 pub rest-of-character-spec : {M : Type 1} → statement M
 rest-of-character-spec =
@@ -44,11 +35,4 @@ rest-of-character-spec =
     (tie.spec
     Inv-loop
     μ-loop
-    loop-holds
-    shared-slice-read-goes-on
-    goes-on-requires
-    returns
-    add-i
-    loop-less
-    loop-again
-    returns-2)
+    (λ c. search needs) (λ c. search needs) (λ c κs. search needs) returns (λ c. search needs) (λ c. search needs) loop-again returns-2)
