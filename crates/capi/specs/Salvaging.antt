@@ -14,3 +14,8 @@ pub record SalvageRunAs (s part : List ℕ) (ended : ℕ) (l l′ : Lent) (count
   pub as-answered : SalvagedAs s part (not (eqb ended 0)) l l′ answer
   pub number : w ≡ answer .number
   pub counted : counts ≡ answer .taken ∷ answer .written ∷ answer .reported ∷ answer .waited ∷ answer .visits ∷ []
+
+-- any two answers are equal: the number, the counts, and every byte that is left
+abbrev pub OneSalvageRun : Type 0
+OneSalvageRun =
+    (s part : List ℕ) (ended : ℕ) (l l′ l″ : Lent) (c d : List ℕ) (v w : ℕ) → SalvageRunAs s part ended l l′ c v → SalvageRunAs s part ended l l″ d w → (v ≡ w) × (c ≡ d) × (l′ ≡ l″)
