@@ -7,7 +7,7 @@ use native.Mathlib.Omega.{arith}
 use Rattle.programs.specs.Limits.{Visit}
 use Rattle.programs.specs.Parsed.{visit}
 use Rattle.notation.specs.Program.{Program}
-use Rattle.notation.specs.Tokens.{plain, left, right, Token, nonterminal, value, attribute, name, start-tag, end-tag, empty-tag, string, word, CHAR, ECHO, ECHO-OFF, REJECT, PRINT, IF, THEN, ELSE, BEGIN, END, AND, OR, NOT, EMPTY, sign, DEFINED, ASSIGNED, OPEN, CLOSE, BRACE, UNBRACE, DOT, BAR, STAR, SEMICOLON, EQUALS}
+use Rattle.notation.specs.Tokens.{Token, sign, UNBRACE}
 use Rattle.reading.specs.Statements.{Listing, stepStatements, valueOfList}
 use Rattle.reading.specs.Rules.{Progress}
 use Rattle.lexemes.specs.Kinds.{kinds, kindOf, TokenFits}
@@ -18,6 +18,7 @@ use Rattle.sketches.specs.Sketched.{sketch, listingOf}
 use Rattle.sketches.specs.Promises.{Drawn, ProgramTaken, goes-on, ends}
 use Rattle.sketches.proofs.Promises.{programs-alike, plain-takes, plain-goes, program-goes, program-ends, program-takes}
 use Rattle.sketches.proofs.Fitting.{no-unbrace}
+use Rattle.sketches.proofs.Kinds.{unbrace-kind}
 use Rattle.drafts.specs.declared.Draft.{Draft}
 use Rattle.drafts.specs.declared.Stepped.{Stepped}
 use Rattle.drafts.specs.declared.Place.{Place}
@@ -43,43 +44,6 @@ yes-to r = record { taken = true; reader = r }
 
 abbrev no-to : Reader → Answer
 no-to r = record { taken = false; reader = r }
-
-pub unbrace-kind : (t : Token) → kindOf t ≡ 28 → t ≡ sign UNBRACE
-unbrace-kind (sign UNBRACE) e = refl
-unbrace-kind (nonterminal n) e = absurd (omega (arith, e))
-unbrace-kind (value v) e = absurd (omega (arith, e))
-unbrace-kind (attribute plain a) e = absurd (omega (arith, e))
-unbrace-kind (attribute left a) e = absurd (omega (arith, e))
-unbrace-kind (attribute right a) e = absurd (omega (arith, e))
-unbrace-kind (name n) e = absurd (omega (arith, e))
-unbrace-kind (start-tag n) e = absurd (omega (arith, e))
-unbrace-kind (end-tag n) e = absurd (omega (arith, e))
-unbrace-kind (empty-tag n) e = absurd (omega (arith, e))
-unbrace-kind (string cs) e = absurd (omega (arith, e))
-unbrace-kind (word CHAR) e = absurd (omega (arith, e))
-unbrace-kind (word ECHO) e = absurd (omega (arith, e))
-unbrace-kind (word ECHO-OFF) e = absurd (omega (arith, e))
-unbrace-kind (word REJECT) e = absurd (omega (arith, e))
-unbrace-kind (word PRINT) e = absurd (omega (arith, e))
-unbrace-kind (word IF) e = absurd (omega (arith, e))
-unbrace-kind (word THEN) e = absurd (omega (arith, e))
-unbrace-kind (word ELSE) e = absurd (omega (arith, e))
-unbrace-kind (word BEGIN) e = absurd (omega (arith, e))
-unbrace-kind (word END) e = absurd (omega (arith, e))
-unbrace-kind (word AND) e = absurd (omega (arith, e))
-unbrace-kind (word OR) e = absurd (omega (arith, e))
-unbrace-kind (word NOT) e = absurd (omega (arith, e))
-unbrace-kind (word EMPTY) e = absurd (omega (arith, e))
-unbrace-kind (sign DEFINED) e = absurd (omega (arith, e))
-unbrace-kind (sign ASSIGNED) e = absurd (omega (arith, e))
-unbrace-kind (sign OPEN) e = absurd (omega (arith, e))
-unbrace-kind (sign CLOSE) e = absurd (omega (arith, e))
-unbrace-kind (sign BRACE) e = absurd (omega (arith, e))
-unbrace-kind (sign DOT) e = absurd (omega (arith, e))
-unbrace-kind (sign BAR) e = absurd (omega (arith, e))
-unbrace-kind (sign STAR) e = absurd (omega (arith, e))
-unbrace-kind (sign SEMICOLON) e = absurd (omega (arith, e))
-unbrace-kind (sign EQUALS) e = absurd (omega (arith, e))
 
 pub none-some : {A : Type 0} (o : Option A) (x : A) → o ≡ none → o ≡ some x → ⊥
 none-some o x h i = let y : _≡_ {A = ℕ} 0 1 = cc in omega arith

@@ -19,6 +19,7 @@ use Rattle.sketches.specs.Sketched.{listingOf}
 use Rattle.sketches.specs.Promises.{Drawn, goes-on, ends, ProgramRow}
 use Rattle.sketches.proofs.Promises.{drawn-first, ends-alike, plain-marks, program-marks}
 use Rattle.sketches.proofs.Fitting.{no-unbrace}
+use Rattle.sketches.proofs.Kinds.{unbrace-kind}
 use Rattle.drafts.specs.declared.Draft.{Draft}
 use Rattle.drafts.specs.declared.Place.{Place}
 use Rattle.drafts.specs.Drafted.{sketchOf, DraftIs, programIf, PlaceIs}
@@ -32,7 +33,7 @@ use Rattle.scripts.proofs.Machines.{end-of-machine}
 use Rattle.rows.specs.Rows.{TextRow, OutlineRow}
 use Rattle.rulings.specs.declared.Reader.{Reader}
 use Rattle.rulings.specs.Readers.{ReadsFor, RowIs, StartIs, EndIs}
-use Rattle.rulings.proofs.Answers.{unbrace-kind, none-some, no-listing, a-listing}
+use Rattle.rulings.proofs.Answers.{none-some, no-listing, a-listing}
 
 -- outside programs the row is the draft's
 pub row-in-text : (r : Reader) (w : Place) (m : List Bool) → PlaceIs (r .draft .point) w → w .reads ≡ false → TextRow (r .draft) m → RowIs r m

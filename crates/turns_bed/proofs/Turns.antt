@@ -10,7 +10,7 @@ use Rattle.programs.specs.Parsed.{visit}
 use Rattle.notation.specs.Program.{Program}
 use Rattle.notation.specs.Rules.{node, Rules}
 use Rattle.notation.specs.Limits.{Within}
-use Rattle.notation.specs.Tokens.{plain, left, right, Token, nonterminal, value, attribute, name, start-tag, end-tag, empty-tag, string, word, CHAR, ECHO, ECHO-OFF, REJECT, PRINT, IF, THEN, ELSE, BEGIN, END, AND, OR, NOT, EMPTY, sign, DEFINED, ASSIGNED, OPEN, CLOSE, BRACE, UNBRACE, DOT, BAR, STAR, SEMICOLON, EQUALS}
+use Rattle.notation.specs.Tokens.{Token, sign, UNBRACE}
 use Rattle.reading.specs.Statements.{Listing, stepStatements, valueOfList}
 use Rattle.reading.specs.Expressions.{pieceOf, unbraces, listing, level, fresh, Parsing, wants, in-front, after, behind, over, stepExpression}
 use Rattle.reading.specs.Rules.{Head, Progress, within, finishedRules}
@@ -18,6 +18,7 @@ use Rattle.reading.proofs.Braces.{list-stops}
 use Rattle.lexemes.specs.Kinds.{kindOf, numberOf}
 use Rattle.sketches.specs.Moves.{Sketch, programAt}
 use Rattle.sketches.specs.Sketched.{pointOf, sketch, listingIn}
+use Rattle.sketches.proofs.Kinds.{unbrace-kind}
 use Rattle.drafts.specs.Drafted.{programIf}
 use Rattle.packing.specs.Packed.{field}
 use Rattle.beds.specs.declared.Bed.{Bed}
@@ -66,44 +67,6 @@ in-list (after a l ls) x′ q t e s = none-some e
 in-list (behind m f k ls) x′ q t e s =
     subst (λ n. InProgram n t x′) (some-same e) (by-list second m t x′ (stepStatements second m t) (λ n. behind n f k ls) (λ p. over (node f (some p) k) ls) refl s (λ n. refl))
 in-list (over a ls) x′ q t e s = none-some e
-
--- one token is of that kind
-pub unbrace-kind : (t : Token) → kindOf t ≡ 28 → t ≡ sign UNBRACE
-unbrace-kind (nonterminal n) e = absurd (omega (arith, e))
-unbrace-kind (value v) e = absurd (omega (arith, e))
-unbrace-kind (attribute plain a) e = absurd (omega (arith, e))
-unbrace-kind (attribute left a) e = absurd (omega (arith, e))
-unbrace-kind (attribute right a) e = absurd (omega (arith, e))
-unbrace-kind (name n) e = absurd (omega (arith, e))
-unbrace-kind (start-tag n) e = absurd (omega (arith, e))
-unbrace-kind (end-tag n) e = absurd (omega (arith, e))
-unbrace-kind (empty-tag n) e = absurd (omega (arith, e))
-unbrace-kind (string cs) e = absurd (omega (arith, e))
-unbrace-kind (word CHAR) e = absurd (omega (arith, e))
-unbrace-kind (word ECHO) e = absurd (omega (arith, e))
-unbrace-kind (word ECHO-OFF) e = absurd (omega (arith, e))
-unbrace-kind (word REJECT) e = absurd (omega (arith, e))
-unbrace-kind (word PRINT) e = absurd (omega (arith, e))
-unbrace-kind (word IF) e = absurd (omega (arith, e))
-unbrace-kind (word THEN) e = absurd (omega (arith, e))
-unbrace-kind (word ELSE) e = absurd (omega (arith, e))
-unbrace-kind (word BEGIN) e = absurd (omega (arith, e))
-unbrace-kind (word END) e = absurd (omega (arith, e))
-unbrace-kind (word AND) e = absurd (omega (arith, e))
-unbrace-kind (word OR) e = absurd (omega (arith, e))
-unbrace-kind (word NOT) e = absurd (omega (arith, e))
-unbrace-kind (word EMPTY) e = absurd (omega (arith, e))
-unbrace-kind (sign DEFINED) e = absurd (omega (arith, e))
-unbrace-kind (sign ASSIGNED) e = absurd (omega (arith, e))
-unbrace-kind (sign OPEN) e = absurd (omega (arith, e))
-unbrace-kind (sign CLOSE) e = absurd (omega (arith, e))
-unbrace-kind (sign BRACE) e = absurd (omega (arith, e))
-unbrace-kind (sign UNBRACE) e = refl
-unbrace-kind (sign DOT) e = absurd (omega (arith, e))
-unbrace-kind (sign BAR) e = absurd (omega (arith, e))
-unbrace-kind (sign STAR) e = absurd (omega (arith, e))
-unbrace-kind (sign SEMICOLON) e = absurd (omega (arith, e))
-unbrace-kind (sign EQUALS) e = absurd (omega (arith, e))
 
 module _ (b : Bed) (here kind number place : ℕ) (reads second′ : Bool) where
   -- behind a token the reader stands within: it came from the tag, or was there
