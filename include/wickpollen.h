@@ -37,6 +37,7 @@ uint64_t wickpollen_fresh(uint8_t *state, size_t state_len);
 /* Converts a part of a stream by the sheet and answers the number. `ended` is 0 while more is to come, any other number with the last
    part (which may be empty).
 
+   counts points to three numbers.
    counts[0]: how many bytes of the part were taken. Present the others again, in front of what comes next.
    counts[1]: how many bytes were written, at the start of out. Every byte of out past them is as lent.
    counts[2]: the visits since the state was fresh. A call adds at most 130 for each token that it takes. Where the whole
@@ -70,6 +71,7 @@ uint64_t wickpollen_run(const uint8_t *sheet, size_t sheet_len, uint8_t *state, 
 
    The state has WICKPOLLEN_SALVAGE bytes; wickpollen_salvage_fresh writes a fresh one, as wickpollen_fresh does. Lend the same waiting area, with what it holds, to every call on one state.
 
+   counts points to five numbers.
    counts[0], counts[1]: bytes taken and written, as in wickpollen_run.
    counts[2]: how many stretches were dropped: entries of 24 bytes at the start of report, each the first byte, the last byte (both of the whole stream) and the number, 8 bytes each,
               little-endian. Every byte of report past them is as lent.

@@ -625,6 +625,57 @@ def a_name_that_is_not_declared_is_said():
 
 
 @test
+def rules_that_cannot_be_printed_are_told():
+    """`print` and `models` write to standard output: where that is full, the rules are not there."""
+    for words in (["print", SHEET], ["models", example("partner.dtd")]):
+        status, _, err = shell(f"'{PROGRAM}' {words[0]} '{words[1]}' >/dev/full")
+        expect(f"{words}: {status} {err}", status == 102 and b"standard output" in err)
+
+
+@test
+def rules_are_written_and_printed():
+    status, text, _ = run("print", SHEET)
+    expect("printed", status == 0)
+    write("p.rules", text)
+    expect("written", run("write", "p.rules", "p.sheet")[0] == 0)
+    expect("printed again", run("print", "p.sheet")[1] == text)
+    status, _, _ = shell(f"cat p.rules | '{PROGRAM}' write /dev/stdin piped.sheet")
+    expect("a pipe is read once", status == 0 and read("piped.sheet") == read("p.sheet"))
+    write("p.sheet", OLD)
+    expect("rules with faults are not written", run("write", example("faults.rules"), "p.sheet")[0] == 8 and read("p.sheet") == OLD)
+
+
+# rules that are refused, the number, a word of what is told, and how it is mended
+REFUSED_RULES = [
+    (read(os.path.join(EXAMPLES, "typo.rules")), 40, b"There may stand", read(os.path.join(EXAMPLES, "typo.rules")).replace(b"reject;", b"reject")),
+    (b"n0n0 ::= a()", 40, b"white space between two words", b"n0 n0 ::= a()"),
+    (b"n0 ::= {if $.a0 = 1then reject} a()", 40, b"white space between two words", b"n0 ::= {if $.a0 = 1 then reject} a()"),
+    (b"n0 ::= abcdefghijklmnop()", 40, b"at most 15 bytes", b"n0 ::= abcdefghijklmno()"),
+    (b"n0 ::= a(" + b".".join([b"n1"] * 13) + b") n1 ::= b()", 40, b"12 deep", b"n0 ::= a((n1.n1.n1.n1.n1.n1.n1).(n1.n1.n1.n1.n1.n1)) n1 ::= b()"),
+    (b"n0 ::= {print " + b"".join(b"<t%d>" % i for i in range(64)) + b"} a()", 41, b"at most 64 different tags", b"n0 ::= {print " + b"".join(b"<t%d>" % i for i in range(63)) + b"} a()"),
+]
+
+
+@test
+def rules_that_are_refused_are_told_and_can_be_mended():
+    for rules, number, words, mended in REFUSED_RULES:
+        write("r.rules", rules)
+        status, out, _ = run("check", "r.rules")
+        expect(f"{rules[:40]}: {status} {out}", status == number and words in out and b"What stands there is marked" in out)
+        write("r.rules", mended)
+        expect(f"{mended[:40]} passes", run("check", "r.rules")[0] == 0)
+
+
+@test
+def rules_that_are_too_long_are_told():
+    start = b"n0 ::= a()\n#"
+    for more, number in ((262144 - len(start), 0), (262145 - len(start), 102)):
+        write("long.rules", start + b"x" * more)
+        status, out, err = run("check", "long.rules")
+        expect(f"{more}: {status} {out[:200]} {err[:200]}", status == number and (b"at most 262144 bytes" in out) == (number == 102))
+
+
+@test
 def declarations_that_are_refused_print_nothing():
     before = b"<!ELEMENT r EMPTY>\n"
     for dtd, number, column in [

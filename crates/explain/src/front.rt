@@ -86,7 +86,7 @@ fn say_of_ampersand(f: &[u8]) {
     }
     if text::name_first(b) {
         say(
-            b"It is no reference that schedules have, which are &amp; &lt; &gt; &apos; and &quot;. Write the character itself; if & is meant as text, write &amp;\n",
+            b"It is no reference that schedules have, which are &amp; &lt; &gt; &apos; &quot; and those by number, as &#160;. Write the character itself, or its number; if & is meant as text, write &amp;\n",
         );
         return;
     }

@@ -67,9 +67,43 @@ pub fn say_where(text: &[u8], place: usize) {
     places::tell_where(STDOUT_FILENO, text, at);
 }
 
+// Whether a byte is a letter, a digit or an underscore: words are of these.
+fn is_of_word(b: u8) -> bool {
+    text::name_first(b) | ((48 <= b) & (b <= 57))
+}
+
+// Whether a byte joins two parts of a row.
+fn joins(b: u8) -> bool {
+    (b == b'.') | (b == b'|')
+}
+
+// Where what stands there is right by its kind, and only its place or its length is wrong: why it is refused all the same.
+fn say_hint(text: &[u8], at: usize) {
+    if at == 0 {
+        return;
+    }
+    if at >= text.len() {
+        return;
+    }
+    let before = text[at - 1];
+    let here = text[at];
+    if is_of_word(before) & is_of_word(here) {
+        say(
+            b"A word ends in front of this. Put white space between two words; a name has at most 15 bytes, nonterminals are n0 to n63, and values are 0 to 63.\n",
+        );
+        return;
+    }
+    if joins(here) & !joins(before) & (before != b'(') {
+        say(
+            b"If the row is too long here: a rule has at most 32 nodes, 12 deep. Put parts of a long row in parentheses, as (n1.n2.n3).(n4.n5.n6).\n",
+        );
+    }
+}
+
 // Says where a text of rules is refused, what stands there and what may stand there.
 pub fn say_refused(text: &[u8], refused: usize) {
     say_where(text, refused);
     let at = within(refused, text);
     say_instead(&text[..at]);
+    say_hint(text, at);
 }

@@ -13,16 +13,18 @@ pub const FILE: u64 = 102;
 // The longest text that is read from a file.
 pub const LONGEST: usize = 262144;
 
-// What came of it: 0, and how many bytes the sheet has; or the number that was told.
+// What came of it: 0, how many bytes the sheet has, and how many the text that it was written from, none where the file holds a sheet; or the number that was told.
 pub struct Loaded {
     pub number: u64,
     pub length: usize,
+    pub text: usize,
 }
 
 fn failed(number: u64) -> Loaded {
     Loaded {
         number: number,
         length: 0,
+        text: 0,
     }
 }
 
@@ -63,6 +65,7 @@ fn write(path: &[u8], text: &[u8], sheet: &mut [u8]) -> Loaded {
     Loaded {
         number: 0,
         length: within(w.count, sheet),
+        text: text.len(),
     }
 }
 
@@ -73,10 +76,12 @@ fn sheet_of(path: &[u8], bytes: &[u8], sheet: &mut [u8]) -> Loaded {
         return Loaded {
             number: 0,
             length: lent::put_bytes(sheet, 0, &bytes[..n], true),
+            text: 0,
         };
     }
     if bytes.len() > LONGEST {
-        os::fail(path);
+        say(path);
+        say(b": this is too long for rules: at most 262144 bytes are read.\n");
         return failed(FILE);
     }
     write(path, bytes, sheet)
@@ -103,6 +108,22 @@ pub fn memory() -> [u8; 262145]
 pub fn load(path: &[u8], sheet: &mut [u8]) -> Loaded {
     let mut bytes = memory();
     load_into(path, &mut bytes, sheet)
+}
+
+// Checks the rules of a file, which is read once into lent memory, and says what was found: the number of the table, and how many bytes their sheet has.
+pub fn check(path: &[u8], bytes: &mut [u8], sheet: &mut [u8]) -> Loaded {
+    let loaded = load_into(path, bytes, sheet);
+    if loaded.number > 0 {
+        return loaded;
+    }
+    let n = within(loaded.length, sheet);
+    let m = within(loaded.text, bytes);
+    let number = report::report(path, &sheet[..n], &bytes[..m]);
+    Loaded {
+        number: number as u64,
+        length: n,
+        text: m,
+    }
 }
 
 // What is found of a sheet, whose rules are a file's: with their places where it holds a text. It is read once more, into lent memory.

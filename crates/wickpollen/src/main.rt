@@ -9,6 +9,7 @@ ghost use Rattle.io.specs.Counts.{Counts};
 use conversion::Caller;
 use conversion::FILE;
 use libc::STDERR_FILENO;
+use libc::STDOUT_FILENO;
 use words::say;
 
 // The command was not understood: a number that the paper's table has not.
@@ -171,13 +172,10 @@ fn version() -> u64 {
 }
 
 fn check_file(path: &[u8]) -> u64 {
+    let mut memory = rulebooks::memory();
     let mut sheet = io::large_buffer();
-    let loaded = rulebooks::load(path, &mut sheet);
-    if loaded.number > 0 {
-        return loaded.number;
-    }
-    let n = files::within(loaded.length, &sheet);
-    rulebooks::report(path, &sheet[..n]) as u64
+    let checked = rulebooks::check(path, &mut memory, &mut sheet);
+    checked.number
 }
 
 // Puts a sheet in place, and says so.
@@ -190,18 +188,15 @@ fn put_sheet(path: &[u8], sheet: &[u8], caller: Caller) -> u64 {
     0
 }
 
-// Writes the rules of a file as a sheet, if they pass.
+// Writes the rules of a file as a sheet, if they pass: the very bytes that were checked, since a pipe can be read only once and a file may change.
 fn write_file(path: &[u8], to: &[u8], caller: Caller) -> u64 {
-    let number = check_file(path);
-    if number > 0 {
-        return number;
-    }
+    let mut memory = rulebooks::memory();
     let mut sheet = io::large_buffer();
-    let loaded = rulebooks::load(path, &mut sheet);
-    if loaded.number > 0 {
-        return loaded.number;
+    let checked = rulebooks::check(path, &mut memory, &mut sheet);
+    if checked.number > 0 {
+        return checked.number;
     }
-    let n = files::within(loaded.length, &sheet);
+    let n = files::within(checked.length, &sheet);
     put_sheet(to, &sheet[..n], caller)
 }
 
@@ -226,7 +221,10 @@ fn print_through(path: &[u8], sheet: &[u8], text: &mut [u8]) -> u64 {
         return refuse_print(path, p.number as u64);
     }
     let n = files::within(p.count, text);
-    say(&text[..n]);
+    if !io::write_all(STDOUT_FILENO, &text[..n]) {
+        os::fail(b"standard output");
+        return FILE;
+    }
     0
 }
 

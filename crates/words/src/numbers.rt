@@ -128,11 +128,11 @@ pub fn tell_of_declarations(fd: i32, number: usize) {
         ),
         53 => tell(
             fd,
-            b"This makes the model larger than the 32 nodes that a rule may have. A name is one node, and so is each , and |; ? adds two, * adds one, and + adds two and all of what it stands behind once more. Leave out marks that say the same twice (((a)+)+ is (a+)). If it is still too large, let it hold more than it says: (a|b|c)* takes any row of a, b and c, with room for 16 names; or give a part of the model to an element of its own, which the schedules must then have.",
+            b"This makes the model larger than the 32 nodes that a rule may have. A name is one node, and so is each , and |; ? adds two, * adds one, and + adds two and all of what it stands behind once more. Leave out marks that say the same twice (((a)+)+ is (a+)). If it is still too large, let it hold more than it says: (a|b|c)* takes any row of a, b and c, with room for 16 names in groups, as ((a|b|c)|(d|e|f))*; or give a part of the model to an element of its own, which the schedules must then have.",
         ),
         54 => tell(
             fd,
-            b"This makes the model deeper than the 12 levels that a rule may have, or opens more than 32 parentheses at once. Each , or | of a row puts all that stands before it one level deeper, and so does each mark: put parts of a long row in parentheses, as ((a,b,c),(d,e,f)) for (a,b,c,d,e,f), and leave out parentheses around one name and marks over marks. In mixed content there are no groups: name at most 10 elements there, and add the others in the rules. If it is still too deep, give a part of the model to an element of its own, which the schedules must then have.",
+            b"This makes the model deeper than the 12 levels that a rule may have, or opens more than 32 parentheses at once. Each , or | of a row puts all that stands before it one level deeper, and so does each mark, a + by two: put parts of a long row in parentheses, as ((a,b,c),(d,e,f)) for (a,b,c,d,e,f), and leave out parentheses around one name and marks over marks. In mixed content there are no groups: name at most 10 elements there, and add the others in the rules. If it is still too deep, give a part of the model to an element of its own, which the schedules must then have.",
         ),
         55 => tell(
             fd,
