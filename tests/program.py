@@ -592,7 +592,7 @@ def no_input_up_to_a_place_is_shorter():
                 here = {b for a, b in after | {(0, b) for b in first} if a in here and kinds[atoms[b - 1]] == kind}
             expect(f"{shown!r} leads to place {place} of {text!r}", place in here)
             told += 1
-    expect(f"many were told, not {told}", told > 100)
+    expect(f"many were told, not {told}", told > 50)
 
 
 # ---- declarations of a DTD

@@ -18,7 +18,7 @@ use Rattle.sketches.specs.Sketched.{sketch, listingOf}
 use Rattle.sketches.specs.Promises.{Drawn, ProgramTaken, goes-on, ends}
 use Rattle.sketches.proofs.Promises.{programs-alike, plain-takes, plain-goes, program-goes, program-ends, program-takes}
 use Rattle.sketches.proofs.Fitting.{no-unbrace}
-use Rattle.sketches.proofs.Kinds.{unbrace-kind}
+use Rattle.sketches.proofs.Braces.{unbrace-kind}
 use Rattle.drafts.specs.declared.Draft.{Draft}
 use Rattle.drafts.specs.declared.Stepped.{Stepped}
 use Rattle.drafts.specs.declared.Place.{Place}

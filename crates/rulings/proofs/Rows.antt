@@ -19,7 +19,7 @@ use Rattle.sketches.specs.Sketched.{listingOf}
 use Rattle.sketches.specs.Promises.{Drawn, goes-on, ends, ProgramRow}
 use Rattle.sketches.proofs.Promises.{drawn-first, ends-alike, plain-marks, program-marks}
 use Rattle.sketches.proofs.Fitting.{no-unbrace}
-use Rattle.sketches.proofs.Kinds.{unbrace-kind}
+use Rattle.sketches.proofs.Braces.{unbrace-kind}
 use Rattle.drafts.specs.declared.Draft.{Draft}
 use Rattle.drafts.specs.declared.Place.{Place}
 use Rattle.drafts.specs.Drafted.{sketchOf, DraftIs, programIf, PlaceIs}

@@ -2,6 +2,6 @@ pub mod Entered
 pub mod Figures
 pub mod Fitting
 pub mod Kept
-pub mod Kinds
+pub mod Braces
 pub mod Promises
 pub mod Steps

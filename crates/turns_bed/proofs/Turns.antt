@@ -18,7 +18,7 @@ use Rattle.reading.proofs.Braces.{list-stops}
 use Rattle.lexemes.specs.Kinds.{kindOf, numberOf}
 use Rattle.sketches.specs.Moves.{Sketch, programAt}
 use Rattle.sketches.specs.Sketched.{pointOf, sketch, listingIn}
-use Rattle.sketches.proofs.Kinds.{unbrace-kind}
+use Rattle.sketches.proofs.Braces.{unbrace-kind}
 use Rattle.drafts.specs.Drafted.{programIf}
 use Rattle.packing.specs.Packed.{field}
 use Rattle.beds.specs.declared.Bed.{Bed}

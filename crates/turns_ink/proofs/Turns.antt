@@ -26,7 +26,7 @@ use Rattle.inks.specs.declared.Ink.{Ink}
 use Rattle.inks.specs.Held.{inksIn, Trim, InkIs}
 use Rattle.inks.specs.Promises.{Inked}
 use Rattle.inks.proofs.Promises.{starts-inked, puts-inked, items-inked}
-use Rattle.sketches.proofs.Kinds.{unbrace-kind}
+use Rattle.sketches.proofs.Braces.{unbrace-kind}
 use Rattle.turns_ink.specs.Turned.{ItemPlaced, InkTurned}
 
 none-some : {A B : Type 0} {x : A} → none ≡ some x → B
