@@ -776,7 +776,7 @@ def the_program_that_rejects_is_named():
         (b"n0 ::= {reject} list(n1*)\nn1 ::= item()", b" <list><item/></list>", b"in front of <list>, of production 0 (n0 <list>)"),
         (b"n0 ::= list(({reject} n1*).n2)\nn1 ::= item()\nn2 ::= last()", b"<list><item/></list>", b"in front of [1 n1 <item>]*, in production 0 (n0 <list>)"),
         (b"n0 ::= list((n1* {reject}).n2)\nn1 ::= item()\nn2 ::= last()", b"<list><item/><last/></list>", b"behind [1 n1 <item>]*, in production 0 (n0 <list>)"),
-        (b"n0 ::= list(({reject} n1)|{reject} n2)\nn1 ::= item()\nn2 ::= last()", b"<list><last/></list>", b"in front of [2 n2 <last>], in production 0 (n0 <list>)"),
+        (b"n0 ::= list(({reject} n1)|({reject} n2))\nn1 ::= item()\nn2 ::= last()", b"<list><last/></list>", b"in front of [2 n2 <last>], in production 0 (n0 <list>)"),
         (b"n0 ::= list({reject} CHAR*)", b"<list>x</list>", b"in front of [1 any character]*, in production 0 (n0 <list>)"),
     ]:
         write("rules", rules)
