@@ -20,6 +20,8 @@ ROOT = os.path.dirname(os.path.dirname(os.path.abspath(__file__)))
 PAGE = os.path.join(ROOT, 'docs', 'READING.md')
 WORD = re.compile(r'[^\s(){};,.λ→]+')
 FIELD = re.compile(r'(?<=\s)\.[^\s(){};,.]+|(?<=[{;])\s*[^\s=]+ =')  # x .field, and a field that is given a value
+# names that a line defines: behind `abbrev`, `pub`, `data` or `record`, parameters too; else plainly in front of a colon, since a clause, or a type that goes on, may hold one further on
+NAMED = re.compile(r'^ {0,4}(?! )(?:(?:abbrev |unfoldable |mutual |pub |data |record )+([^:(){}=→×]+?)(?: [({].*)?|([^:(){}=→×]+?)) :')
 USE = re.compile(r'^use Rattle·(\w+)(?:·specs)?\.specs\.([\w.-]+?)\.\{(.*)\}')
 
 PASSED = {('converter', 'Answered', 'AnsweredAs'), ('converter', 'Bytes', 'BytesAnsweredAs'), ('capi', 'Started', 'StartedAs'), ('capi', 'RunAnswer', 'RunAs'), ('calls', 'Call', 'Called')}
@@ -42,8 +44,16 @@ DEMANDS = [
     ('The starred examples', ['worked.Worked.RowHolds', 'worked.Worked.worked']),
     ('§1: rules typed as text, written as a sheet', ['writing.Written.WrittenAs', 'writing.Promises.OneWriting']),
     ('§1: sheets printed as text, and the way back', ['printing.Printed.PrintedAs', 'printing.Promises.RoundTrips', 'printing.Promises.WritesTheSame']),
+    ('§4: visits per token, and of an accepted stream', ['ceiling.Visits.CeilingKept', 'calls.Accepted.TwiceTheNodes']),
+    ('§4: the same of the code, for hosts in C too', ['cost.Cost.CallsCost', 'cost.Cost.BytesCost', 'cost.Cost.HostsCost']),
+    ('§4: a faulty expression has no ceiling', ['few.Broken.NoCeiling']),
     ('§6: content models from a DTD', ['declaring.Declares.DeclaredAs', 'declaring.Promises.ModelsAreWritten', 'models.Promises.SameLanguage']),
+    ('§7: a sheet that kept the old bounds', ['widening.AsBefore.OldAsBefore', 'widening.AsBefore.FreshIsToday']),
+    ('§9: regrouping changes neither the faults nor the language', ['grouping.Laws.AtomsStay', 'grouping.Laws.FaultsStay', 'grouping.Laws.ListStays', 'grouping.Laws.BytesStay', 'grouping.Laws.LanguageStays']),
+    ('§9: the visit count under another grouping', ['grouping.Laws.CountStays', 'grouping.Laws.AcceptedCountStays', 'grouping.Unions.UnionsChangeTheCount']),
     ('§12: what a stream is salvaged to', ['salvage.Promises.OneSalvage', 'salvage.Promises.SalvageIsCut']),
+    ('§12: as if that record had never been sent', ['salvage.NeverSent.AsIfNeverSent']),
+    ('§12: a stream that is never refused', ['salvage.Promises.NeverRefused']),
     ('§12: a call of the salvage run over bytes', ['rescued.Salvaged.SalvagedAs']),
 ]
 
@@ -74,9 +84,9 @@ class File:
         while lines and not lines[-1]:
             lines.pop()
         for line in lines:
-            named = re.match(r'^ {0,4}(?! )(?:abbrev |unfoldable )*(?:mutual )?(?:pub )?(?:data |record )?([^:(){}=]+?)(?: [({].*)? :', line)
+            named = NAMED.match(line)
             if named and not line.lstrip().startswith('--'):
-                for name in named[1].split():
+                for name in (named[1] or named[2]).split():
                     self.defined.setdefault(name, len(self.blocks))
         self.blocks.append(lines)
 
@@ -108,6 +118,8 @@ def needed(statements):
         for line in there.blocks[block]:
             code = FIELD.sub(' ', line.split('--')[0])
             for used in WORD.findall(code):
+                if '_%s_' % used in there.defined or '_%s_' % used in there.imports:  # a sign that stands between its two sides
+                    used = '_%s_' % used
                 if used in there.defined:
                     todo.append((crate, name, used))
                 elif used in there.imports:
