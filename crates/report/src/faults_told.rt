@@ -3,19 +3,19 @@ ghost use Prim.Native.Nat.{_+_, _<_};
 ghost use lib.ListN.{length};
 ghost use Rattle.layout.specs.LaidOut.{LaidOut};
 ghost use Rattle.trees.specs.Parsed.{RunsInside};
-use crate::example::say_example;
 use crate::reasons::say_reason;
 use layout::Layout;
 use layout::byte_at;
 use layout::nonterminal_of;
 use layout::tag_number_of;
+use samples::say_example;
 use trees::alike;
+use whereabouts::say_place;
+use whereabouts::say_production;
 use words::say;
-use words::say_atom;
 use words::say_expression;
 use words::say_next;
 use words::say_number;
-use words::say_ordinal;
 use words::say_tag;
 
 // Whether production q is of nonterminal m and has tag t.
@@ -53,7 +53,7 @@ fn say_places_alike(s: &[u8], l: Layout, m: usize, t: usize, text: &[u8])
     let mut q = 0;
     while q < l.productions {
         if is_alike(s, l, q, m, t) {
-            pointing::say_production(text, q);
+            crate::pointing::say_production(text, q);
         }
         q += 1;
     }
@@ -71,40 +71,6 @@ fn say_t_fault(s: &[u8], l: Layout, m: usize, t: usize)
     say(b" (productions ");
     say_alike(s, l, m, t);
     say(b"): give all but one another tag");
-}
-
-pub(crate) fn say_production(s: &[u8], l: Layout, q: usize)
-    requires { ⌜ LaidOut (now s) l ⌝ }
-    requires { ⌜ q < l .productions ⌝ }
-{
-    say(b"production ");
-    say_number(q);
-    say(b" (n");
-    say_number(nonterminal_of(s, l, q));
-    say(b" ");
-    say_tag(s, l, tag_number_of(s, l, q));
-    say(b")");
-}
-
-// A place of production q.
-pub(crate) fn say_place(s: &[u8], l: Layout, q: usize, p: usize)
-    requires { ⌜ LaidOut (now s) l ⌝ }
-    requires { ⌜ RunsInside (now s) ⌝ }
-    requires { ⌜ q < l .productions ⌝ }
-{
-    if p == 0 {
-        say(b"at the start");
-        return;
-    }
-    say(b"after the ");
-    say_ordinal(p);
-    say(b" atom");
-    let found = words::node_of_atom(s, l, q, p);
-    if let words::Found::At(i) = found {
-        say(b" (");
-        say_atom(s, l, i);
-        say(b")");
-    }
 }
 
 // Rule S's fault at place p of production q, where x is next.

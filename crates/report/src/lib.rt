@@ -1,9 +1,7 @@
-// What people are told of a rule sheet: whether it passes and every place to mend; and where in its expressions a schedule stands.
-mod example;
+// What people are told of a rule sheet: whether it passes and every place to mend.
 mod faults_told;
-mod opened;
+mod pointing;
 mod reasons;
-mod rejected;
 
 ghost use Rattle.faults.specs.Verdict.{VerdictIs};
 use layout::layout_of;
@@ -31,28 +29,6 @@ fn say_faults(sheet: &[u8], list: &[u8], count: usize, text: &[u8]) {
     }
     let l = layout_of(sheet);
     faults_told::say_all(sheet, l, list, count, text);
-}
-
-// Says which elements are open, by the numbers of their productions from the outside in, on which lines they began, and at which place the innermost stands, in a
-// schedule of a sheet that is well-formed; of any other sheet it says nothing.
-pub fn say_open(sheet: &[u8], productions: &[u8], lines: &[u64], place: usize) {
-    if sheet::defect(sheet) > 0 {
-        return;
-    }
-    let l = layout_of(sheet);
-    opened::say_around(sheet, l, productions, lines, place);
-}
-
-// Says which program of a sheet that is well-formed rejected a token: that of a production's node, counted from 1 in preorder, and with 0 the production's own; the second
-// visit's where it is `again`. Of any other sheet, and of a production that it has not, it says nothing.
-pub fn say_rejected(sheet: &[u8], production: usize, node: usize, again: bool) {
-    if sheet::defect(sheet) > 0 {
-        return;
-    }
-    let l = layout_of(sheet);
-    if production < l.productions {
-        rejected::say_program(sheet, l, production, node, again);
-    }
 }
 
 // What was found: the number, the first wrong record, or every nonterminal of a text that has no production; every fault.

@@ -1,16 +1,17 @@
 // Why a fault of rule S is one: the atoms that the next symbol could be, and the sign at which the two ways to them part.
-ghost use Prim.Native.Nat.{_+_, _≤_, _<_};
+ghost use Prim.Native.Nat.{_≤_, _<_};
 ghost use Rattle.layout.specs.LaidOut.{LaidOut};
 use layout::Layout;
 use layout::first_node_of;
 use layout::kind_of;
 use trees::Symbol;
+use whereabouts::node_of;
+use whereabouts::say_atom_at;
+use whereabouts::say_part;
 use witness::Row;
 use witness::witness;
 use words::say;
 use words::say_next;
-use words::say_numbered;
-use words::say_tree;
 
 // The bytes of a list's entry that stand for a character and for the end.
 const CHARACTER: usize = 254;
@@ -27,50 +28,6 @@ fn symbol_of(x: usize) -> Symbol {
     Symbol::Tag(x)
 }
 
-// The number of the first atom behind node k, where `number` is that of the first at k or behind it.
-fn number_past(s: &[u8], l: Layout, k: usize, number: usize) -> usize
-    requires { ⌜ LaidOut (now s) l ⌝ }
-    requires { ⌜ k < l .nodes ⌝ }
-    requires { ⌜ number ≤ k + 1 ⌝ }
-    ensures { λ r. ⌜ r ≤ k + 2 ⌝ }
-{
-    if kind_of(s, l, k) < 3 {
-        return number + 1;
-    }
-    number
-}
-
-// The number of the first atom at node i or behind it, in a production whose first node is `first`: atoms are counted from 1.
-fn atom_number(s: &[u8], l: Layout, first: usize, i: usize) -> usize
-    requires { ⌜ LaidOut (now s) l ⌝ }
-    requires { ⌜ i ≤ l .nodes ⌝ }
-    ensures { λ r. ⌜ r ≤ i + 1 ⌝ }
-{
-    let mut number = 1;
-    let mut k = first;
-    while k < i {
-        number = number_past(s, l, k, number);
-        k += 1;
-    }
-    number
-}
-
-// The node of a bracket, which is counted from 1 in its production; the sheet's count of nodes where it has no such node.
-pub(crate) fn node_of(l: Layout, first: usize, bracket: usize) -> usize
-    ensures { λ r. ⌜ r ≤ l .nodes ⌝ }
-{
-    if l.nodes < first {
-        return l.nodes;
-    }
-    if l.nodes - first < bracket {
-        return l.nodes;
-    }
-    if bracket == 0 {
-        return l.nodes;
-    }
-    first + bracket - 1
-}
-
 // The node of the atom whose opening bracket a string ends with; the sheet's count of nodes where it ends with none.
 fn reached(l: Layout, first: usize, row: Row) -> usize
     ensures { λ r. ⌜ r ≤ l .nodes ⌝ }
@@ -84,25 +41,6 @@ fn reached(l: Layout, first: usize, row: Row) -> usize
         return l.nodes;
     }
     node_of(l, first, bytes[n - 1] as usize / 2)
-}
-
-// The atom that is node i, by its number.
-fn say_atom_at(s: &[u8], l: Layout, first: usize, i: usize)
-    requires { ⌜ LaidOut (now s) l ⌝ }
-    requires { ⌜ i ≤ l .nodes ⌝ }
-{
-    if i < l.nodes {
-        say_numbered(s, l, i, atom_number(s, l, first, i));
-    }
-}
-
-// The tree whose first node is i.
-pub(crate) fn say_part(s: &[u8], l: Layout, first: usize, i: usize)
-    requires { ⌜ LaidOut (now s) l ⌝ }
-    requires { ⌜ i ≤ l .nodes ⌝ }
-{
-    let atom = atom_number(s, l, first, i);
-    say_tree(s, l, i, l.nodes - i, atom, 0);
 }
 
 // The sign: a star or a union.
@@ -163,5 +101,5 @@ pub(crate) fn say_reason(s: &[u8], l: Layout, q: usize, p: usize, x: usize, text
     say(b"; the two part at ");
     say_sign(s, l, first, r.sign);
     say(b"\n");
-    pointing::say_sign(text, s, q, r.sign);
+    crate::pointing::say_sign(text, s, q, r.sign);
 }

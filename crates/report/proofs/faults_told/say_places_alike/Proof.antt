@@ -5,7 +5,7 @@ use Rattle.report.proofs.faults_told.say_places_alike.Statement.{statem
 use Rattle.report.proofs.faults_told.say_places_alike.Tie as tie
 use Rattle.report.proofs.faults_told.say_places_alike.Reads as reads
 use Rattle.report.proofs.faults_told.say_places_alike.Lts as lts
-use Rattle.pointing.proofs.say_production.Reads as say-production-reads
+use Rattle.report.proofs.pointing.say_production.Reads as say-production-reads
 use Rattle.report.proofs.faults_told.is_alike.Reads as is-alike-reads
 
 abbrev Inv-loop : tie.InvT-loop
