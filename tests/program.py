@@ -418,6 +418,22 @@ def a_sheet_of_another_shape_is_refused():
 
 
 @test
+def a_full_room_outside_a_programme_is_told_as_such():
+    prints = b"; ".join([b'print "' + b"&" * 255 + b'"'] * 63)  # 80,325 bytes as they are written
+    for rules, says in [
+        (b"n0 ::= {%s} r(n1*)\nn1 ::= a()\n" % prints, b"Here the room is 65536 bytes"),
+        (b"n0 ::= r(n1*) {%s}\nn1 ::= a()\n" % prints, b"Here the room is 65536 bytes"),
+        (b"n0 ::= r(n1*)\nn1 ::= {%s} a()\n" % prints, b"Here a programme waits"),
+    ]:
+        write("wide.rules", rules)
+        write("wide.schedule", b"<r><a></a></r>")
+        write("listing", OLD)
+        status, out, _ = run("convert", "--salvage", "wide.rules", "wide.schedule", "listing")
+        expect(f"17 and {says}, not {status}: {out}", status == 17 and says in out)
+        unchanged()
+
+
+@test
 def lines_and_counts_do_not_depend_on_where_a_part_ended():
     for ending in [b"\n", b"\r\n", b"\r"]:
         for shift in range(0, 40, 13):
@@ -890,6 +906,8 @@ def convert_and_try_mark_the_faults_of_a_text_too():
     for words in (["try"], ["convert"]):
         status, out, _ = run(words[0], "a.rules", "a.schedule", *(["listing"] if words[0] == "convert" else []))
         expect("9, and the same report", status == 9 and out.decode().startswith(said))
+    status, out, _ = shell(f"cat a.rules | '{PROGRAM}' try /dev/stdin a.schedule")
+    expect("of a pipe, which is read once, too", status == 9 and out.decode().split("\n", 1)[1].startswith(said.split("\n", 1)[1]))
 
 
 @test

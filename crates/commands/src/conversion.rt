@@ -3,12 +3,12 @@ mod run;
 
 use crate::listings::NO_FILE;
 use crate::listings::begin;
-use crate::listings::refuse;
 use crate::listings::settle;
 use crate::listings::tell_broken;
 use crate::rulebooks::FILE;
-use crate::rulebooks::load;
+use crate::rulebooks::load_passing;
 use callers::Caller;
+use outcomes::tell_refusal;
 use outcomes::tell_tried;
 use run::run;
 use standing::is_broken;
@@ -18,7 +18,6 @@ use standing::top_up;
 // From a schedule that is open into a new file that is open.
 fn convert_open(
     sheet: &[u8],
-    sheet_path: &[u8],
     schedule: &[u8],
     from: i32,
     listing: &[u8],
@@ -30,17 +29,7 @@ fn convert_open(
     let mut out = io::large_buffer();
     let s = run(sheet, from, to, &mut part, &mut out, caller);
     let held = top_up(from, &mut part, s.held, is_refused(s));
-    settle(
-        sheet,
-        sheet_path,
-        schedule,
-        listing,
-        to,
-        name,
-        caller,
-        s,
-        &part[..held],
-    )
+    settle(sheet, schedule, listing, to, name, caller, s, &part[..held])
 }
 
 // Converts the file at schedule by the rules at sheet_path into a file at listing, says what came of it, and answers the number of the
@@ -56,7 +45,6 @@ pub fn convert_files(sheet_path: &[u8], schedule: &[u8], listing: &[u8], caller:
     let m = files::within(b.name, &name);
     let number = convert_open(
         &sheet[..n],
-        sheet_path,
         schedule,
         b.from,
         listing,
@@ -69,7 +57,7 @@ pub fn convert_files(sheet_path: &[u8], schedule: &[u8], listing: &[u8], caller:
 }
 
 // A schedule that is open, converted into nothing.
-fn try_open(sheet: &[u8], sheet_path: &[u8], schedule: &[u8], from: i32, caller: Caller) -> u64 {
+fn try_open(sheet: &[u8], schedule: &[u8], from: i32, caller: Caller) -> u64 {
     let mut part = io::large_buffer();
     let mut out = io::large_buffer();
     let s = run(sheet, from, NO_FILE, &mut part, &mut out, caller);
@@ -79,7 +67,8 @@ fn try_open(sheet: &[u8], sheet_path: &[u8], schedule: &[u8], from: i32, caller:
         return FILE;
     }
     if s.number > 0 {
-        return refuse(sheet, sheet_path, schedule, s, &part[..held]);
+        tell_refusal(sheet, schedule, s, &part[..held]);
+        return s.number as u64;
     }
     tell_tried(schedule, s);
     0
@@ -88,7 +77,7 @@ fn try_open(sheet: &[u8], sheet_path: &[u8], schedule: &[u8], from: i32, caller:
 // Says what convert_files would say of the same sheet and schedule, answers the same number, and writes no file.
 pub fn try_files(sheet_path: &[u8], schedule: &[u8], caller: Caller) -> u64 {
     let mut sheet = io::large_buffer();
-    let loaded = load(sheet_path, &mut sheet);
+    let loaded = load_passing(sheet_path, &mut sheet);
     if loaded.number > 0 {
         return loaded.number;
     }
@@ -98,7 +87,7 @@ pub fn try_files(sheet_path: &[u8], schedule: &[u8], caller: Caller) -> u64 {
         os::fail(schedule);
         return FILE;
     }
-    let number = try_open(&sheet[..n], sheet_path, schedule, from, caller);
+    let number = try_open(&sheet[..n], schedule, from, caller);
     libc::close(from);
     number
 }

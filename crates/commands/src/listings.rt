@@ -1,8 +1,7 @@
 // The files of a conversion: how they are begun, and how they are settled. A listing is written to a new file beside it, which takes its name only when the whole
 // schedule was taken: a refusal, a full disk or a killed process leaves the listing that was there.
 use crate::rulebooks::FILE;
-use crate::rulebooks::load;
-use crate::rulebooks::report;
+use crate::rulebooks::load_passing;
 use callers::Caller;
 use outcomes::tell_done;
 use outcomes::tell_refusal;
@@ -12,23 +11,6 @@ use standing::is_broken;
 
 // In place of a descriptor: there is no file to write to.
 pub(crate) const NO_FILE: i32 = -1;
-
-// Says what was refused: the sheet, with all its faults, or a token of the schedule. The answer is the number.
-pub(crate) fn refuse(
-    sheet: &[u8],
-    sheet_path: &[u8],
-    schedule: &[u8],
-    s: Standing,
-    left: &[u8],
-) -> u64 {
-    let number = s.number;
-    if number < 11 {
-        report(sheet_path, sheet);
-    } else {
-        tell_refusal(sheet, schedule, s, left);
-    }
-    number as u64
-}
 
 // Says which file failed, and why.
 pub(crate) fn tell_broken(schedule: &[u8], listing: &[u8], s: Standing) {
@@ -44,7 +26,6 @@ pub(crate) fn tell_broken(schedule: &[u8], listing: &[u8], s: Standing) {
 // leaves errno).
 pub(crate) fn settle(
     sheet: &[u8],
-    sheet_path: &[u8],
     schedule: &[u8],
     listing: &[u8],
     to: i32,
@@ -61,9 +42,9 @@ pub(crate) fn settle(
     }
     if s.number > 0 {
         files::take_away(to, name);
-        let number = refuse(sheet, sheet_path, schedule, s, left);
+        tell_refusal(sheet, schedule, s, left);
         tell_untouched(listing);
-        return number;
+        return s.number as u64;
     }
     if !files::put_in_place(to, name, listing) {
         tell_untouched(listing);
@@ -140,8 +121,9 @@ pub(crate) fn begin(
     name: &mut [u8],
     caller: Caller,
 ) -> Begun {
-    let loaded = load(sheet_path, sheet);
+    let loaded = load_passing(sheet_path, sheet);
     if loaded.number > 0 {
+        tell_untouched(listing);
         return Begun::ended(loaded.number);
     }
     let from = os::open_read(schedule);

@@ -126,18 +126,24 @@ pub(crate) fn check(path: &[u8], bytes: &mut [u8], sheet: &mut [u8]) -> Loaded {
     }
 }
 
-// What is found of a sheet, whose rules are a file's: with their places where it holds a text. It is read once more, into lent memory.
-fn report_from(path: &[u8], sheet: &[u8], bytes: &mut [u8]) -> u8 {
-    let whole = files::read_whole(path, bytes);
-    let n = whole.held;
-    if is_text(&bytes[..n]) {
-        return report::report(path, sheet, &bytes[..n]);
+// The rules of a file as a sheet that passes, read once into lent memory; of any others it is told what was found.
+fn pass_into(path: &[u8], bytes: &mut [u8], sheet: &mut [u8]) -> Loaded {
+    let loaded = load_into(path, bytes, sheet);
+    if loaded.number > 0 {
+        return loaded;
     }
-    report::report(path, sheet, b"")
+    let n = within(loaded.length, sheet);
+    let number = faults::verdict(&sheet[..n]);
+    if number > 0 {
+        let m = within(loaded.text, bytes);
+        report::report(path, &sheet[..n], &bytes[..m]);
+        return failed(number as u64);
+    }
+    loaded
 }
 
-// Checks a sheet whose rules are a file's, says what was found, and answers the number of the table.
-pub(crate) fn report(path: &[u8], sheet: &[u8]) -> u8 {
+// The rules of a file as a sheet that passes.
+pub(crate) fn load_passing(path: &[u8], sheet: &mut [u8]) -> Loaded {
     let mut bytes = memory();
-    report_from(path, sheet, &mut bytes)
+    pass_into(path, &mut bytes, sheet)
 }

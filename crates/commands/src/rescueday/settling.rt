@@ -91,17 +91,7 @@ pub(crate) fn settle(
         tell_untouched(listing);
         return s.number as u64;
     }
-    crate::listings::settle(
-        sheet,
-        sheet_path,
-        schedule,
-        listing,
-        to,
-        name,
-        caller,
-        s,
-        left,
-    )
+    crate::listings::settle(sheet, schedule, listing, to, name, caller, s, left)
 }
 
 // Tells what was dropped, by reading the schedule again, and answers the number.
