@@ -5,7 +5,7 @@
 
 Needs `rt check wickpollen` first, and Linux. Each test has a folder of its own; its last line is "N passed, 0 failed".
 """
-import os, pty, resource, shutil, signal, stat, subprocess, sys, tempfile, time
+import os, pty, resource, shutil, signal, stat, struct, subprocess, sys, tempfile, time
 
 HERE = os.path.dirname(os.path.dirname(os.path.abspath(__file__)))
 PROGRAM = os.path.join(HERE, "bin", "wickpollen")
@@ -463,6 +463,14 @@ def a_schedule_from_a_pipe_has_its_bytes_told():
 
 
 @test
+def first_words_cut_no_character():
+    for before, shown in [(38, "x" * 38 + "\u00e9"), (39, "x" * 39), (40, "x" * 40)]:
+        title = ("x" * before + "\u00e9" + "y" * 9).encode()
+        out = salvaged(day([b"<programme><start>1</start><title>" + title + b"</titel></programme>\n"]), 103)
+        expect(f"{before} before it", b"Dropped: " + shown.encode() + b" ..\n" in out)
+
+
+@test
 def what_has_no_room_is_told():
     out = salvaged(day([DAMAGED % (n, n) for n in range(2730)]), 103)
     expect("2730 stretches", out.count(b"Dropped: ") == 2730 and b"Programmes kept: 0.\n" in out)
@@ -730,6 +738,20 @@ def nothing_shown_can_be_taken_for_another_byte():
     expect("characters, and others by number", "<start>now</start><titel>\u00e9 \\\\x41 \\xe2\\x80\\xae \\x7f</programme> ..\n".encode() in out)
 
 
+# what Unicode says to show nothing for (Default_Ignorable_Code_Point), and with 2028 to 202F line and paragraph ends and the narrow no-break space
+UNSEEN = [(0xAD, 0xAD), (0x34F, 0x34F), (0x61C, 0x61C), (0x115F, 0x1160), (0x17B4, 0x17B5), (0x180B, 0x180F), (0x200B, 0x200F), (0x2028, 0x202F), (0x2060, 0x206F), (0x3164, 0x3164),
+          (0xFE00, 0xFE0F), (0xFEFF, 0xFEFF), (0xFFA0, 0xFFA0), (0xFFF0, 0xFFF8), (0x1BCA0, 0x1BCA3), (0x1D173, 0x1D17A), (0xE0000, 0xE0FFF)]
+
+
+@test
+def what_shows_nothing_is_shown_by_number():
+    for first, last in UNSEEN:
+        seen, unseen = chr(first - 1) + chr(last + 1), chr(first) + chr(last)
+        out = told(programme(("<titel>" + seen + unseen).encode()), 23)
+        by_number = b"".join(b"\\x%02x" % b for b in unseen.encode())
+        expect(f"{first:x} to {last:x}, and not those beside them", b"<titel>" + seen.encode() + by_number + b"</pro" in out)
+
+
 def marked(out):
     """The line that is shown, and how many columns come before the mark."""
     lines = out.decode().splitlines()
@@ -745,6 +767,24 @@ def what_was_refused_is_marked_in_its_line():
     expect("the mark", line[column:].startswith("<titel>"))
     line, column = marked(told(b"<schedule><programme><start>" + 30 * "\u00e9".encode() + b"x</start><titel/>", 23))
     expect("a long line is cut at a character", line.startswith(".. \u00e9\u00e9") and line[column:].startswith("<titel/>"))
+
+
+@test
+def a_line_of_rules_is_shown_up_to_its_end():
+    for end in ["\n", "\r\n", "\r"]:
+        out = checked(end.join(["n0 ::= r(!)", "n1 ::= s()", ""]), 40)
+        expect(f"the first line with {end!r}", "at line 1, column 10." in out and marked(out.encode()) == ("n0 ::= r(!)", 9))
+        out = checked(end.join(["n0 ::= r()", "n1 ::= s(!)", "n2 ::= t()"]), 40)
+        expect(f"the second line with {end!r}", "at line 2, column 10." in out and marked(out.encode()) == ("n1 ::= s(!)", 9))
+
+
+@test
+def a_line_of_rules_is_cut_at_a_character():
+    for character in ["\u00e9", "\u20ac", "\U0001f600"]:
+        for before in range(26, 33):
+            rest = "!" + "x" * before + character + "y" * 40
+            shown = max((rest[:n] for n in range(len(rest)) if len(rest[:n].encode()) <= 32), key=len)
+            expect(f"{before} before {character}", marked(checked("n0 ::= r(" + rest, 40).encode()) == ("n0 ::= r(" + shown, 9))
 
 
 @test
@@ -828,6 +868,26 @@ def the_first_wrong_record_is_named():
     ]:
         status, out = damaged(at, byte)
         expect(f"byte {at} as {byte} gives {number}, not {status}", status == number)
+        expect(f"{says!r} is said, not {out!r}", says in out)
+
+
+@test
+def strings_that_are_too_long_are_told():
+    def sheet(count, length):
+        """A sheet with so many bytes of strings, of which the trailer says that they are `length`."""
+        front = b"\x01a" + bytes(14) + bytes(6) + b"\xff" * 4 + bytes(2)
+        return front + b"a" * count + struct.pack("<12H", 0, 1, 16, 1, 28, 0, 28, 0, 28, length, 0, 21336)
+
+    too_many = b"from byte 28 of the file on (counted from 0), there are 8193 bytes: they are the strings, and strings have at most 8192.\n"
+    for count, length, number, says in [
+        (8193, 8193, 2, too_many),
+        (8193, 0, 2, too_many),
+        (8192, 8193, 2, b"the length of the strings, from byte 8238 of the file on (counted from 0): it is 8193, and has to be 8192.\n"),
+        (8192, 8192, 0, b"The sheet passes"),
+    ]:
+        write("sheet", sheet(count, length))
+        status, out, _ = run("check", "sheet")
+        expect(f"{count} as {length} gives {number}, not {status}", status == number)
         expect(f"{says!r} is said, not {out!r}", says in out)
 
 

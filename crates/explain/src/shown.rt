@@ -38,12 +38,60 @@ fn one_to_four(n: usize) -> usize
     n
 }
 
-// Whether a character is seen, and as itself: no control, no mark of width 0 or of direction, no line's or paragraph's end.
+// The characters that are not seen, or not as themselves, from the first to the last of each range: controls and the no-break space, line and paragraph ends with the
+// narrow no-break space, and what Unicode says to show nothing for (Default_Ignorable_Code_Point): marks of width 0, of direction and of a sign's other form.
+const UNSEEN: [u32; 38] = [
+    0,
+    0x1F,
+    0x7F,
+    0xA0,
+    0xAD,
+    0xAD,
+    0x34F,
+    0x34F,
+    0x61C,
+    0x61C,
+    0x115F,
+    0x1160,
+    0x17B4,
+    0x17B5,
+    0x180B,
+    0x180F,
+    0x200B,
+    0x200F,
+    0x2028,
+    0x202F,
+    0x2060,
+    0x206F,
+    0x3164,
+    0x3164,
+    0xFE00,
+    0xFE0F,
+    0xFEFF,
+    0xFEFF,
+    0xFFA0,
+    0xFFA0,
+    0xFFF0,
+    0xFFF8,
+    0x1BCA0,
+    0x1BCA3,
+    0x1D173,
+    0x1D17A,
+    0xE0000,
+    0xE0FFF,
+];
+
+// Whether a character is seen, and as itself.
 fn is_seen(c: u32) -> bool {
-    match c {
-        0..=31 | 127..=160 | 173 | 8203..=8207 | 8232..=8239 | 8288..=8303 | 65279 => false,
-        _ => true,
+    let ranges = UNSEEN;
+    let mut i = 0;
+    while i < 37 {
+        if (ranges[i] <= c) & (c <= ranges[i + 1]) {
+            return false;
+        }
+        i += 2;
     }
+    true
 }
 
 // The first character or byte of some bytes, of which there is one at least. A backslash is doubled.

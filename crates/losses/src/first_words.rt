@@ -71,24 +71,9 @@ fn to_tag(f: &[u8]) -> usize {
     i
 }
 
-// As many bytes as are shown of some: no character is cut.
-fn cut(f: &[u8]) -> usize {
-    if f.len() <= SHOWN {
-        return f.len();
-    }
-    let mut n = SHOWN;
-    while 0 < n {
-        if !places::goes_on(f[n]) {
-            return n;
-        }
-        n -= 1;
-    }
-    SHOWN
-}
-
 fn say_start(f: &[u8]) {
-    let n = files::within(cut(f), f);
-    explain::say_shown(&f[..n]);
+    let n = places::uncut(f, SHOWN);
+    explain::say_shown(&f[0..n]);
     if n < f.len() {
         say(b" ..");
     }

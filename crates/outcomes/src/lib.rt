@@ -9,6 +9,7 @@ use places::say_count;
 use places::say_line_before;
 use places::say_mark;
 use places::say_place;
+use places::uncut;
 use rejecting::Rejecter;
 use rejecting::find_rejecter;
 use standing::Standing;
@@ -35,8 +36,8 @@ fn say_front(tail: Tail, bytes: &[u8]) {
     say(b"What stands there is marked:\n");
     let before = tail.bytes;
     let column = say_tail(&before, tail.length);
-    let n = files::within(SHOWN, bytes);
-    explain::say_shown(&bytes[..n]);
+    let n = uncut(bytes, SHOWN);
+    explain::say_shown(&bytes[0..n]);
     if n < bytes.len() {
         say(b" ..");
     }

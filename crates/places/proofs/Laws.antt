@@ -10,8 +10,8 @@ use mathlib.Core.List.{List, [], _∷_, _++_}
 use lib.ListN.{length, getD, drop, length-append, length-drop, drop-of-length-le}
 use lib.Seq.{drop-length, drop-cons, drop-append-seam}
 use lib.Dec.{eqb}
-use borrow.Author.Tests.{eq-eqb, ne-eqb, eqb-true, eqb-false}
-use Rattle.places.specs.Lines.{goesOn, lineFeedFirst, endsLine, count, lineEnds, lastLine, LastLineAt, starts, charactersIn, goingOn, GoesOnTo, PlaceIs}
+use borrow.Author.Tests.{eq-eqb, ne-eqb, eqb-true, eqb-false, lt-ltb, le-ltb}
+use Rattle.places.specs.Lines.{goesOn, lineFeedFirst, endsLine, count, lineEnds, lastLine, LastLineAt, starts, charactersIn, leading, LeadingIs, characterStart, uncut, UncutIs, PlaceIs}
 use Rattle.places.specs.declared.Place.{Place}
 
 -- a line ends with an LF, with no other byte but CR, with a CR that is the last byte, and with one behind which no LF stands
@@ -78,23 +78,52 @@ module _ (test : ℕ → List ℕ → Bool) where
   unfolding count
   counts-all s i n end inv = omega (arith, ap (count test) (drop-of-length-le s {i = i} end))
 
--- the rest of a character, one byte on, and where it ends
+-- the bytes at the start that keep a test, one byte on, and where they end
 
-rest-at : (s : List ℕ) (i : ℕ) → i < length s → goingOn (drop i s) ≡ cond (goesOn (getD s i 0)) (1 + goingOn (drop (suc i) s)) 0
-unfolding goingOn
-rest-at s i h = ap goingOn (drop-cons s i 0 h)
+module _ (test : ℕ → Bool) where
+  rest-at : (s : List ℕ) (i : ℕ) → i < length s → leading test (drop i s) ≡ cond (test (getD s i 0)) (1 + leading test (drop (suc i) s)) 0
+  unfolding leading
+  rest-at s i h = ap (leading test) (drop-cons s i 0 h)
 
-pub rest-on : (s : List ℕ) (i : ℕ) → i < length s → i + goingOn (drop i s) ≡ goingOn s → goesOn (getD s i 0) ≡ true → i + 1 + goingOn (drop (i + 1) s) ≡ goingOn s
-rest-on s i h inv e = rw (add-one i) (omega (arith, rest-at s i h ∙ ap (λ t. cond t (1 + goingOn (drop (suc i) s)) 0) e))
+  pub rest-on : (s : List ℕ) (i : ℕ) → i < length s → i + leading test (drop i s) ≡ leading test s → test (getD s i 0) ≡ true
+      → i + 1 + leading test (drop (i + 1) s) ≡ leading test s
+  rest-on s i h inv e = rw (add-one i) (omega (arith, rest-at s i h ∙ ap (λ t. cond t (1 + leading test (drop (suc i) s)) 0) e))
 
-pub rest-stops : (s : List ℕ) (i : ℕ) → i < length s → i + goingOn (drop i s) ≡ goingOn s → goesOn (getD s i 0) ≡ false → GoesOnTo s i
-rest-stops s i h inv e =
-    let none : goingOn (drop i s) ≡ 0 = rest-at s i h ∙ ap (λ t. cond t (1 + goingOn (drop (suc i) s)) 0) e in
-    record { within = omega arith; count = omega arith }
+  pub rest-stops : (s : List ℕ) (i : ℕ) → i < length s → i + leading test (drop i s) ≡ leading test s → test (getD s i 0) ≡ false → LeadingIs test s i
+  rest-stops s i h inv e =
+      let none : leading test (drop i s) ≡ 0 = rest-at s i h ∙ ap (λ t. cond t (1 + leading test (drop (suc i) s)) 0) e in
+      record { within = omega arith; count = omega arith }
 
-pub rest-ends : (s : List ℕ) (i : ℕ) → i ≤ length s → length s ≤ i → i + goingOn (drop i s) ≡ goingOn s → GoesOnTo s i
-unfolding goingOn
-rest-ends s i h end inv = record { within = h; count = omega (arith, ap goingOn (drop-of-length-le s {i = i} end)) }
+  pub rest-ends : (s : List ℕ) (i : ℕ) → i ≤ length s → length s ≤ i → i + leading test (drop i s) ≡ leading test s → LeadingIs test s i
+  unfolding leading
+  rest-ends s i h end inv = record { within = h; count = omega (arith, ap (leading test) (drop-of-length-le s {i = i} end)) }
+
+-- the start of a character is sought from n backwards: it is found, it is one byte further back, and it is not there
+
+pub uncut-short : (s : List ℕ) (n : ℕ) → length s ≤ n → UncutIs s n (length s)
+unfolding uncut
+uncut-short s n h = record { within = omega arith; most = h; same = rw (le-ltb n (length s) h) }
+
+pub uncut-seeks : (s : List ℕ) (n : ℕ) → n < length s → characterStart s n 4 n ≡ uncut s n
+unfolding uncut
+uncut-seeks s n h = rw (lt-ltb n (length s) h)
+
+pub uncut-found : (s : List ℕ) (n k i : ℕ) → i ≤ n → n < length s → 0 < k → characterStart s n k i ≡ uncut s n → goesOn (getD s i 0) ≡ false → UncutIs s n i
+unfolding characterStart
+uncut-found s n (suc k) i low high some inv e =
+    record { within = omega arith; most = low; same = sym (ap (λ t. cond t (characterStart s n k (i - 1)) i) e) ∙ inv }
+
+one-back : (s : List ℕ) (n k i : ℕ) → characterStart s n (suc k) i ≡ uncut s n → goesOn (getD s i 0) ≡ true → characterStart s n k (i - 1) ≡ uncut s n
+unfolding characterStart
+one-back s n k i inv e = sym (ap (λ t. cond t (characterStart s n k (i - 1)) i) e) ∙ inv
+
+pub uncut-back : (s : List ℕ) (n k m i j : ℕ) → k ≡ suc m → j ≡ i - 1 → characterStart s n k i ≡ uncut s n → goesOn (getD s i 0) ≡ true → characterStart s n m j ≡ uncut s n
+uncut-back s n k m i j less back inv e =
+    subst (λ i. characterStart s n m i ≡ uncut s n) (sym back) (one-back s n m i (subst (λ k. characterStart s n k i ≡ uncut s n) less inv) e)
+
+pub uncut-none : (s : List ℕ) (n k i : ℕ) → n < length s → k ≡ 0 → characterStart s n k i ≡ uncut s n → UncutIs s n n
+unfolding characterStart
+uncut-none s n k i high none inv = record { within = omega arith; most = omega arith; same = subst (λ k. characterStart s n k i ≡ uncut s n) none inv }
 
 -- the last line
 

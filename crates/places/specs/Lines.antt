@@ -1,10 +1,10 @@
 -- Lines and columns, as people are told them: what ends a line, which bytes start a character, and the place behind the bytes that a file begins with. Definitions.
 -- Assumes nothing.
-use Prim.Native.Nat.{ℕ, _+_, _≤_, _<_, _^_}
+use Prim.Native.Nat.{ℕ, zero, suc, _+_, _-_, _≤_, _<_, _^_}
 use mathlib.Core.Path.{_≡_}
 use mathlib.Core.Bool.{Bool, true, false, not, cond, _&&_, _||_}
 use mathlib.Core.List.{List, [], _∷_, _++_}
-use lib.ListN.{length, drop}
+use lib.ListN.{length, getD, drop}
 use lib.Dec.{ltb, leb, eqb}
 use Rattle.places.specs.declared.Place.{Place}
 
@@ -48,15 +48,42 @@ starts b s = not (goesOn b)
 abbrev pub charactersIn : List ℕ → ℕ
 charactersIn s = count starts s
 
--- how many bytes at the start go on with a character that starts before them
-unfoldable pub goingOn : List ℕ → ℕ
-goingOn [] = 0
-goingOn (b ∷ s) = cond (goesOn b) (1 + goingOn s) 0
+-- how many bytes at the start keep a test
+unfoldable pub leading : (ℕ → Bool) → List ℕ → ℕ
+leading test [] = 0
+leading test (b ∷ s) = cond (test b) (1 + leading test s) 0
 
--- the rest of such a character is r bytes
-pub record GoesOnTo (s : List ℕ) (r : ℕ) : Type 0 where
+-- they are r
+pub record LeadingIs (test : ℕ → Bool) (s : List ℕ) (r : ℕ) : Type 0 where
   pub within : r ≤ length s
-  pub count : r ≡ goingOn s
+  pub count : r ≡ leading test s
+
+-- a character that starts before some bytes goes on for r of them
+abbrev pub GoesOnTo : List ℕ → ℕ → Type 0
+GoesOnTo s r = LeadingIs goesOn s r
+
+-- a byte of a line that is not its end's: neither LF nor CR
+abbrev pub inLine : ℕ → Bool
+inLine b = not (eqb b 10 || eqb b 13)
+
+-- the line that some bytes begin with, or go on with, has r of them before its end
+abbrev pub LineGoesTo : List ℕ → ℕ → Type 0
+LineGoesTo s r = LeadingIs inLine s r
+
+-- where the character starts that the byte i is of: it is sought in k bytes, from i backwards. Where none starts in them it is n
+unfoldable pub characterStart : List ℕ → ℕ → ℕ → ℕ → ℕ
+characterStart s n zero i = n
+characterStart s n (suc k) i = cond (goesOn (getD s i 0)) (characterStart s n k (i - 1)) i
+
+-- as many of the first n bytes as cut no character: one has 4 bytes at most
+unfoldable pub uncut : List ℕ → ℕ → ℕ
+uncut s n = cond (ltb n (length s)) (characterStart s n 4 n) (length s)
+
+-- they are r
+pub record UncutIs (s : List ℕ) (n r : ℕ) : Type 0 where
+  pub within : r ≤ length s
+  pub most : r ≤ n
+  pub same : r ≡ uncut s n
 
 -- the place behind the bytes s that a file begins with: line and column are counted from 1, the column in characters
 pub record PlaceIs (s : List ℕ) (p : Place) : Type 0 where

@@ -1,9 +1,9 @@
 // Where in a file: how many bytes come before, the line and the column; and the line that is shown, with a mark under the place.
 ghost use mathlib.Core.Path.{_≡_};
 ghost use mathlib.Core.List.{[]};
-ghost use Prim.Native.Nat.{suc, _≤_, _<_};
+ghost use Prim.Native.Nat.{suc, _-_, _≤_, _<_};
 ghost use lib.ListN.{length, getD, drop};
-ghost use Rattle.places.specs.Lines.{goesOn, endsLine, lineEnds, LastLineAt, charactersIn, GoesOnTo, PlaceIs, Passes};
+ghost use Rattle.places.specs.Lines.{goesOn, endsLine, lineEnds, LastLineAt, charactersIn, GoesOnTo, LineGoesTo, inLine, UncutIs, PlaceIs, Passes};
 use libc::STDOUT_FILENO;
 use std::num::wrapping_add_u64;
 use std::num::wrapping_add_usize;
@@ -179,13 +179,46 @@ const BEFORE: usize = 48;
 
 const BEHIND: usize = 32;
 
-// How many of these bytes stand before the line's end, of those that are shown.
+// A number, or the one before it.
+fn before(i: usize) -> usize
+    ensures { λ r. ⌜ r ≡ i - 1 ⌝ }
+{
+    if i == 0 { 0 } else { i - 1 }
+}
+
+// As many of the first n bytes as cut no character: what is left out starts with one. No character has more than 4 bytes.
+pub fn uncut(bytes: &[u8], n: usize) -> usize
+    ensures { λ r. ⌜ UncutIs (now (bytes .entry)) n r ⌝ }
+{
+    if bytes.len() <= n {
+        return bytes.len();
+    }
+    let mut left: usize = 4;
+    let mut i = n;
+    while 0 < left {
+        if !goes_on(bytes[i]) {
+            return i;
+        }
+        i = before(i);
+        left -= 1;
+    }
+    n
+}
+
+// Whether a byte is no line's end, nor a part of one.
+fn in_line(b: u8) -> bool
+    ensures { λ r. ⌜ r ≡ inLine b ⌝ }
+{
+    !((b == LINE_FEED) | (b == CARRIAGE_RETURN))
+}
+
+// How many of these bytes stand before the line's end.
 fn rest_of_line(bytes: &[u8]) -> usize
-    ensures { λ r. ⌜ r ≤ length (now (bytes .entry)) ⌝ }
+    ensures { λ r. ⌜ LineGoesTo (now (bytes .entry)) r ⌝ }
 {
     let mut i = 0;
     while i < bytes.len() {
-        if (bytes[i] == LINE_FEED) | (i == BEHIND) {
+        if !in_line(bytes[i]) {
             return i;
         }
         i += 1;
@@ -194,8 +227,10 @@ fn rest_of_line(bytes: &[u8]) -> usize
 }
 
 fn tell_rest_of_line(fd: i32, bytes: &[u8]) {
-    let n = rest_of_line(bytes);
-    explain::show(fd, &bytes[0..n]);
+    let most = uncut(bytes, BEHIND);
+    let shown = &bytes[0..most];
+    let n = rest_of_line(shown);
+    explain::show(fd, &shown[0..n]);
 }
 
 // Where what is shown before a place begins.

@@ -203,7 +203,7 @@ fn of_refused(s: &[u8], l: Layout, z: Live, part: &[u8], e: Event, stack: &mut [
 }
 
 // The visit that rejects the token at the front of a part, where a state stands: nobody where the sheet does not pass, the state does not fit it, no whole token comes
-// next, or that token is not refused with 25.
+// next, or no visit rejects that token. Whether the state is closed is not looked at: a refusal closes the state that it hands back, and that is the one to ask with.
 pub fn find_rejecter(sheet: &[u8], state: State, part: &[u8]) -> Rejecter
     ensures { λ r. ⌜ RejectedBy (now (sheet .entry)) state (now (part .entry)) r ⌝ }
 {

@@ -40,14 +40,18 @@ pub fn word(s: &[u8], i: usize) -> usize
     small(s, i) + 256 * small(s, i + 1)
 }
 
+// Some text and a number behind it.
+fn say_then(text: &[u8], number: usize) {
+    say(text);
+    say_number(number);
+}
+
 // A record by its name, its number and its first byte.
 fn say_record(name: &[u8], number: usize, at: usize) {
     say(b"The first wrong one is ");
     say(name);
-    say(b" ");
-    say_number(number);
-    say(b", from byte ");
-    say_number(at);
+    say_then(b" ", number);
+    say_then(b", from byte ", at);
     say(b" of the file on (both counted from 0).\n");
 }
 

@@ -8,9 +8,9 @@ use crate::productions::first_node;
 use crate::productions::node_count;
 use crate::productions::record_of;
 use crate::say_record;
+use crate::say_then;
 use crate::small;
 use words::say;
-use words::say_number;
 
 // A node's record.
 const WIDTH: usize = 6;
@@ -97,12 +97,9 @@ fn is_tree(s: &[u8], i: usize, count: usize) -> bool
 fn say_run(s: &[u8], first: usize, nodes: usize)
     requires { ⌜ first < 65536 ⌝ }
 {
-    say(b"It has ");
-    say_number(nodes);
-    say(b" nodes, and the first of them, node ");
-    say_number(first);
-    say(b", is at byte ");
-    say_number(node_record(s, first));
+    say_then(b"It has ", nodes);
+    say_then(b" nodes, and the first of them, node ", first);
+    say_then(b", is at byte ", node_record(s, first));
     say(b".\n");
 }
 
@@ -138,8 +135,7 @@ pub fn is_produced(s: &[u8], n: usize) -> bool
 }
 
 fn say_nonterminal(n: usize) {
-    say(b"Nonterminal ");
-    say_number(n);
+    say_then(b"Nonterminal ", n);
     say(b" has no production. ");
 }
 

@@ -3,10 +3,10 @@ ghost use Prim.Native.Nat.{_<_};
 ghost use Rattle.wrong.specs.Read.{RecordIs};
 use crate::field_of;
 use crate::say_record;
+use crate::say_then;
 use crate::small;
 use crate::word;
 use words::say;
-use words::say_number;
 
 // A production's record.
 const WIDTH: usize = 12;
@@ -48,15 +48,14 @@ fn fits(s: &[u8], q: usize, before: usize) -> bool
 // No production by itself is wrong.
 fn say_whole(s: &[u8], before: usize) {
     if before == field_of(s, 5) {
-        say(b"Each production is right: the start, in the trailer, is ");
-        say_number(field_of(s, 10));
+        let start = b"Each production is right: the start, in the trailer, is ";
+        say_then(start, field_of(s, 10));
         say(b", and has to be 63 at most.\n");
         return;
     }
-    say(b"Each production is right by itself, but together they have ");
-    say_number(before);
-    say(b" nodes, and the trailer counts ");
-    say_number(field_of(s, 5));
+    let together = b"Each production is right by itself, but together they have ";
+    say_then(together, before);
+    say_then(b" nodes, and the trailer counts ", field_of(s, 5));
     say(b".\n");
 }
 

@@ -1,11 +1,11 @@
 // The first wrong program, or else the first field that names none.
-ghost use Prim.Native.Nat.{_<_};
+ghost use Prim.Native.Nat.{_≤_, _<_};
 use crate::field_of;
 use crate::say_record;
+use crate::say_then;
 use crate::word;
 use programs::Parsed;
 use words::say;
-use words::say_number;
 
 // A field that names no program.
 const NONE: usize = 65535;
@@ -84,55 +84,57 @@ fn field_at(s: &[u8], of_node: bool, k: usize) -> usize
     if of_node { from + 2 } else { from + 6 }
 }
 
-// Says of the first node, or of the first production, whose two fields do not name what they may. Answers whether it was said.
-fn is_told(
-    s: &[u8],
-    section: &[u8],
-    strings: &[u8],
-    name: &[u8],
-    of_node: bool,
-    count: usize,
-) -> bool
-    requires { ⌜ count < 65536 ⌝ }
+// Whether the two fields of node k, or of production k, name what they may.
+fn fields_fit(s: &[u8], section: &[u8], strings: &[u8], of_node: bool, k: usize) -> bool
+    requires { ⌜ k < 65536 ⌝ }
 {
     let tags = field_of(s, 1);
+    let at = field_at(s, of_node, k);
+    let one = field_fits(section, tags, strings, word(s, at), false);
+    let two = field_fits(section, tags, strings, word(s, at + 2), true);
+    one & two
+}
+
+// The first of so many nodes, or productions, whose fields do not; behind the last where there is none.
+fn first_unfit(s: &[u8], section: &[u8], strings: &[u8], of_node: bool, count: usize) -> usize
+    requires { ⌜ count < 65536 ⌝ }
+    ensures { λ r. ⌜ r ≤ count ⌝ }
+{
     let mut k = 0;
     while k < count {
-        let at = field_at(s, of_node, k);
-        let one = field_fits(section, tags, strings, word(s, at), false);
-        let two = field_fits(section, tags, strings, word(s, at + 2), true);
-        if !one | !two {
-            say_record(name, k, record_at(s, of_node, k));
-            return true;
+        if !fields_fit(s, section, strings, of_node, k) {
+            return k;
         }
         k += 1;
     }
-    false
+    k
+}
+
+// Every program is right: the first production, or else the first node, whose fields are not.
+fn say_field(s: &[u8], section: &[u8], strings: &[u8]) {
+    let productions = field_of(s, 3);
+    let q = first_unfit(s, section, strings, false, productions);
+    if q < productions {
+        say_record(b"a program field of production", q, record_at(s, false, q));
+        return;
+    }
+    let nodes = field_of(s, 5);
+    let i = first_unfit(s, section, strings, true, nodes);
+    if i < nodes {
+        say_record(b"a program field of node", i, record_at(s, true, i));
+    }
 }
 
 fn say_of(s: &[u8], section: &[u8], strings: &[u8]) {
     let end = section.len();
     let at = start_from(section, field_of(s, 1), strings, end);
-    if at < end {
-        say(b"The first wrong program is the one at ");
-        say_number(at);
-        say(b" of the programs, which start at byte ");
-        say_number(field_of(s, 6));
-        say(b" of the file (both counted from 0).\n");
+    if at >= end {
+        say_field(s, section, strings);
         return;
     }
-    let of_production = b"a program field of production";
-    if is_told(s, section, strings, of_production, false, field_of(s, 3)) {
-        return;
-    }
-    is_told(
-        s,
-        section,
-        strings,
-        b"a program field of node",
-        true,
-        field_of(s, 5),
-    );
+    say_then(b"The first wrong program is the one at ", at);
+    say_then(b" of the programs, which start at byte ", field_of(s, 6));
+    say(b" of the file (both counted from 0).\n");
 }
 
 pub(crate) fn say_program(s: &[u8]) {

@@ -2,12 +2,22 @@
 ghost use Prim.Native.Nat.{_<_};
 ghost use Rattle.wrong.specs.Read.{FieldIs, TrailerAt};
 use crate::LONGEST;
+use crate::say_then;
 use crate::word;
 use words::say;
-use words::say_number;
 
 // The trailer's length.
 const TRAILER: usize = 24;
+
+// Two of its numbers, counted from 0: the length of the strings and the mark; and what the mark is.
+const LENGTH: usize = 9;
+
+const MARK: usize = 11;
+
+const MARKED: usize = 21336;
+
+// The most bytes that strings have.
+const STRINGS: usize = 8192;
 
 // The trailer's first byte; 0 where there is no trailer.
 fn start(s: &[u8]) -> usize
@@ -31,80 +41,133 @@ pub fn field_of(s: &[u8], k: usize) -> usize
     word(s, start(s) + 2 * k)
 }
 
-// Says that the trailer's number k does not fit, unless it lies between two others. Answers whether it was said.
-fn is_told(s: &[u8], k: usize, name: &[u8], least: usize, most: usize) -> bool
+// The least that the trailer's number k may be, where those before it fit: a part starts where the one before it ends.
+fn least_of(s: &[u8], k: usize) -> usize {
+    match k {
+        1 | 3 => 1,
+        2 => 16 * field_of(s, 1),
+        4 => field_of(s, 2) + 12 * field_of(s, 3),
+        6 => field_of(s, 4) + 6 * field_of(s, 5),
+        8 => field_of(s, 6) + field_of(s, 7),
+        MARK => MARKED,
+        _ => 0,
+    }
+}
+
+// The most: a count and a length have room, an offset and the mark have none.
+fn most_of(k: usize, least: usize) -> usize {
+    match k {
+        1 | 3 => 64,
+        5 => 256,
+        7 => 16384,
+        _ => least,
+    }
+}
+
+// Whether the trailer's number k may be what it is, where those before it fit.
+fn fits(s: &[u8], k: usize) -> bool
     requires { ⌜ k < 12 ⌝ }
 {
     let is = field_of(s, k);
-    if (least <= is) & (is <= most) {
-        return false;
+    let least = least_of(s, k);
+    (least <= is) & (is <= most_of(k, least))
+}
+
+// The first number that does not fit: of the mark, and then of those from the offset of the tags to that of the strings. Where all these do, it is the length of
+// the strings.
+fn first_unfit(s: &[u8]) -> usize
+    ensures { λ r. ⌜ r < 12 ⌝ }
+{
+    if !fits(s, MARK) {
+        return MARK;
     }
-    say(b"The first number there that does not fit is the ");
-    say(name);
-    say(b", from byte ");
-    say_number(start(s) + 2 * k);
-    say(b" of the file on (counted from 0): it is ");
-    say_number(is);
-    say(b", and has to be ");
-    say_number(least);
+    let mut k = 0;
+    while k < LENGTH {
+        if !fits(s, k) {
+            return k;
+        }
+        k += 1;
+    }
+    LENGTH
+}
+
+// Says the n-th of some names, from 0. A comma stands behind each.
+fn say_nth(names: &[u8], n: usize) {
+    let mut left = n;
+    let mut from = 0;
+    let mut i = 0;
+    while i < names.len() {
+        if names[i] == b',' {
+            if left == 0 {
+                say(&names[from..i]);
+                return;
+            }
+            left -= 1;
+            from = i + 1;
+        }
+        i += 1;
+    }
+}
+
+// The trailer's number k by its name; the start, which is number 10, always fits.
+fn say_name(k: usize) {
+    say_nth(
+        b"offset of the tags,count of the tags,offset of the productions,count of the productions,offset of the nodes,count of the nodes,offset of the programs,length of the programs,offset of the strings,length of the strings,start,mark,",
+        k,
+    );
+}
+
+fn say_bounds(least: usize, most: usize) {
+    say_then(b", and has to be ", least);
     if least < most {
-        say(b" to ");
-        say_number(most);
+        say_then(b" to ", most);
     }
     say(b".\n");
-    true
 }
 
-// The tags and the productions.
-fn is_front_told(s: &[u8]) -> bool {
-    if is_told(s, 11, b"mark", 21336, 21336) {
-        return true;
-    }
-    if is_told(s, 0, b"offset of the tags", 0, 0) {
-        return true;
-    }
-    if is_told(s, 1, b"count of the tags", 1, 64) {
-        return true;
-    }
-    let productions = 16 * field_of(s, 1);
-    if is_told(s, 2, b"offset of the productions", productions, productions) {
-        return true;
-    }
-    is_told(s, 3, b"count of the productions", 1, 64)
+// Says that the trailer's number k does not fit, and what it has to be.
+fn say_unfit(s: &[u8], k: usize, least: usize, most: usize)
+    requires { ⌜ k < 12 ⌝ }
+{
+    say(b"The first number there that does not fit is the ");
+    say_name(k);
+    say_then(b", from byte ", start(s) + 2 * k);
+    say_then(b" of the file on (counted from 0): it is ", field_of(s, k));
+    say_bounds(least, most);
 }
 
-// The nodes and the programs.
-fn is_middle_told(s: &[u8]) -> bool {
-    let nodes = field_of(s, 2) + 12 * field_of(s, 3);
-    if is_told(s, 4, b"offset of the nodes", nodes, nodes) {
-        return true;
-    }
-    if is_told(s, 5, b"count of the nodes", 0, 256) {
-        return true;
-    }
-    let programs = field_of(s, 4) + 6 * field_of(s, 5);
-    if is_told(s, 6, b"offset of the programs", programs, programs) {
-        return true;
-    }
-    is_told(s, 7, b"length of the programs", 0, 16384)
+// Strings that have more bytes than strings may have, whatever the trailer says of their length.
+fn say_too_many(from: usize, count: usize) {
+    say_then(b"Between the programs and the trailer, from byte ", from);
+    say_then(b" of the file on (counted from 0), there are ", count);
+    say(b" bytes: they are the strings, and strings have at most 8192.\n");
 }
 
-// The first number that does not fit. The strings end where the trailer starts.
-pub(crate) fn say_trailer(s: &[u8]) {
-    if is_front_told(s) {
-        return;
-    }
-    if is_middle_told(s) {
-        return;
-    }
-    let strings = field_of(s, 6) + field_of(s, 7);
-    if is_told(s, 8, b"offset of the strings", strings, strings) {
-        return;
-    }
+// The strings, where all before them fits. They end where the trailer starts.
+fn say_strings(s: &[u8]) {
+    let from = field_of(s, LENGTH - 1);
     let end = start(s);
-    if strings > end {
+    if from > end {
         say(b"The parts that it names end behind its own first byte: the file is cut off.\n");
         return;
     }
-    is_told(s, 9, b"length of the strings", end - strings, end - strings);
+    let count = end - from;
+    if count > STRINGS {
+        say_too_many(from, count);
+        return;
+    }
+    if field_of(s, LENGTH) != count {
+        say_unfit(s, LENGTH, count, count);
+    }
+}
+
+// The first number that does not fit.
+pub(crate) fn say_trailer(s: &[u8]) {
+    let k = first_unfit(s);
+    if k == LENGTH {
+        say_strings(s);
+        return;
+    }
+    let least = least_of(s, k);
+    say_unfit(s, k, least, most_of(k, least));
 }

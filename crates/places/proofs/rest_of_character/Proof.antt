@@ -5,13 +5,13 @@ use native.Mathlib.Omega.{arith}
 use lib.ListN.{length, drop}
 use borrow.Author.Needs.{needs}
 use borrow.Author.Tests.{not-true, not-false}
-use Rattle.places.specs.Lines.{goingOn}
+use Rattle.places.specs.Lines.{goesOn, leading}
 use Rattle.places.proofs.Laws.{rest-on, rest-stops, rest-ends}
 use Rattle.places.proofs.rest_of_character.Statement.{statement}
 use Rattle.places.proofs.rest_of_character.Tie as tie
 
 abbrev Inv-loop : tie.InvT-loop
-Inv-loop bytes i₀ i = (i ≤ length bytes) × (i + goingOn (drop i bytes) ≡ goingOn bytes)
+Inv-loop bytes i₀ i = (i ≤ length bytes) × (i + leading goesOn (drop i bytes) ≡ leading goesOn bytes)
 
 abbrev μ-loop : tie.MeasureT-loop
 μ-loop bytes i₀ i = length bytes - i
@@ -19,15 +19,15 @@ abbrev μ-loop : tie.MeasureT-loop
 returns : tie.Need-returns Inv-loop μ-loop
 returns c =
     let at = c .before .before .before .before .loop in
-    rest-stops _ (at .i) (c .before .before .before .loop-test .taken) (at .inv .1) (sym (c .before .goes-on .ensures) ∙ not-true _ (c .if1 .taken))
+    rest-stops goesOn _ (at .i) (c .before .before .before .loop-test .taken) (at .inv .1) (sym (c .before .goes-on .ensures) ∙ not-true _ (c .if1 .taken))
 
 loop-again : tie.Need-loop-again Inv-loop μ-loop
 loop-again c =
     let at = c .before .before .before .before .loop in
-    (search needs, rest-on _ (at .i) (c .before .before .before .loop-test .taken) (at .inv .1) (sym (c .before .goes-on .ensures) ∙ not-false _ (c .if1 .left)))
+    (search needs, rest-on goesOn _ (at .i) (c .before .before .before .loop-test .taken) (at .inv .1) (sym (c .before .goes-on .ensures) ∙ not-false _ (c .if1 .left)))
 
 returns-2 : tie.Need-returns-2 Inv-loop μ-loop
-returns-2 c = rest-ends _ (c .before .loop .i) (c .before .loop .inv .0) (c .loop-test .left) (c .before .loop .inv .1)
+returns-2 c = rest-ends goesOn _ (c .before .loop .i) (c .before .loop .inv .0) (c .loop-test .left) (c .before .loop .inv .1)
 
 pub rest-of-character-spec : {M : Type 1} → statement M
 rest-of-character-spec =

@@ -1,37 +1,33 @@
-use Prim.Native.Nat.{_≤_, _-_}
-use lib.ListN.{length}
+-- The bytes of the line that are passed and those behind them are all of the line.
+use mathlib.Core.Path.{_≡_, sym, _∙_}
+use Prim.Native.Nat.{_+_, _≤_, _-_}
+use native.Mathlib.Omega.{arith}
+use lib.ListN.{length, drop}
 use borrow.Author.Needs.{needs}
+use borrow.Author.Tests.{not-true, not-false}
+use Rattle.places.specs.Lines.{inLine, leading}
+use Rattle.places.proofs.Laws.{rest-on, rest-stops, rest-ends}
 use Rattle.places.proofs.rest_of_line.Statement.{statement}
 use Rattle.places.proofs.rest_of_line.Tie as tie
-use Rattle.places.proofs.rest_of_line.Reads as reads
-use Rattle.places.proofs.rest_of_line.Lts as lts
 
 abbrev Inv-loop : tie.InvT-loop
-Inv-loop bytes i₀ i = i ≤ length bytes
+Inv-loop bytes i₀ i = (i ≤ length bytes) × (i + leading inLine (drop i bytes) ≡ leading inLine bytes)
 
 abbrev μ-loop : tie.MeasureT-loop
 μ-loop bytes i₀ i = length bytes - i
 
-loop-holds : tie.Need-loop-holds Inv-loop μ-loop
-loop-holds c = search needs
-
-shared-slice-read-if1 : tie.Need-shared-slice-read-if1 Inv-loop μ-loop
-shared-slice-read-if1 c = search needs
-
 returns : tie.Need-returns Inv-loop μ-loop
-returns c = search needs
-
-add-i : tie.Need-add-i Inv-loop μ-loop
-add-i c = search needs
-
-loop-less : tie.Need-loop-less Inv-loop μ-loop
-loop-less c = search needs
+returns c =
+    let at = c .before .before .before .before .loop in
+    rest-stops inLine _ (at .i) (c .before .before .before .loop-test .taken) (at .inv .1) (sym (c .before .in-line .ensures) ∙ not-true _ (c .if1 .taken))
 
 loop-again : tie.Need-loop-again Inv-loop μ-loop
-loop-again c = search needs
+loop-again c =
+    let at = c .before .before .before .before .loop in
+    (search needs, rest-on inLine _ (at .i) (c .before .before .before .loop-test .taken) (at .inv .1) (sym (c .before .in-line .ensures) ∙ not-false _ (c .if1 .left)))
 
 returns-2 : tie.Need-returns-2 Inv-loop μ-loop
-returns-2 c = search needs
+returns-2 c = rest-ends inLine _ (c .before .loop .i) (c .before .loop .inv .0) (c .loop-test .left) (c .before .loop .inv .1)
 
 pub rest-of-line-spec : {M : Type 1} → statement M
 rest-of-line-spec =
@@ -39,10 +35,4 @@ rest-of-line-spec =
     (tie.spec
     Inv-loop
     μ-loop
-    loop-holds
-    shared-slice-read-if1
-    returns
-    add-i
-    loop-less
-    loop-again
-    returns-2)
+    (λ c. search needs) (λ c. search needs) (λ c κs. search needs) returns (λ c. search needs) (λ c. search needs) loop-again returns-2)
