@@ -42,6 +42,7 @@ DEMANDS = [
     ('Demand 3: the list of faults', ['faults.Checked.CheckedAs', 'expressions.FaultList.IsFaultList']),
     ('Demand 3: a shortest input up to a place', ['shortest.Promises.ShortestLeads', 'shortest.Answers.ShortestAs']),
     ('The starred examples', ['worked.Worked.RowHolds', 'worked.Worked.worked']),
+    ('The numbers at their bounds', ['edges.Edges.EdgeHolds', 'edges.Edges.edges']),
     ('§1: rules typed as text, written as a sheet', ['writing.Written.WrittenAs', 'writing.Promises.OneWriting']),
     ('§1: sheets printed as text, and the way back', ['printing.Printed.PrintedAs', 'printing.Promises.RoundTrips', 'printing.Promises.WritesTheSame']),
     ('§4: visits per token, and of an accepted stream', ['ceiling.Visits.CeilingKept', 'calls.Accepted.TwiceTheNodes']),

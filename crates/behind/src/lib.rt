@@ -1,12 +1,16 @@
 // What is kept of the bytes that were passed: the last of them, and on which lines the open elements began.
 ghost use mathlib.Core.Path.{_≡_};
+ghost use mathlib.Core.List.{_++_};
 ghost use Prim.Native.Nat.{_≤_, _<_, min};
-ghost use lib.ListN.{length};
+ghost use lib.ListN.{length, drop};
+ghost use Rattle.behind.specs.Tails.{fromEnd, noTail, tailAfter};
+ghost use Rattle.behind.specs.Tags.{isEmptyTag, isEndTag, tagKind};
+ghost use Rattle.behind.specs.Lines.{noLines, Noted, NextTag, linesPassing, rootLine};
+ghost use Rattle.behind.specs.Behinds.{nothingBehind, behindAfter, behindRooted};
 use places::CARRIAGE_RETURN;
 use places::ends_line;
 use state::State;
 use std::num::wrapping_add_u64;
-use std::num::wrapping_add_usize;
 
 // The last bytes that were passed: so many at the array's end.
 pub struct Tail {
@@ -24,7 +28,9 @@ fn at_most_kept(n: usize) -> usize
 impl Tail {
     pub const MOST: usize = 48;
 
-    fn none() -> Tail {
+    fn none() -> Tail
+        ensures { λ r. ⌜ r ≡ noTail ⌝ }
+    {
         Tail {
             length: 0,
             bytes: [0; Tail::MOST],
@@ -34,6 +40,7 @@ impl Tail {
     // The j-th byte from the end of what was passed, this and then some bytes more.
     fn from_end(self, passed: &[u8], j: usize) -> u8
         requires { ⌜ j < 48 ⌝ }
+        ensures { λ r. ⌜ r ≡ fromEnd (self .bytes ++ now (passed .entry)) j ⌝ }
     {
         let n = passed.len();
         if j < n {
@@ -44,7 +51,9 @@ impl Tail {
     }
 
     // After some bytes more.
-    fn after(self, passed: &[u8]) -> Tail {
+    fn after(self, passed: &[u8]) -> Tail
+        ensures { λ r. ⌜ r ≡ tailAfter self (now (passed .entry)) ⌝ }
+    {
         let mut bytes = [0u8; Tail::MOST];
         let mut j = 0;
         while j < Tail::MOST {
@@ -52,7 +61,7 @@ impl Tail {
             j += 1;
         }
         Tail {
-            length: at_most_kept(wrapping_add_usize(self.length, passed.len())),
+            length: at_most_kept(at_most_kept(self.length) + at_most_kept(passed.len())),
             bytes: bytes,
         }
     }
@@ -65,7 +74,9 @@ pub struct Lines {
 }
 
 // Whether the tag that starts at a byte is an empty one, with a slash before its end.
-fn is_empty_tag(bytes: &[u8], from: usize) -> bool {
+fn is_empty_tag(bytes: &[u8], from: usize) -> bool
+    ensures { λ r. ⌜ r ≡ isEmptyTag (drop from (now (bytes .entry))) ⌝ }
+{
     let mut last = 0;
     let mut i = from;
     while i < bytes.len() {
@@ -80,7 +91,9 @@ fn is_empty_tag(bytes: &[u8], from: usize) -> bool {
 }
 
 // Whether a slash stands behind a byte.
-fn is_end_tag(bytes: &[u8], i: usize) -> bool {
+fn is_end_tag(bytes: &[u8], i: usize) -> bool
+    ensures { λ r. ⌜ r ≡ isEndTag (drop i (now (bytes .entry))) ⌝ }
+{
     if i < bytes.len() {
         return wrong::byte(bytes, i + 1) == b'/';
     }
@@ -95,7 +108,9 @@ const CLOSES: u8 = 2;
 const NEITHER: u8 = 0;
 
 // What the tag that starts at a byte does; where the bytes end there is none.
-fn kind_of_tag(bytes: &[u8], i: usize) -> u8 {
+fn kind_of_tag(bytes: &[u8], i: usize) -> u8
+    ensures { λ r. ⌜ r ≡ tagKind (drop i (now (bytes .entry))) ⌝ }
+{
     if wrong::byte(bytes, i) != b'<' {
         return NEITHER;
     }
@@ -116,7 +131,7 @@ struct TagAt {
 
 fn to_tag(bytes: &[u8], from: usize, line: u64) -> TagAt
     requires { ⌜ from ≤ length (now bytes) ⌝ }
-    ensures { λ r. ⌜ (from ≤ r .at) × (r .at ≤ length (now (bytes .entry))) ⌝ }
+    ensures { λ r. ⌜ NextTag (now (bytes .entry)) from line r ⌝ }
 {
     let mut here = line;
     let mut i = from;
@@ -137,7 +152,7 @@ fn to_tag(bytes: &[u8], from: usize, line: u64) -> TagAt
 
 // Past a tag of a kind: an element that it opens began on that line. Answers how many are open then; no more than there is room for ever are.
 fn note(lines: &mut [u64], depth: usize, kind: u8, line: u64) -> usize
-    ensures { λ _. ⌜ length (now (lines .exit)) ≡ length (now (lines .entry)) ⌝ }
+    ensures { λ r. ⌜ Noted depth (now (lines .entry)) kind line r (now (lines .exit)) ⌝ }
 {
     if kind == CLOSES {
         if 0 < depth {
@@ -155,7 +170,9 @@ fn note(lines: &mut [u64], depth: usize, kind: u8, line: u64) -> usize
 }
 
 impl Lines {
-    fn none() -> Lines {
+    fn none() -> Lines
+        ensures { λ r. ⌜ r ≡ noLines ⌝ }
+    {
         Lines {
             depth: 0,
             lines: [0; State::DEPTH],
@@ -163,7 +180,9 @@ impl Lines {
     }
 
     // After some bytes more, which start on a line: the root is the element of the first tag.
-    fn root_after(self, passed: &[u8], line: u64) -> Lines {
+    fn root_after(self, passed: &[u8], line: u64) -> Lines
+        ensures { λ r. ⌜ r ≡ rootLine self (now (passed .entry)) line ⌝ }
+    {
         let tag = to_tag(passed, 0, line);
         if (self.depth > 0) | (tag.at == passed.len()) {
             return self;
@@ -177,7 +196,9 @@ impl Lines {
     }
 
     // After some bytes more, which are whole tokens and start on a line: a tag starts with each <
-    fn after(self, passed: &[u8], line: u64) -> Passed {
+    fn after(self, passed: &[u8], line: u64) -> Passed
+        ensures { λ r. ⌜ r ≡ linesPassing self (now (passed .entry)) line ⌝ }
+    {
         let mut lines = self.lines;
         let mut depth = self.depth;
         let mut here = line;
@@ -211,7 +232,9 @@ pub struct Behind {
 
 impl Behind {
     // Before the first byte.
-    pub fn start() -> Behind {
+    pub fn start() -> Behind
+        ensures { λ r. ⌜ r ≡ nothingBehind ⌝ }
+    {
         let tail = Tail::none();
         let lines = Lines::none();
         Behind {
@@ -221,7 +244,9 @@ impl Behind {
     }
 
     // Past some bytes, which are whole tokens; the lines were counted.
-    pub fn after(self, passed: &[u8], lines: Lines) -> Behind {
+    pub fn after(self, passed: &[u8], lines: Lines) -> Behind
+        ensures { λ r. ⌜ r ≡ behindAfter self (now (passed .entry)) lines ⌝ }
+    {
         let old = self.tail;
         let tail = old.after(passed);
         Behind {
@@ -231,7 +256,9 @@ impl Behind {
     }
 
     // Past some bytes of which not all were taken, by a run that drops what is damaged: of the open elements only the root's line is kept, whose tag is the first.
-    pub fn rooted(self, passed: &[u8], line: u64) -> Behind {
+    pub fn rooted(self, passed: &[u8], line: u64) -> Behind
+        ensures { λ r. ⌜ r ≡ behindRooted self (now (passed .entry)) line ⌝ }
+    {
         let old = self.tail;
         let tail = old.after(passed);
         let began = self.lines;
@@ -243,7 +270,9 @@ impl Behind {
     }
 
     // The line behind some bytes that start on a line, and the lines of the elements that are open there.
-    pub fn lines_after(self, passed: &[u8], line: u64) -> Passed {
+    pub fn lines_after(self, passed: &[u8], line: u64) -> Passed
+        ensures { λ r. ⌜ r ≡ linesPassing (self .lines) (now (passed .entry)) line ⌝ }
+    {
         let lines = self.lines;
         lines.after(passed, line)
     }

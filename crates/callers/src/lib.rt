@@ -1,4 +1,8 @@
 // Who started a conversion: whether somebody watches its progress, and whether somebody listens at the descriptor for what it comes to.
+ghost use mathlib.Core.Path.{_≡_};
+ghost use mathlib.Core.Bool.{true, false};
+ghost use Rattle.callers.specs.Callers.{nobody, Somebody, Unheard};
+
 pub struct Caller {
     pub watches: bool,
     pub listens: bool,
@@ -11,7 +15,9 @@ const LISTENER: i32 = 3;
 
 impl Caller {
     // Nobody listens.
-    pub fn nobody() -> Caller {
+    pub fn nobody() -> Caller
+        ensures { λ r. ⌜ r ≡ nobody ⌝ }
+    {
         Caller {
             watches: false,
             listens: false,
@@ -20,7 +26,9 @@ impl Caller {
     }
 
     // Whoever started the program.
-    pub fn this_one(watches: bool, listens: bool) -> Caller {
+    pub fn this_one(watches: bool, listens: bool) -> Caller
+        ensures { λ r. ⌜ Somebody watches listens r ⌝ }
+    {
         Caller {
             watches: watches,
             listens: listens,
@@ -29,7 +37,9 @@ impl Caller {
     }
 
     // Whether somebody listened and is no more: then nobody would know that a listing is put in place, perhaps over a newer one.
-    pub fn is_gone(self) -> bool {
+    pub fn is_gone(self) -> bool
+        ensures { λ r. ⌜ Unheard self false r ⌝ }
+    {
         if !self.listens {
             return false;
         }
@@ -37,7 +47,9 @@ impl Caller {
     }
 
     // Names the new file. Answers whether whoever listens could be told.
-    pub fn hears_of(self, name: &[u8]) -> bool {
+    pub fn hears_of(self, name: &[u8]) -> bool
+        ensures { λ r. ⌜ Unheard self true r ⌝ }
+    {
         if !self.listens {
             return true;
         }

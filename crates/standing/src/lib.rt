@@ -1,5 +1,8 @@
 // Where a conversion of files stands between two calls, whatever it converts with: what is held, written and passed, and how far it tells that it is.
+ghost use mathlib.Core.Path.{_≡_};
 ghost use Rattle.io.specs.Counts.{Counts};
+ghost use Rattle.standing.specs.Standings.{freshStanding, standingStopped, standingForsaken, standingAnswered, standingHolding, withState};
+ghost use Rattle.standing.specs.Standings.{isBroken, isRefused};
 use behind::Behind;
 use libc::STDERR_FILENO;
 use places::Place;
@@ -31,7 +34,9 @@ const FULL: usize = 17;
 const STEP: u64 = 8388608;
 
 impl Standing {
-    pub fn fresh() -> Standing {
+    pub fn fresh() -> Standing
+        ensures { λ r. ⌜ r ≡ freshStanding ⌝ }
+    {
         let place = Place::start();
         let behind = Behind::start();
         let state = State::fresh();
@@ -50,7 +55,9 @@ impl Standing {
     }
 
     // A file could not be read or written: nothing more is done.
-    pub fn stopped(self, unread: bool) -> Standing {
+    pub fn stopped(self, unread: bool) -> Standing
+        ensures { λ r. ⌜ r ≡ standingStopped self unread ⌝ }
+    {
         let mut next = self;
         next.unread = unread;
         next.unwritten = !unread;
@@ -59,7 +66,9 @@ impl Standing {
     }
 
     // Whoever started it is gone: nobody waits for a listing any more.
-    pub fn forsaken(self) -> Standing {
+    pub fn forsaken(self) -> Standing
+        ensures { λ r. ⌜ r ≡ standingForsaken self ⌝ }
+    {
         let mut next = self;
         next.left_alone = true;
         next.going = false;
@@ -75,7 +84,9 @@ impl Standing {
         moved: bool,
         place: Place,
         behind: Behind,
-    ) -> Standing {
+    ) -> Standing
+        ensures { λ r. ⌜ r ≡ standingAnswered self number written moved place behind ⌝ }
+    {
         let state = self.state;
         Standing {
             number: number,
@@ -92,13 +103,17 @@ impl Standing {
     }
 
     // With so many bytes that are not taken yet.
-    pub fn holding(self, held: usize) -> Standing {
+    pub fn holding(self, held: usize) -> Standing
+        ensures { λ r. ⌜ r ≡ standingHolding self held ⌝ }
+    {
         let mut next = self;
         next.held = held;
         next
     }
 
-    pub fn with_state(self, state: State) -> Standing {
+    pub fn with_state(self, state: State) -> Standing
+        ensures { λ r. ⌜ r ≡ withState self state ⌝ }
+    {
         let mut next = self;
         next.state = state;
         next
@@ -106,12 +121,16 @@ impl Standing {
 }
 
 // Whether the run came to an end with a file that failed, or with nobody there.
-pub fn is_broken(s: Standing) -> bool {
+pub fn is_broken(s: Standing) -> bool
+    ensures { λ r. ⌜ r ≡ isBroken s ⌝ }
+{
     s.unread | s.unwritten | s.left_alone
 }
 
 // Whether it came to an end with a number other than 0.
-pub fn is_refused(s: Standing) -> bool {
+pub fn is_refused(s: Standing) -> bool
+    ensures { λ r. ⌜ r ≡ isRefused s ⌝ }
+{
     (s.number > 0) & !is_broken(s)
 }
 

@@ -1,45 +1,27 @@
 -- The bytes of the tag are passed one by one.
+use mathlib.Core.Path.{_≡_, refl}
 use Prim.Native.Nat.{_-_}
-use lib.ListN.{length}
+use lib.ListN.{length, drop}
 use borrow.Author.Needs.{needs}
+use Rattle.behind.specs.Tags.{slashBeforeEnd, isEmptyTag}
+use Rattle.behind.proofs.TagLaws.{slash-on, slash-ends, slash-none}
 use Rattle.behind.proofs.is_empty_tag.Statement.{statement}
 use Rattle.behind.proofs.is_empty_tag.Tie as tie
-use Rattle.behind.proofs.is_empty_tag.Reads as reads
-use Rattle.behind.proofs.is_empty_tag.Lts as lts
 
 abbrev Inv-loop : tie.InvT-loop
-Inv-loop bytes from last₀ i₀ last i = Unit {0}
+Inv-loop bytes from last₀ i₀ last i = slashBeforeEnd last (drop i bytes) ≡ isEmptyTag (drop from bytes)
 
 abbrev μ-loop : tie.MeasureT-loop
 μ-loop bytes from last₀ i₀ last i = length bytes - i
 
--- src/behind.rt:78:5
-loop-holds : tie.Need-loop-holds Inv-loop μ-loop
-loop-holds c = search needs
-
--- src/behind.rt:79:17
-shared-slice-read-b : tie.Need-shared-slice-read-b Inv-loop μ-loop
-shared-slice-read-b c = search needs
-
--- src/behind.rt:81:13
 returns : tie.Need-returns Inv-loop μ-loop
-returns c = search needs
+returns c = let at = c .before .before .before .loop in slash-ends _ (at .i) (at .last) _ (c .before .before .loop-test .taken) (c .if1 .taken) (at .inv)
 
--- src/behind.rt:84:9
-add-i : tie.Need-add-i Inv-loop μ-loop
-add-i c = search needs
-
--- src/behind.rt:78:5
-loop-less : tie.Need-loop-less Inv-loop μ-loop
-loop-less c = search needs
-
--- src/behind.rt:78:5
 loop-again : tie.Need-loop-again Inv-loop μ-loop
-loop-again c = search needs
+loop-again c = let at = c .before .before .before .loop in slash-on _ (at .i) (at .last) _ (c .before .before .loop-test .taken) (c .if1 .left) (at .inv)
 
--- src/behind.rt:75:1
 returns-2 : tie.Need-returns-2 Inv-loop μ-loop
-returns-2 c = search needs
+returns-2 c = slash-none _ (c .before .loop .i) (c .before .loop .last) _ (c .loop-test .left) (c .before .loop .inv)
 
 pub is-empty-tag-spec : {M : Type 1} → statement M
 is-empty-tag-spec =
@@ -47,10 +29,4 @@ is-empty-tag-spec =
     (tie.spec
     Inv-loop
     μ-loop
-    loop-holds
-    shared-slice-read-b
-    returns
-    add-i
-    loop-less
-    loop-again
-    returns-2)
+    (λ c. refl) (λ c. search needs) returns (λ c. search needs) (λ c. search needs) loop-again returns-2)

@@ -1,56 +1,48 @@
 -- The bytes are passed one by one.
-use mathlib.Core.Path.{_≡_}
-use Prim.Native.Nat.{suc, _≤_, _-_}
-use lib.ListN.{length}
+use mathlib.Core.Path.{_≡_, refl, sym, _∙_}
+use mathlib.Core.Logic.{⊎-elim}
+use Prim.Native.Nat.{suc, _+_, _≤_, _-_}
+use lib.ListN.{length, getD, drop}
 use borrow.Author.Needs.{needs}
+use Rattle.behind.specs.Lines.{lineBehind, beforeTag, tagLine}
+use Rattle.behind.proofs.LineLaws.{line-ends, line-same, no-line-end, before-on, line-on, found, ended}
 use Rattle.behind.proofs.to_tag.Statement.{statement}
 use Rattle.behind.proofs.to_tag.Tie as tie
-use Rattle.behind.proofs.to_tag.Reads as reads
-use Rattle.behind.proofs.to_tag.Lts as lts
-use Rattle.places.proofs.ends_line.Reads as ends-line-reads
-use Rattle.std.proofs.num.wrapping_add_u64.Reads as wrapping-add-u64-reads
 
 abbrev Inv-loop : tie.InvT-loop
-Inv-loop bytes from line here₀ i₀ here i = (from ≤ i) × (i ≤ length bytes)
+Inv-loop bytes from line here₀ i₀ here i =
+    (from ≤ i) × (i ≤ length bytes) × (i + beforeTag (drop i bytes) ≡ from + beforeTag (drop from bytes)) × (tagLine (drop i bytes) here ≡ tagLine (drop from bytes) line)
 
 abbrev μ-loop : tie.MeasureT-loop
 μ-loop bytes from line here₀ i₀ here i = length bytes - i
 
--- src/behind.rt:123:5
 loop-holds : tie.Need-loop-holds Inv-loop μ-loop
-loop-holds c = search needs
+loop-holds c = (search needs, search needs, refl, refl)
 
--- src/behind.rt:124:17
-shared-slice-read-b : tie.Need-shared-slice-read-b Inv-loop μ-loop
-shared-slice-read-b c = search needs
-
--- src/behind.rt:126:13
 returns : tie.Need-returns Inv-loop μ-loop
-returns c = search needs
+returns c =
+    let at = c .before .before .before .loop in
+    found _ _ _ (at .i) (at .here) (c .before .before .loop-test .taken) (c .if1 .taken) (at .inv .0) (at .inv .2) (at .inv .3)
 
--- src/behind.rt:129:16
-ends-line-requires : tie.Need-ends-line-requires Inv-loop μ-loop
-ends-line-requires c κs = search needs
-
--- src/behind.rt:130:17
-wrapping-add-u64-requires : tie.Need-wrapping-add-u64-requires Inv-loop μ-loop
-wrapping-add-u64-requires c κs = search needs
-
--- src/behind.rt:133:9
-add-i : tie.Need-add-i Inv-loop μ-loop
-add-i c = search needs
-
--- src/behind.rt:123:5
-loop-less : tie.Need-loop-less Inv-loop μ-loop
-loop-less c = search needs
-
--- src/behind.rt:123:5
 loop-again : tie.Need-loop-again Inv-loop μ-loop
-loop-again c = search needs
+loop-again c =
+    let at = c .before .before .before .before .loop in
+    let s = c .before .before .before .before .before .before .args .bytes .now in
+    let below = c .before .before .before .loop-test .taken in (
+      search needs,
+      search needs,
+      before-on _ (at .i) _ below (c .before .if1 .left) (at .inv .2),
+      line-on _ (at .i) (at .here) (c .if2 .here) _ below (c .before .if1 .left) (at .inv .3)
+          (⊎-elim {C = c .if2 .here ≡ lineBehind (at .here) (getD s (at .i) 0) (drop (suc (at .i)) s)}
+          (λ w. line-ends _ _ (at .here) _ (sym (w .1 .ensures) ∙ w .2 .taken) (w .4 ∙ w .3 .ensures))
+          (λ v. ⊎-elim (λ w. line-same _ _ (at .here) _ (sym (w .1 .ensures) ∙ w .2 .left) (w .3)) (λ w. line-same _ _ (at .here) _ (no-line-end _ _ (w .0 .left)) (w .1)) v)
+          (c .if2 .came)),
+    )
 
--- src/behind.rt:117:1
 returns-2 : tie.Need-returns-2 Inv-loop μ-loop
-returns-2 c = search needs
+returns-2 c =
+    let at = c .before .loop in
+    ended _ _ _ (at .i) (at .here) (c .loop-test .left) (at .inv .1) (at .inv .0) (at .inv .2) (at .inv .3)
 
 pub to-tag-spec : {M : Type 1} → statement M
 to-tag-spec =
@@ -58,12 +50,4 @@ to-tag-spec =
     (tie.spec
     Inv-loop
     μ-loop
-    loop-holds
-    shared-slice-read-b
-    returns
-    ends-line-requires
-    wrapping-add-u64-requires
-    add-i
-    loop-less
-    loop-again
-    returns-2)
+    loop-holds (λ c. search needs) returns (λ c κs. search needs) (λ c κs. search needs) (λ c. search needs) (λ c. search needs) loop-again returns-2)

@@ -1,57 +1,36 @@
 -- The bytes are passed tag by tag.
-use mathlib.Core.Path.{_≡_}
+use mathlib.Core.Path.{_≡_, refl}
 use Prim.Native.Nat.{suc, _≤_, _-_}
-use lib.ListN.{length}
+use lib.ListN.{length, drop}
 use borrow.Author.Needs.{needs}
+use Rattle.behind.specs.Lines.{openOn, linesPassing}
+use Rattle.behind.proofs.LineLaws.{tag-on, all-passed}
 use Rattle.behind.proofs.Lines.after.Statement.{statement}
 use Rattle.behind.proofs.Lines.after.Tie as tie
-use Rattle.behind.proofs.Lines.after.Reads as reads
-use Rattle.behind.proofs.Lines.after.Lts as lts
-use Rattle.behind.proofs.kind_of_tag.Reads as kind-of-tag-reads
-use Rattle.behind.proofs.note.Reads as note-reads
-use Rattle.behind.proofs.to_tag.Reads as to-tag-reads
 
 abbrev Inv-loop : tie.InvT-loop
-Inv-loop passed line lines₀ depth₀ here₀ i₀ lines depth here i = (i ≤ suc (length passed)) × (length lines ≡ 32)
+Inv-loop passed line lines₀ depth₀ here₀ i₀ lines depth here i =
+    (i ≤ suc (length passed)) × (length lines ≡ 32) × (linesPassing (openOn depth lines) (drop i passed) here ≡ linesPassing (openOn depth₀ lines₀) passed line)
 
 abbrev μ-loop : tie.MeasureT-loop
 μ-loop passed line lines₀ depth₀ here₀ i₀ lines depth here i = suc (length passed) - i
 
--- src/behind.rt:171:9
 loop-holds : tie.Need-loop-holds Inv-loop μ-loop
-loop-holds c = search needs
+loop-holds c = (search needs, search needs, refl)
 
--- src/behind.rt:172:17
-to-tag-requires : tie.Need-to-tag-requires Inv-loop μ-loop
-to-tag-requires c κs = search needs
-
--- src/behind.rt:174:26
-slice-aggregate-note : tie.Need-slice-aggregate-note Inv-loop μ-loop
-slice-aggregate-note c = search needs
-
--- src/behind.rt:174:45
-kind-of-tag-requires : tie.Need-kind-of-tag-requires Inv-loop μ-loop
-kind-of-tag-requires c κs = search needs
-
--- src/behind.rt:174:13
-note-requires : tie.Need-note-requires Inv-loop μ-loop
-note-requires c κs = search needs
-
--- src/behind.rt:175:17
-add-i : tie.Need-add-i Inv-loop μ-loop
-add-i c = search needs
-
--- src/behind.rt:171:9
-loop-less : tie.Need-loop-less Inv-loop μ-loop
-loop-less c = search needs
-
--- src/behind.rt:171:9
 loop-again : tie.Need-loop-again Inv-loop μ-loop
-loop-again c = search needs
+loop-again c =
+    let at = c .before .before .before .before .before .before .before .loop in
+    let tag = c .before .before .before .before .before .to-tag in
+    let note = c .before .before .note in (
+      search needs,
+      search needs,
+      tag-on (openOn (at .depth) (at .lines)) _ _ (at .i) (tag .result .at) (at .here) (tag .result .line) _ _ (at .inv .2) (tag .ensures .place) (tag .ensures .on)
+          (c .before .before .before .kind-of-tag .ensures) (note .ensures .lines),
+    )
 
--- src/behind.rt:166:5
 returns : tie.Need-returns Inv-loop μ-loop
-returns c = search needs
+returns c = let at = c .before .loop in all-passed (openOn (at .depth) (at .lines)) _ (at .i) (at .here) _ (c .loop-test .left) (at .inv .2)
 
 pub after-spec : {M : Type 1} → statement M
 after-spec =
@@ -59,12 +38,4 @@ after-spec =
     (tie.spec
     Inv-loop
     μ-loop
-    loop-holds
-    to-tag-requires
-    slice-aggregate-note
-    kind-of-tag-requires
-    note-requires
-    add-i
-    loop-less
-    loop-again
-    returns)
+    loop-holds (λ c κs. search needs) (λ c. search needs) (λ c κs. search needs) (λ c κs. search needs) (λ c. search needs) (λ c. search needs) loop-again returns)

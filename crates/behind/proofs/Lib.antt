@@ -1,0 +1,3 @@
+mod TailLaws
+mod TagLaws
+mod LineLaws

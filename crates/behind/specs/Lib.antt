@@ -1,0 +1,4 @@
+pub mod Tails
+pub mod Tags
+pub mod Lines
+pub mod Behinds
