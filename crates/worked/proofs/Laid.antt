@@ -60,10 +60,10 @@ module _ (s : List ℕ) (e : allTrue (sectionTests s) ≡ true) where
   tested : EachTrue (sectionTests s)
   tested = each-true (sectionTests s) e
 
-  its-size : Size s
+  pub its-size : Size s
   its-size = record { least = leb-true _ _ (tested .0); most = leb-true _ _ (tested .1 .0) }
 
-  its-sections : Sections s
+  pub its-sections : Sections s
   its-sections =
       let t = tested .1 .1 in
       let u = t .1 .1 .1 .1 in
