@@ -1,3 +1,4 @@
 mod TailLaws
 mod TagLaws
 mod LineLaws
+mod Parts

@@ -50,7 +50,7 @@ impl Tail {
         bytes[Tail::MOST - 1 - (j - n)]
     }
 
-    // After some bytes more.
+    // After some bytes more. Each count is cut before the two are added, so that no sum is too large.
     fn after(self, passed: &[u8]) -> Tail
         ensures { λ r. ⌜ r ≡ tailAfter self (now (passed .entry)) ⌝ }
     {
