@@ -1,16 +1,13 @@
--- Numbers 1 to 4: a length is compared; a tag that stands twice, and a production's tag that is none.
+-- Numbers 1 to 7: a length is compared; a tag that stands twice, and a production's tag that is none; sheets of one tag and one production are shown apart.
 -- Assumes nothing.
 use mathlib.Core.Path.{_≡_, refl, subst}
-use mathlib.Core.Bool.{true}
 use mathlib.Core.Logic.{inl, inr}
 use mathlib.Core.List.{List, [], _∷_, _++_}
 use Prim.Native.Nat.{ℕ}
 use native.Mathlib.Omega.{arith}
-use Rattle.programs.specs.Section.{no-program}
+use lib.ListN.{drop}
 use Rattle.expressions.specs.Expr.{nothing}
-use Rattle.text.specs.Names.{nameFirst}
-use Rattle.sheet.specs.Tags.{tagRecord, tagBytes, TagAt}
-use Rattle.sheet.specs.Fields.{FieldsAre}
+use Rattle.sheet.specs.Tags.{tagRecord, TagAt}
 use Rattle.sheet.specs.Defect.{DefectIs, well-formed, a-tag, a-production}
 use Rattle.sheet.specs.Sheet.{Sheet}
 use Rattle.runs.specs.Visits.{no-programs}
@@ -18,14 +15,8 @@ use Rattle.runs.specs.Examples.{Each, sheet-of, a}
 use Rattle.worked.proofs.Laid.{its-size, its-sections, Laid, laid-is-sheet}
 use Rattle.edges.specs.Edges.{b, oneProduction, no-such-tag, last-tag, of-sheets}
 use Rattle.edges.proofs.Fits.{EdgeFits}
-
--- tag t is the letter x
-pub letter-at : (s : List ℕ) (t x : ℕ) → nameFirst x ≡ true → tagBytes s t ≡ tagRecord (x ∷ []) → TagAt s t (x ∷ [])
-letter-at s t x h e = record { a-name = (h, tt); short = omega arith; spelled = e }
-
--- no programs
-pub no-fields : FieldsAre [] 0xFFFF 0xFFFF no-programs
-no-fields = record { first-is = no-program refl; second-is = no-program refl }
+use Rattle.edges.proofs.Counted.{no-sections, blank-tag}
+use Rattle.edges.proofs.OneRule.{letter-at, no-fields, no-node, empty-is, value-is, no-value, start-over, no-start, atom-grounded, atom-not-grounded}
 
 -- two tags are a, whatever the production's tag is
 module _ (t : ℕ) where
@@ -68,6 +59,40 @@ laid = record {
 last-tag-is : DefectIs last-tag 0
 last-tag-is = well-formed (laid-is-sheet last-tag of-b [] [] laid .well-formed)
 
+-- the rows from 5 on
+more-fit : Each EdgeFits (drop 13 of-sheets)
+more-fit = (
+  empty-is,
+  (
+    no-node _ _ (λ e. omega (arith, e)) (λ c l m e. omega (arith, m, e)),
+    (
+      no-node _ _ (λ e. omega arith) (λ c l m e. omega (arith, l, e)),
+      (
+        value-is _ (omega arith),
+        (
+          no-value _ (omega arith),
+          (no-start _ (omega arith) (omega arith), (no-start _ (omega arith) (omega arith), (atom-grounded, (atom-not-grounded _ (omega arith) (omega arith), (atom-not-grounded _ (omega arith) (omega arith), (twice-named 2, tt)))))),
+        ),
+      ),
+    ),
+  ),
+)
+
+-- the rows of 2 to 4
+few-fit : Each EdgeFits (drop 4 of-sheets)
+few-fit = (
+  no-sections _ refl refl (λ h. omega (arith, h .marked)),
+  (
+    no-sections _ refl refl (λ h. omega (arith, h .some-tags)),
+    (
+      no-sections _ refl refl (λ h. omega (arith, h .few-tags)),
+      (
+        blank-tag _ (its-size _ refl) (its-sections _ refl) refl,
+        (blank-tag _ (its-size _ refl) (its-sections _ refl) refl, (twice-named 0, (tag-is-none, (last-tag-is, (start-over _ (omega arith), more-fit))))),
+      ),
+    ),
+  ),
+)
+
 pub sheets-fit : Each EdgeFits of-sheets
-sheets-fit =
-    ((inl (omega arith), refl), ((omega arith, omega arith), ((omega arith, omega arith), ((inr (omega arith), refl), (twice-named 0, (tag-is-none, (last-tag-is, (twice-named 2, tt))))))))
+sheets-fit = ((inl (omega arith), refl), ((omega arith, omega arith), ((omega arith, omega arith), ((inr (omega arith), refl), few-fit))))

@@ -18,7 +18,7 @@ use Rattle.worked.specs.Worked.{fault}
 use Rattle.worked.proofs.Laid.{other, Laid, laid-is-sheet}
 use Rattle.edges.specs.Edges.{r, two-faults, three-faults, of-faults}
 use Rattle.edges.proofs.Fits.{EdgeFits}
-use Rattle.edges.proofs.Defects.{letter-at, no-fields}
+use Rattle.edges.proofs.OneRule.{letter-at, no-fields}
 
 -- the sheets: a's production once, and twice
 abbrev sheet-with : List Rule → Sheet

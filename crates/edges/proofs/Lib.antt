@@ -1,4 +1,6 @@
 pub mod Fits
+pub mod Counted
+pub mod OneRule
 pub mod Defects
 pub mod Faults
 pub mod Tokens

@@ -1,12 +1,12 @@
--- Number 29: 32 open elements fit, with the highest count and a number that closes; one more of each does not, nor do other bytes than a state's.
+-- Number 29: 32 open elements fit, with the highest count, the highest values and a number that closes; one more of each does not, nor do other bytes than a state's.
 -- Assumes nothing.
 use mathlib.Core.Path.{_≡_, refl}
 use mathlib.Core.Logic.{inl, inr}
-use mathlib.Core.List.{[], _∷_}
+use mathlib.Core.List.{List, [], _∷_}
 use mathlib.Core.Option.{some}
-use Prim.Native.Nat.{ℕ, zero, suc, _<_}
+use Prim.Native.Nat.{ℕ, zero, suc, _≤_, _<_}
 use native.Mathlib.Omega.{arith}
-use lib.ListN.{replicate}
+use lib.ListN.{getD, replicate}
 use Rattle.programs.specs.Limits.{Value}
 use Rattle.runs.specs.Closing.{closed-by-end, closed-by-refusal, closed-by-count}
 use Rattle.runs.specs.Visits.{grammar}
@@ -40,6 +40,11 @@ no-closing l n (inr closed-by-end) = omega arith
 no-closing l n (inr (closed-by-refusal k h)) = omega arith
 no-closing l n (inr closed-by-count) = omega arith
 
+-- the first of values that fit does; 0 where there is none
+first-fits : (vs : List ℕ) → Every Value vs → getD vs 0 0 ≤ 63
+first-fits [] none = omega arith
+first-fits (v ∷ vs) (more h r) = h
+
 pub states-fit : Each EdgeFits of-states
 states-fit = (
   record { few = omega arith; closing = inr closed-by-count; count = omega arith; values = values-fit 8; frames = frames-fit 32 },
@@ -50,8 +55,11 @@ states-fit = (
       (
         (λ a z e f. omega (arith, e, f .count), refl),
         (
-          (λ e. omega arith, refl),
-          ((λ e. omega arith, refl), tt),
+          (λ a z e f. omega (arith, e, first-fits (z .values) (f .values)), refl),
+          (
+            (λ e. omega arith, refl),
+            ((λ e. omega arith, refl), tt),
+          ),
         ),
       ),
     ),

@@ -4,8 +4,8 @@ use mathlib.Core.Path.{_≡_}
 use mathlib.Core.Bool.{Bool, true, false}
 use mathlib.Core.List.{List, [], _∷_, _++_}
 use mathlib.Core.Option.{some}
-use Prim.Native.Nat.{ℕ, _+_, _*_, _^_}
-use lib.ListN.{length, replicate}
+use Prim.Native.Nat.{ℕ, _+_, _*_, _^_, _/_, _%_}
+use lib.ListN.{length, getD, replicate}
 use Rattle.tokens.specs.declared.Event.{Event}
 use Rattle.tokens.specs.declared.Event.the-variants.{Start, Character}
 use Rattle.tokens.specs.declared.Answer.{Answer}
@@ -98,6 +98,38 @@ no-such-tag = oneProduction (tagRecord a) 1 1
 abbrev pub last-tag : List ℕ
 last-tag = oneProduction (tagRecord a ++ tagRecord b) 2 1
 
+-- tag a, and one production of it and of nonterminal 0: k nodes, the field of its first visit, n bytes of programs; then the start and the mark
+abbrev pub oneRule : List ℕ → ℕ → List ℕ → List ℕ → ℕ → List ℕ → List ℕ
+oneRule nodes k field programs n ending =
+    tagRecord a ++ productionBytes 0 0 k field unused ++ nodes ++ programs
+    ++ (word 0 ++ word 1 ++ word 16 ++ word 1 ++ word 28 ++ word k ++ word (28 + 6 * k) ++ word n ++ word (28 + 6 * k + n) ++ word 0) ++ ending
+
+-- with the start n, and nothing else
+abbrev pub startsAt : ℕ → List ℕ
+startsAt n = oneRule [] 0 unused [] 0 (word n ++ 0x58 ∷ 0x53 ∷ [])
+
+-- with other bytes for the mark
+abbrev pub markedBy : List ℕ → List ℕ
+markedBy mark = oneRule [] 0 unused [] 0 (word 0 ++ mark)
+
+-- with one node, of a kind and an argument
+abbrev pub oneNode : ℕ → ℕ → List ℕ
+oneNode kind argument = oneRule (nodeBytes kind argument) 1 unused [] 0 (word 0 ++ 0x58 ∷ 0x53 ∷ [])
+
+-- with the program "attribute 0 becomes v"
+abbrev pub becomes : ℕ → List ℕ
+becomes v = oneRule [] 0 (word 0) (1 ∷ 0 ∷ v ∷ 0 ∷ []) 4 (word 0 ++ 0x58 ∷ 0x53 ∷ [])
+
+-- a number of two bytes, over 255 too
+abbrev pub twoBytes : ℕ → List ℕ
+twoBytes n = (n % 256) ∷ (n / 256) ∷ []
+
+-- n tags, all of zeros, and one production, of tag 0
+abbrev pub blankTags : ℕ → List ℕ
+blankTags n =
+    replicate (16 * n) 0 ++ productionBytes 0 0 0 unused unused ++ word 0 ++ twoBytes n ++ twoBytes (16 * n) ++ word 1 ++ twoBytes (16 * n + 12) ++ word 0 ++ twoBytes (16 * n + 12) ++ word 0
+    ++ twoBytes (16 * n + 12) ++ word 0 ++ word 0 ++ 0x58 ∷ 0x53 ∷ []
+
 -- a*.a: tags r, a; production 0 is r with it, production 1 is a, empty; then more productions, n with those two
 abbrev pub starThenA : List ℕ → ℕ → List ℕ
 starThenA more n =
@@ -150,7 +182,7 @@ records more = sheet-of (r ∷ a ∷ b ∷ []) (rule 0 (tree (star (child-of 1))
 abbrev pub second-start : Rule
 second-start = record { production = record { nonterm = 0; tagno = 2; content = tree (star (child-of 1)) }; own = no-programs; of-nodes = replicate 2 no-programs }
 
--- 1 to 4: sheets that are not well-formed
+-- 1 to 7: sheets that are not well-formed
 abbrev pub of-sheets : List Edge
 of-sheets =
     -- 1: under 24 or over 27,928 bytes
@@ -158,11 +190,32 @@ of-sheets =
     ∷ length-fits 24
     ∷ length-fits 27928
     ∷ of-length 27929 1
-    -- 3: tags are all different
+    -- 2: the mark is 58 53; tags are 1 to 64
+    ∷ has-number (markedBy (0x53 ∷ 0x58 ∷ [])) 2
+    ∷ has-number (blankTags 0) 2
+    ∷ has-number (blankTags 65) 2
+    -- 3: tags have names (1 and 64 of zeros have none), and are all different
+    ∷ has-number (blankTags 1) 3
+    ∷ has-number (blankTags 64) 3
     ∷ has-number (oneProduction (tagRecord a ++ tagRecord a) 2 0) 3
     -- 4: a production's tag number is that of a tag, so below their count; the last one is
     ∷ has-number no-such-tag 4
     ∷ has-number last-tag 0
+    -- and the start is one of the nonterminals 0 to 63
+    ∷ has-number (startsAt 64) 4
+    -- 5: kinds are 1 to 6, and nonterminals 0 to 63
+    ∷ has-number (oneNode 6 0) 0
+    ∷ has-number (oneNode 7 0) 5
+    ∷ has-number (oneNode 1 64) 5
+    -- 6: values are 0 to 63
+    ∷ has-number (becomes 63) 0
+    ∷ has-number (becomes 64) 6
+    -- 7: the start, and each atom's nonterminal, has a production
+    ∷ has-number (startsAt 1) 7
+    ∷ has-number (startsAt 63) 7
+    ∷ has-number (oneNode 1 0) 0
+    ∷ has-number (oneNode 1 1) 7
+    ∷ has-number (oneNode 1 63) 7
     -- each number over the whole sheet, in number order: a tag and a production are not as above
     ∷ has-number (oneProduction (tagRecord a ++ tagRecord a) 2 2) 3
     ∷ []
@@ -206,6 +259,8 @@ of-states =
     ∷ state-with (λ z. z .depth) 33 29
     ∷ state-with (λ z. z .closed) 31 29
     ∷ state-with (λ z. z .count) (2 ^ 62 + 1) 29
+    -- a value over 63, of the first attribute
+    ∷ state-with (λ z. getD (z .values) 0 0) 64 29
     -- a state is 3,867 bytes
     ∷ state-of-length 3866 29
     ∷ state-of-length 3868 29
