@@ -28,13 +28,13 @@ use Rattle.state.specs.declared.Frame.{Frame}
 use Rattle.state.specs.declared.State.{State}
 use Rattle.state.proofs.Meant.{inside-open, meaning-pushed, meaning-popped, meaning-restored, fits-started, shaped-env, shaped-popped, shaped-restored}
 use Rattle.visits.specs.Written.{Pen}
-use Rattle.visits.specs.Ran.{Comes as Came}
+use Rattle.visits.specs.Ran.{Came}
 use Rattle.visits.specs.Performed.{PerformedAs}
 use Rattle.visits.specs.declared.Performed.{Performed}
 use Rattle.visits.proofs.Printing.{escaped-short}
 use Rattle.visits.proofs.Running.{pen-at}
 use Rattle.visits.proofs.Theorems.{first-visit-recalls-nothing}
-use Rattle.acts.specs.Seen.{Outcome as Acted}
+use Rattle.acts.specs.Seen.{ActedSeen}
 use Rattle.acts.specs.Acted.{Done, Comes, EntersAs, LeavesAs, ReadsAs}
 use Rattle.acts.specs.Visited.{programFor, recalledIn, FieldFound, VisitedAs, EchoedAs}
 
@@ -54,7 +54,7 @@ module _ (s : List ℕ) (q i field : ℕ) (kept : List ℕ) (z : State) (p : Pen
 abbrev pub after : State → Effect → State
 after z x = withEnv z (x .values) (x .echo) (suc (z .count))
 
-module _ (s : List ℕ) (q i : ℕ) (again : Bool) (kept : List ℕ) (z : State) (p : Pen) (v : Acted) (d : List ℕ) (G : VisitedAs s q i again kept z p v d) where
+module _ (s : List ℕ) (q i : ℕ) (again : Bool) (kept : List ℕ) (z : State) (p : Pen) (v : ActedSeen) (d : List ℕ) (G : VisitedAs s q i again kept z p v d) where
   pub state-after : (x : Effect) → v .state .values ≡ x .values → v .state .echo ≡ x .echo → v .state ≡ after z x
   state-after x e f = G .state-is ∙ ap₂ (λ (vs : List ℕ) (b : Bool). withEnv z vs b (suc (z .count))) e f
 
@@ -84,7 +84,7 @@ entered-means : (z : State) (x : Effect) (q : ℕ) (o : Piece) → Shaped z → 
 unfolding meaningOf
 entered-means z x q o h deep = meaning-pushed (after z x) q (record { values = x .values; echo = z .echo }) (shaped-env z (x .values) (x .echo) (suc (z .count)) h) deep
 
-module _ (s : List ℕ) (q : ℕ) (kept : List ℕ) (z : State) (p : Pen) (v : Acted) (d : List ℕ) (G : VisitedAs s q 0 false kept z p v d) where
+module _ (s : List ℕ) (q : ℕ) (kept : List ℕ) (z : State) (p : Pen) (v : ActedSeen) (d : List ℕ) (G : VisitedAs s q 0 false kept z p v d) where
   pub enter-rejected : v .ok ≡ false → EntersAs s q z p v d
   unfolding meaningOf
   enter-rejected e = record { reach = omega (arith, G .reach); count = omega (arith, G .count); dry = G .dry; right = λ a y h deep. go a (performed a [] (programsOf (a .rules) q 0 .first-visit) (z .values) (z .echo)) (G .right a y) }
@@ -95,7 +95,7 @@ module _ (s : List ℕ) (q : ℕ) (kept : List ℕ) (z : State) (p : Pen) (v : A
       go a none c = e
       go a (some x) c = absurd (true≢false (sym (c .0) ∙ e))
 
-  module _ (r : Acted) (d₂ : List ℕ) (E : EchoedAs s q false (v .state .echo) (pen-at p d (v .at)) (r .at) d₂) where
+  module _ (r : ActedSeen) (d₂ : List ℕ) (E : EchoedAs s q false (v .state .echo) (pen-at p d (v .at)) (r .at) d₂) where
     abbrev new : Frame
     new = started q (record { values = v .state .values; echo = z .echo })
 
@@ -136,7 +136,7 @@ without-both ([] ∷ kss) = refl
 without-both ((k ∷ ks) ∷ kss) = refl
 
 -- a second visit is on the state that the set was taken off
-pub visited-again : (s : List ℕ) (q i : ℕ) (z : State) (p : Pen) (v : Acted) (d : List ℕ) (t : Restored) → t ≡ restored z → VisitedAs s q i true (t .saved .values) (t .state) p v d →
+pub visited-again : (s : List ℕ) (q i : ℕ) (z : State) (p : Pen) (v : ActedSeen) (d : List ℕ) (t : Restored) → t ≡ restored z → VisitedAs s q i true (t .saved .values) (t .state) p v d →
     VisitedAs s q i true (restored z .saved .values) (restored z .state) p v d
 visited-again s q i z p v d t e G = subst (λ (u : Restored). VisitedAs s q i true (u .saved .values) (u .state) p v d) e G
 
@@ -172,14 +172,14 @@ left-means z x o os n h e p =
     ∙ ap₂ (λ (kss : List (List Kept)) (v : Running). record { control = outer os; store = record { kept = kss; env = v } }) (back-kept z x h deep p) (back-env z x h deep p)
 
 -- the values that a second visit recalls are those kept of the innermost open node
-pub recalls : (s : List ℕ) (q i : ℕ) (z : State) (p : Pen) (v : Acted) (d : List ℕ) → VisitedAs s q i true (restored z .saved .values) (restored z .state) p v d → (a : Sheet) → IsSheet s a →
+pub recalls : (s : List ℕ) (q i : ℕ) (z : State) (p : Pen) (v : ActedSeen) (d : List ℕ) → VisitedAs s q i true (restored z .saved .values) (restored z .state) p v d → (a : Sheet) → IsSheet s a →
     Shaped z → (o : Open) (os : List Open) → meaningOf z .control ≡ inside o os → 0 < topOf z .«open» →
     Came (performed a (innermost (meaningOf z .store .kept) .values) (programsOf (a .rules) q i .second-visit) (z .values) (z .echo)) p (v .ok) (v .at) (record { values = v .state .values; echo = v .state .echo }) d
 recalls s q i z p v d G a y h o os e n =
     subst (λ (k : Kept). Came (performed a (k .values) (programsOf (a .rules) q i .second-visit) (z .values) (z .echo)) p (v .ok) (v .at) (record { values = v .state .values; echo = v .state .echo }) d)
     (meaning-restored z h (inside-open z o os e) n .1) (G .right a y)
 
-module _ (s : List ℕ) (q : ℕ) (z : State) (p : Pen) (v : Acted) (d : List ℕ) (G : VisitedAs s q 0 true (restored z .saved .values) (restored z .state) p v d) where
+module _ (s : List ℕ) (q : ℕ) (z : State) (p : Pen) (v : ActedSeen) (d : List ℕ) (G : VisitedAs s q 0 true (restored z .saved .values) (restored z .state) p v d) where
   abbrev leaving : Sheet → Option Effect → Option Store
   leaving a t =
       bind (bind (bind t (λ x. some (visited (meaningOf z .store .env) x))) (λ w. some (returned (innermost (meaningOf z .store .kept) .echo) (echoed (end (tagName a q)) w))))
@@ -199,7 +199,7 @@ module _ (s : List ℕ) (q : ℕ) (z : State) (p : Pen) (v : Acted) (d : List �
       go a os none c = f
       go a os (some x) c = absurd (true≢false (sym (c .0) ∙ f))
 
-  module _ (r : Acted) (d₂ : List ℕ) (E : EchoedAs s q true (v .state .echo) (pen-at p d (v .at)) (r .at) d₂) where
+  module _ (r : ActedSeen) (d₂ : List ℕ) (E : EchoedAs s q true (v .state .echo) (pen-at p d (v .at)) (r .at) d₂) where
     pub left : v .ok ≡ true → r .ok ≡ true → (X : State) → X ≡ withEnv (v .state) (v .state .values) (restored z .saved .echo) (v .state .count) → r .state .count ≡ X .count → r .state .closed ≡ X .closed →
         (0 < X .depth → meaningOf (r .state) ≡ meaningOf (popped X)) → (0 < X .depth → Shaped X → Shaped (r .state)) → LeavesAs s q z p r d₂
     unfolding meaningOf

@@ -22,7 +22,7 @@ use Rattle.output.proofs.Writing.{put-then, same-bytes, render-append}
 use Rattle.runs.specs.Options.{bind}
 use Rattle.runs.specs.Execute.{Effect}
 use Rattle.runs.specs.Visits.{programsOf, performed, Env as Running, saved, visited, returned}
-use Rattle.runs.specs.Acts.{Act, bracket-act, bracket-acts, Store, pushed as pushed-on, innermost, without-node, act, acts, store-behind}
+use Rattle.runs.specs.Acts.{Act, bracket-act, bracket-acts, Store, with-node, innermost, without-node, act, acts, store-behind}
 use Rattle.runs.specs.Machine.{Open, Control, inside, Configuration as Run}
 use Rattle.runs.specs.Nodes.{only-if, through-nodes}
 use Rattle.runs.proofs.Frame.{acts-frame}
@@ -35,14 +35,14 @@ use Rattle.state.specs.declared.Frame.{Frame}
 use Rattle.state.specs.declared.State.{State}
 use Rattle.state.proofs.Meant.{inside-open, meaning-saved, meaning-restored, shaped-env, shaped-saved}
 use Rattle.visits.specs.Written.{Pen}
-use Rattle.visits.specs.Ran.{Comes as Came}
+use Rattle.visits.specs.Ran.{Came}
 use Rattle.visits.proofs.Running.{pen-at}
 use Rattle.ways.specs.Held.{codeOf, codes}
 use Rattle.few.specs.Strings.{mostBrackets}
 use Rattle.ways.proofs.Holds.{length-codes}
-use Rattle.acts.specs.Seen.{Outcome as Acted}
+use Rattle.acts.specs.Seen.{ActedSeen}
 use Rattle.acts.specs.Acted.{Done, Comes, visitReach, BracketsAs}
-use Rattle.acts.specs.Visited.{VisitedAs, Room, setsAfter, NodeAs, BracketAs}
+use Rattle.acts.specs.Visited.{VisitedAs, SetRoom, setsAfter, NodeAs, BracketAs}
 use Rattle.acts.proofs.Acting.{after, state-after, back, back-env, back-shaped, recalls}
 
 -- ---- an opening bracket
@@ -50,7 +50,7 @@ opened-means : (z : State) (x : Effect) (o : Open) (os : List Open) → Shaped z
     meaningOf (saving (after z x) (record { values = x .values; echo = z .echo })) ≡
     silent (record {
       control = meaningOf z .control;
-      store = record { kept = pushed-on (saved (meaningOf z .store .env) (visited (meaningOf z .store .env) x)) (meaningOf z .store .kept); env = visited (meaningOf z .store .env) x };
+      store = record { kept = with-node (saved (meaningOf z .store .env) (visited (meaningOf z .store .env) x)) (meaningOf z .store .kept); env = visited (meaningOf z .store .env) x };
     })
 unfolding meaningOf
 opened-means z x o os h e n = meaning-saved (after z x) (record { values = x .values; echo = z .echo }) (shaped-env z (x .values) (x .echo) (suc (z .count)) h) (inside-open z o os e) n
@@ -73,9 +73,9 @@ saved-sets z k h deep n = ap (λ (f : Frame). f .«open») (top-put z (keeping (
 restored-sets : (z : State) → Shaped z → 0 < z .depth → topOf (restored z .state) .«open» ≡ topOf z .«open» - 1
 restored-sets z h deep = ap (λ (f : Frame). f .«open») (top-put z (record { production = topOf z .production; place = topOf z .place; «open» = topOf z .«open» - 1; saved = topOf z .saved }) h deep)
 
-module _ (s : List ℕ) (q i : ℕ) (kept : List ℕ) (z : State) (p : Pen) (v : Acted) (d : List ℕ) (G : VisitedAs s q i false kept z p v d) where
+module _ (s : List ℕ) (q i : ℕ) (kept : List ℕ) (z : State) (p : Pen) (v : ActedSeen) (d : List ℕ) (G : VisitedAs s q i false kept z p v d) where
   abbrev opening-comes : Option Effect → Option Store
-  opening-comes t = bind (bind t (λ x. some (visited (meaningOf z .store .env) x))) (λ w. some (record { kept = pushed-on (saved (meaningOf z .store .env) w) (meaningOf z .store .kept); env = w }))
+  opening-comes t = bind (bind t (λ x. some (visited (meaningOf z .store .env) x))) (λ w. some (record { kept = with-node (saved (meaningOf z .store .env) w) (meaningOf z .store .kept); env = w }))
 
   pub open-rejected : v .ok ≡ false → NodeAs s q (opening i) z p v d
   unfolding meaningOf
@@ -140,7 +140,7 @@ unfolding meaningOf
 closed-means z x o os h e n =
     ap₂ (λ (m : Run) (w : Running). record { control = m .control; store = record { kept = m .store .kept; env = w } }) (meaning-restored z h (inside-open z o os e) n .0) (back-env z x h (inside-open z o os e) n)
 
-module _ (s : List ℕ) (q i : ℕ) (z : State) (p : Pen) (v : Acted) (d : List ℕ) (G : VisitedAs s q i true (restored z .saved .values) (restored z .state) p v d) where
+module _ (s : List ℕ) (q i : ℕ) (z : State) (p : Pen) (v : ActedSeen) (d : List ℕ) (G : VisitedAs s q i true (restored z .saved .values) (restored z .state) p v d) where
   abbrev closing-comes : Option Effect → Option Store
   closing-comes t =
       bind (bind (bind t (λ x. some (visited (meaningOf z .store .env) x))) (λ w. some (returned (innermost (meaningOf z .store .kept) .echo) w)))
@@ -192,7 +192,7 @@ module _ (s : List ℕ) (q i : ℕ) (z : State) (p : Pen) (v : Acted) (d : List 
       go h o os e n (some x) c = done h o os e n x (c .1) (c .2) (c .3)
 
 -- ---- the bracket of a byte
-module _ (s : List ℕ) (q c : ℕ) (z : State) (p : Pen) (r : Acted) (d : List ℕ) where
+module _ (s : List ℕ) (q c : ℕ) (z : State) (p : Pen) (r : ActedSeen) (d : List ℕ) where
   pub even-bracket : c % 2 ≡ 0 → NodeAs s q (opening (c / 2)) z p r d → BracketAs s q c z p r d
   even-bracket even N = record { reach = N .reach; count = N .count; deep = N .deep; dry = N .dry; right = go }
     where
@@ -213,14 +213,14 @@ silent-behind m n k e =
     ap (λ (o : List Piece). record { kept = m .kept; env = record { values = m .env .values; echo = m .env .echo; out = o; count = m .env .count } }) (sym (append-nil (m .env .out)))
     ∙ ap (λ (u : Run). store-behind (m .env .out) (u .store)) (sym e)
 
-module _ (a : Sheet) (bs : List Act) (k : Control) (z : State) (p : Pen) (v : Acted) (d : List ℕ) where
+module _ (a : Sheet) (bs : List Act) (k : Control) (z : State) (p : Pen) (v : ActedSeen) (d : List ℕ) where
   -- the first was rejected
   pub comes-stop : (t : Option Store) → v .ok ≡ false → Comes t k z p v d → Comes (bind t (λ m. acts a bs m)) k z p v d
   comes-stop none f c = f
   comes-stop (some m) f c = absurd (true≢false (sym (c .ok) ∙ f))
 
   -- the others go on from the state and the output that the first left
-  module _ (r : Acted) (d₂ : List ℕ) where
+  module _ (r : ActedSeen) (d₂ : List ℕ) where
     behind-comes : (m : Store) → Done k m z p v d → (t : Option Store) → Comes t k (v .state) (pen-at p d (v .at)) r d₂ → Comes (bind t (λ m′. some (store-behind (m .env .out) m′))) k z p r d₂
     behind-comes m D none c = c
     behind-comes m D (some n) c =
@@ -242,7 +242,7 @@ module _ (a : Sheet) (bs : List Act) (k : Control) (z : State) (p : Pen) (v : Ac
 
 -- ---- the sets in use along a string
 pub record Passed (b : Bracket) (β : List Bracket) (n : ℕ) (ns′ : List ℕ) : Type 0 where
-  pub room : Room b n
+  pub room : SetRoom b n
   pub nodes : List ℕ
   pub through : through-nodes 12 β nodes ≡ some ns′
   pub sets : setsAfter b n ≡ suc (length nodes)
@@ -276,7 +276,7 @@ pub record LeftOf (a : Sheet) (q : ℕ) (α β : List Bracket) (ns′ : List ℕ
   pub nodes : List ℕ
   pub through : through-nodes 12 β nodes ≡ some ns′
   pub sets : topOf z .«open» ≡ suc (length nodes)
-  pub whole : (r : Acted) (d₂ : List ℕ) → Comes (acts a (bracket-acts q β) (meaningOf z .store)) (meaningOf z₀ .control) z (pen-at p d at) r d₂ → Comes (acts a (bracket-acts q α) (meaningOf z₀ .store)) (meaningOf z₀ .control) z₀ p r d₂
+  pub whole : (r : ActedSeen) (d₂ : List ℕ) → Comes (acts a (bracket-acts q β) (meaningOf z .store)) (meaningOf z₀ .control) z (pen-at p d at) r d₂ → Comes (acts a (bracket-acts q α) (meaningOf z₀ .store)) (meaningOf z₀ .control) z₀ p r d₂
 
 pub left-all : (a : Sheet) (q : ℕ) (α : List Bracket) (ns ns′ : List ℕ) (z : State) (p : Pen) → Shaped z → through-nodes 12 α ns ≡ some ns′ → topOf z .«open» ≡ suc (length ns) → LeftOf a q α α ns′ z z p (p .at) (p .lent)
 left-all a q α ns ns′ z p h t n = record { shaped = h; control = refl; nodes = ns; through = t; sets = n; whole = λ r d₂ c. c }
@@ -291,7 +291,7 @@ module _ (s : List ℕ) (a : Sheet) (y : IsSheet s a) (q : ℕ) (α : List Brack
       its-out : PutAs (p .write) d at (render (meaningOf z .store .env .out)) d at
       its-out = out-none z (p .write) d at
 
-  module _ (b : Bracket) (β : List Bracket) (L : LeftOf a q α (b ∷ β) ns′ z₀ z p at d) (v : Acted) (d₁ : List ℕ) (N : NodeAs s q b z (pen-at p d at) v d₁) where
+  module _ (b : Bracket) (β : List Bracket) (L : LeftOf a q α (b ∷ β) ns′ z₀ z p at d) (v : ActedSeen) (d₁ : List ℕ) (N : NodeAs s q b z (pen-at p d at) v d₁) where
     passed : Passed b β (topOf z .«open») ns′
     passed = pass b β (L .nodes) ns′ (topOf z .«open») (L .through) (L .sets)
 
@@ -364,7 +364,7 @@ module _ (s : List ℕ) (q : ℕ) (line : List ℕ) (z₀ : State) (p : Pen) whe
         }
 
     -- one more bracket
-    module _ (here : i < length line) (v : Acted) (d₁ : List ℕ) (B : BracketAs s q (getD line i 0) z (pen-at p d at) v d₁) where
+    module _ (here : i < length line) (v : ActedSeen) (d₁ : List ℕ) (B : BracketAs s q (getD line i 0) z (pen-at p d at) v d₁) where
       abbrev it : (α : List Bracket) → line ≡ codes α → BracketAt α (line) i
       it α l = line-bracket α line l i here
 
@@ -400,11 +400,11 @@ module _ (s : List ℕ) (q : ℕ) (line : List ℕ) (z₀ : State) (p : Pen) whe
           }
 
 -- a rejection says nothing of the state
-pub void : (t : Option Store) (k : Control) (z : State) (p : Pen) (v : Acted) (d : List ℕ) → v .ok ≡ false → Comes t k z p v d → Comes t k z p (record { ok = false; at = v .at; state = z }) d
+pub void : (t : Option Store) (k : Control) (z : State) (p : Pen) (v : ActedSeen) (d : List ℕ) → v .ok ≡ false → Comes t k z p v d → Comes t k z p (record { ok = false; at = v .at; state = z }) d
 void none k z p v d f c = refl
 void (some m) k z p v d f c = absurd (true≢false (sym (c .ok) ∙ f))
 
-pub gives-up : (s : List ℕ) (q : ℕ) (line : List ℕ) (z : State) (p : Pen) (v : Acted) (d : List ℕ) → v .ok ≡ false → BracketsAs s q line z p v d → BracketsAs s q line z p (record { ok = false; at = v .at; state = z }) d
+pub gives-up : (s : List ℕ) (q : ℕ) (line : List ℕ) (z : State) (p : Pen) (v : ActedSeen) (d : List ℕ) → v .ok ≡ false → BracketsAs s q line z p v d → BracketsAs s q line z p (record { ok = false; at = v .at; state = z }) d
 gives-up s q line z p v d f B =
     record {
       reach = B .reach;
@@ -416,7 +416,7 @@ gives-up s q line z p v d f B =
 
 -- a bracket of a string always has room for its set, or a set to take off
 pub no-room : (s : List ℕ) (q : ℕ) (line : List ℕ) (z₀ : State) (p : Pen) (i : ℕ) (z : State) (at : ℕ) (d : List ℕ) → LeftIn s q line i z₀ p z at d → i < length line → length line ≤ mostBrackets →
-    ((b : Bracket) → getD line i 0 ≡ codeOf b → Shaped z → 0 < z .depth → Room b (topOf z .«open») → ⊥) → BracketsAs s q line z₀ p (record { ok = false; at = at; state = z₀ }) d
+    ((b : Bracket) → getD line i 0 ≡ codeOf b → Shaped z → 0 < z .depth → SetRoom b (topOf z .«open») → ⊥) → BracketsAs s q line z₀ p (record { ok = false; at = at; state = z₀ }) d
 no-room s q line z₀ p i z at d L here few never =
     record {
       reach = omega (arith, L .few, L .reach);

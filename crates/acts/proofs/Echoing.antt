@@ -21,7 +21,7 @@ use Rattle.output.proofs.Writing.{same-bytes}
 use Rattle.runs.specs.Execute.{nameOf}
 use Rattle.runs.specs.Lookup.{tagOf}
 use Rattle.runs.specs.Visits.{grammar, tagName, whileOn}
-use Rattle.visits.specs.Written.{Pen, Written, tagText, NameAt, TagOf}
+use Rattle.visits.specs.Written.{Pen, Written, tagText, TagNameAt, TagOf}
 use Rattle.visits.specs.Ran.{mostPrinted}
 use Rattle.visits.proofs.Performing.{sources}
 use Rattle.acts.specs.Visited.{tagPiece, EchoedAs}
@@ -36,12 +36,12 @@ tag-written false n = sym (append-nil (startTag n))
 tag-written true n = sym (append-nil (endTag n))
 
 module _ (s : List ℕ) (l : Layout) (L : LaidOut s l) (q : ℕ) (h : q < l .productions) (ending on : Bool) (p : Pen) where
-  name-there : (a : Sheet) → IsSheet s a → (t : ℕ) → t ≡ tagNumberOf s q → NameAt s t (tagName a q)
+  name-there : (a : Sheet) → IsSheet s a → (t : ℕ) → t ≡ tagNumberOf s q → TagNameAt s t (tagName a q)
   name-there a y t e =
       let u = rule-of s l L q h a y in
       let same : tagOf (grammar a) q ≡ t = u .tag-is ∙ u .at .production-is .tag-is ∙ sym e in
       let few : t < length (a .names) = omega (arith, y .well-formed .productions .each q (omega (arith, L .layout-is .productions-is .is)) .tag, from-counted (TagAt s) 0 (tagCount s) (a .names) (y .names-are), e) in
-      subst (λ (k : ℕ). NameAt s t (nameOf (a .names) k)) (sym same) (sources s l L a y .names-are t few)
+      subst (λ (k : ℕ). TagNameAt s t (nameOf (a .names) k)) (sym same) (sources s l L a y .names-are t few)
 
   pub tag-echoed : WellFormed s → on ≡ true → (t : ℕ) → t ≡ tagNumberOf s q → (r : ℕ) (d : List ℕ) → Written mostPrinted (TagOf s t ending) p r d → EchoedAs s q ending on p r d
   tag-echoed w e t f r d W = record { reach = short (is-sheet w); dry = W .dry; right = goes }

@@ -26,10 +26,10 @@ use Rattle.few.specs.Strings.{mostBrackets}
 use Rattle.visits.specs.declared.Performed.{Performed}
 use Rattle.expressions.specs.Words.{Bracket, opening, closing}
 use Rattle.ways.specs.Held.{codeOf}
-use Rattle.acts.specs.Seen.{Outcome as Acted}
+use Rattle.acts.specs.Seen.{ActedSeen}
 use Rattle.acts.specs.Acted.{BracketsAs}
 use Rattle.acts.specs.Standing.{SlotIs, standingAt}
-use Rattle.acts.specs.Visited.{PerformsAs, Room, VisitedAs, BracketAs}
+use Rattle.acts.specs.Visited.{PerformsAs, SetRoom, VisitedAs, BracketAs}
 use Rattle.acts.proofs.Acting.{a-visit, visited-again}
 use Rattle.acts.proofs.Bracketing.{open-rejected, opened, close-rejected, closed, even-bracket, odd-bracket, LeftIn, stops-here, one-less, gives-up, no-room}
 
@@ -85,7 +85,7 @@ module _ (s : List ℕ) (q c : ℕ) (z : Live) (i : ℕ) (e : Env) (n : ℕ) (se
         one : (c % 2 ≡ 0 → ⊥) → c % 2 ≡ 1
         one o = omega (arith, o)
 
-    abbrev v : Acted
+    abbrev v : ActedSeen
     v = record { ok = r .ok; at = r .at; state = withEnv (full less b) (r .env .values) (r .env .echo) (z .count + i + 1) }
 
     off-state : record { saved = old; state = full less b } ≡ restored (full here b)
@@ -109,7 +109,7 @@ module _ (s : List ℕ) (q : ℕ) (line : List ℕ) (z : Live) (p : Pen) (i : �
   pub no-slot : mostSets ≤ j → length line ≤ mostBrackets → BracketsAs s q line (full z b) p (record { ok = false; at = at; state = full z b }) d
   no-slot past few = no-room s q line (full z b) p i (full (standingAt z i e n sets) b) at d L within few never
     where
-      never : (k : Bracket) → code ≡ codeOf k → Shaped (full (standingAt z i e n sets) b) → 0 < z .depth → Room k (topOf (full (standingAt z i e n sets) b) .«open») → ⊥
+      never : (k : Bracket) → code ≡ codeOf k → Shaped (full (standingAt z i e n sets) b) → 0 < z .depth → SetRoom k (topOf (full (standingAt z i e n sets) b) .«open») → ⊥
       never (opening m) is h deep room =
           let same : topOf (full (standingAt z i e n sets) b) .«open» ≡ n = ap (λ (f : Frame). f .«open») (top-full (standingAt z i e n sets) b deep) in
           let even : code % 2 ≡ 0 = omega (arith, is) in

@@ -20,17 +20,17 @@ use Rattle.state.specs.Meaning.{meaningOf, opensOf, Shaped}
 use Rattle.state.specs.declared.State.{State}
 use Rattle.visits.specs.Written.{Pen}
 use Rattle.ways.specs.Held.{codes}
-use Rattle.acts.specs.Seen.{Outcome as Acted}
+use Rattle.acts.specs.Seen.{ActedSeen}
 use Rattle.acts.specs.Acted.{Comes, BracketsAs, EntersAs, LeavesAs, ReadsAs}
 
-pub record Agree (p : Pen) (r t : Acted) (d e : List ℕ) : Type 0 where
+pub record Agree (p : Pen) (r t : ActedSeen) (d e : List ℕ) : Type 0 where
   pub ok : r .ok ≡ t .ok
   pub at : r .ok ≡ true → r .at ≡ t .at
   pub means : r .ok ≡ true → meaningOf (r .state) ≡ meaningOf (t .state)
   pub closed : r .ok ≡ true → r .state .closed ≡ t .state .closed
   pub memory : (p .write ≡ false) ⊎ (r .ok ≡ true) → d ≡ e
 
-module _ (z : State) (p : Pen) (r t : Acted) (d e : List ℕ) where
+module _ (z : State) (p : Pen) (r t : ActedSeen) (d e : List ℕ) where
   one-outcome : (o : Option Store) (c : Control) → (p .write ≡ false → d ≡ p .lent) → (p .write ≡ false → e ≡ p .lent) → Comes o c z p r d → Comes o c z p t e → Agree p r t d e
   one-outcome none c f g x y =
       record {

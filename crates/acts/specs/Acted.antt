@@ -22,10 +22,10 @@ use Rattle.calls.specs.Limits.{silent}
 use Rattle.state.specs.Changes.{topOf}
 use Rattle.state.specs.Meaning.{meaningOf, opensOf, Shaped}
 use Rattle.state.specs.declared.State.{State}
-use Rattle.acts.specs.Seen.{Outcome as Acted}
+use Rattle.acts.specs.Seen.{ActedSeen}
 
 -- the acts came to m, and the run then stands at c: the state stands for that, and m's output is what was written from p on
-pub record Done (c : Control) (m : Store) (z : State) (p : Pen) (r : Acted) (d : List ℕ) : Type 0 where
+pub record Done (c : Control) (m : Store) (z : State) (p : Pen) (r : ActedSeen) (d : List ℕ) : Type 0 where
   pub ok : r .ok ≡ true
   pub means : meaningOf (r .state) ≡ silent (record { control = c; store = m })
   pub shaped : Shaped (r .state)
@@ -33,7 +33,7 @@ pub record Done (c : Control) (m : Store) (z : State) (p : Pen) (r : Acted) (d :
   pub written : PutAs (p .write) (p .lent) (p .at) (render (m .env .out)) d (r .at)
 
 -- none is a rejection
-abbrev pub Comes : Option Store → Control → State → Pen → Acted → List ℕ → Type 0
+abbrev pub Comes : Option Store → Control → State → Pen → ActedSeen → List ℕ → Type 0
 Comes none c z p r d = r .ok ≡ false
 Comes (some m) c z p r d = Done c m z p r d
 
@@ -42,7 +42,7 @@ abbrev pub visitReach : ℕ
 visitReach = mostPrinted * 16384 + 64
 
 -- the brackets' visits of production q, where the string's openings and closings fit the sets that are kept: ns are the nodes open before it
-pub record BracketsAs (s : List ℕ) (q : ℕ) (line : List ℕ) (z : State) (p : Pen) (r : Acted) (d : List ℕ) : Type 0 where
+pub record BracketsAs (s : List ℕ) (q : ℕ) (line : List ℕ) (z : State) (p : Pen) (r : ActedSeen) (d : List ℕ) : Type 0 where
   pub reach : r .at ≤ p .at + mostBrackets * visitReach
   pub count : r .state .count ≤ z .count + mostBrackets
   pub deep : r .state .depth ≡ z .depth
@@ -52,7 +52,7 @@ pub record BracketsAs (s : List ℕ) (q : ℕ) (line : List ℕ) (z : State) (p 
       Comes (acts a (bracket-acts q α) (meaningOf z .store)) (meaningOf z .control) z p r d
 
 -- a start tag of production q
-pub record EntersAs (s : List ℕ) (q : ℕ) (z : State) (p : Pen) (r : Acted) (d : List ℕ) : Type 0 where
+pub record EntersAs (s : List ℕ) (q : ℕ) (z : State) (p : Pen) (r : ActedSeen) (d : List ℕ) : Type 0 where
   pub reach : r .at ≤ p .at + visitReach
   pub count : r .state .count ≤ z .count + 1
   pub dry : p .write ≡ false → d ≡ p .lent
@@ -60,7 +60,7 @@ pub record EntersAs (s : List ℕ) (q : ℕ) (z : State) (p : Pen) (r : Acted) (
       Comes (act a (start-tag q) (meaningOf z .store)) (inside (at-start q) (opensOf (meaningOf z .control))) z p r d
 
 -- an end tag of production q, of which a set is kept
-pub record LeavesAs (s : List ℕ) (q : ℕ) (z : State) (p : Pen) (r : Acted) (d : List ℕ) : Type 0 where
+pub record LeavesAs (s : List ℕ) (q : ℕ) (z : State) (p : Pen) (r : ActedSeen) (d : List ℕ) : Type 0 where
   pub reach : r .at ≤ p .at + visitReach
   pub count : r .state .count ≤ z .count + 1
   pub dry : p .write ≡ false → d ≡ p .lent
@@ -68,7 +68,7 @@ pub record LeavesAs (s : List ℕ) (q : ℕ) (z : State) (p : Pen) (r : Acted) (
       Comes (act a (end-tag q) (meaningOf z .store)) (outer os) z p r d
 
 -- a character
-pub record ReadsAs (c : ℕ) (z : State) (p : Pen) (r : Acted) (d : List ℕ) : Type 0 where
+pub record ReadsAs (c : ℕ) (z : State) (p : Pen) (r : ActedSeen) (d : List ℕ) : Type 0 where
   pub reach : r .at ≤ p .at + visitReach
   pub count : r .state .count ≤ z .count
   pub dry : p .write ≡ false → d ≡ p .lent

@@ -7,10 +7,10 @@ use Rattle.state.specs.declared.State.{State}
 use Rattle.live.specs.Live.{full}
 use Rattle.acts.specs.declared.Acted.{Acted}
 
-pub record Outcome : Type 0 where
+pub record ActedSeen : Type 0 where
   pub ok : Bool
   pub at : ℕ
   pub state : State
 
-abbrev pub seen : Acted → List ℕ → Outcome
+abbrev pub seen : Acted → List ℕ → ActedSeen
 seen r b = record { ok = r .ok; at = r .at; state = full (r .live) b }

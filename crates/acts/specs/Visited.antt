@@ -14,7 +14,7 @@ use Rattle.sheet.specs.Fields.{Visits}
 use Rattle.sheet.specs.Sheet.{Sheet, IsSheet}
 use Rattle.output.specs.Escape.{Piece, start, end, render}
 use Rattle.visits.specs.Written.{Pen}
-use Rattle.visits.specs.Ran.{mostPrinted, Comes as Came}
+use Rattle.visits.specs.Ran.{mostPrinted, Came}
 use Rattle.visits.specs.Performed.{PerformedAs}
 use Rattle.visits.specs.declared.Env.{Env}
 use Rattle.visits.specs.declared.Performed.{Performed}
@@ -26,7 +26,7 @@ use Rattle.state.specs.Bounds.{mostSets}
 use Rattle.state.specs.Changes.{topOf, withEnv}
 use Rattle.state.specs.Meaning.{meaningOf, Shaped}
 use Rattle.state.specs.declared.State.{State}
-use Rattle.acts.specs.Seen.{Outcome as Acted}
+use Rattle.acts.specs.Seen.{ActedSeen}
 use Rattle.acts.specs.Acted.{Comes, visitReach}
 
 -- of a node's two visits, the second where `again` says so: the visit, its program, and what it can recall
@@ -54,7 +54,7 @@ pub record PerformsAs (s : List ℕ) (q i : ℕ) (again : Bool) (kept : List ℕ
   pub done : PerformedAs s field kept e p r d
 
 -- a visit of production q's node i: it changes attributes, echo and count alone
-pub record VisitedAs (s : List ℕ) (q i : ℕ) (again : Bool) (kept : List ℕ) (z : State) (p : Pen) (r : Acted) (d : List ℕ) : Type 0 where
+pub record VisitedAs (s : List ℕ) (q i : ℕ) (again : Bool) (kept : List ℕ) (z : State) (p : Pen) (r : ActedSeen) (d : List ℕ) : Type 0 where
   pub reach : r .at ≤ p .at + mostPrinted * 16384
   pub count : r .state .count ≡ z .count + 1
   pub dry : p .write ≡ false → d ≡ p .lent
@@ -74,26 +74,26 @@ pub record EchoedAs (s : List ℕ) (q : ℕ) (ending on : Bool) (p : Pen) (r : �
   pub right : (a : Sheet) → IsSheet s a → PutAs (p .write) (p .lent) (p .at) (render (whileOn on (tagPiece ending (tagName a q)))) d r
 
 -- a bracket needs room for a set, or a set; and how many sets are in use after it
-abbrev pub Room : Bracket → ℕ → Type 0
-Room (opening i) n = n < mostSets
-Room (closing i) n = 0 < n
+abbrev pub SetRoom : Bracket → ℕ → Type 0
+SetRoom (opening i) n = n < mostSets
+SetRoom (closing i) n = 0 < n
 
 abbrev pub setsAfter : Bracket → ℕ → ℕ
 setsAfter (opening i) n = n + 1
 setsAfter (closing i) n = n - 1
 
 -- the visit of a bracket of production q
-pub record NodeAs (s : List ℕ) (q : ℕ) (b : Bracket) (z : State) (p : Pen) (r : Acted) (d : List ℕ) : Type 0 where
+pub record NodeAs (s : List ℕ) (q : ℕ) (b : Bracket) (z : State) (p : Pen) (r : ActedSeen) (d : List ℕ) : Type 0 where
   pub reach : r .at ≤ p .at + visitReach
   pub count : r .state .count ≤ z .count + 1
   pub deep : r .state .depth ≡ z .depth
   pub dry : p .write ≡ false → d ≡ p .lent
-  pub sets : Shaped z → 0 < z .depth → Room b (topOf z .«open») → r .ok ≡ true → topOf (r .state) .«open» ≡ setsAfter b (topOf z .«open»)
-  pub right : (a : Sheet) → IsSheet s a → Shaped z → (o : Open) (os : List Open) → meaningOf z .control ≡ inside o os → Room b (topOf z .«open») →
+  pub sets : Shaped z → 0 < z .depth → SetRoom b (topOf z .«open») → r .ok ≡ true → topOf (r .state) .«open» ≡ setsAfter b (topOf z .«open»)
+  pub right : (a : Sheet) → IsSheet s a → Shaped z → (o : Open) (os : List Open) → meaningOf z .control ≡ inside o os → SetRoom b (topOf z .«open») →
       Comes (act a (bracket-act q b) (meaningOf z .store)) (meaningOf z .control) z p r d
 
 -- the same of the bracket whose byte is c
-pub record BracketAs (s : List ℕ) (q c : ℕ) (z : State) (p : Pen) (r : Acted) (d : List ℕ) : Type 0 where
+pub record BracketAs (s : List ℕ) (q c : ℕ) (z : State) (p : Pen) (r : ActedSeen) (d : List ℕ) : Type 0 where
   pub reach : r .at ≤ p .at + visitReach
   pub count : r .state .count ≤ z .count + 1
   pub deep : r .state .depth ≡ z .depth

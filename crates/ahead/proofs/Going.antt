@@ -34,8 +34,8 @@ use Rattle.live.proofs.Stacks.{top-full}
 use Rattle.state.specs.Meaning.{keptOf, setsOf, openOf, meaningOf, Shaped}
 use Rattle.state.proofs.Meant.{inside-open}
 use Rattle.fit.specs.RunFits.{RunFits}
-use Rattle.steps.specs.Seen.{Whole as Stepped}
-use Rattle.steps.specs.Stepped.{SteppedAs, AnsweredAs, Took}
+use Rattle.steps.specs.Seen.{SteppedSeen}
+use Rattle.steps.specs.Stepped.{SteppedAs, StepAnswered, Took}
 use Rattle.steps.specs.Parts.{PassesAs}
 use Rattle.steps.proofs.Places.{inside-at}
 use Rattle.steady.specs.Steady.{counting, shown, Steady}
@@ -119,7 +119,7 @@ same-tail e = cc
 abbrev dry : List ℕ → Pen
 dry lent = record { write = false; lent = lent; at = 0 }
 
-module _ {s : List ℕ} {c₀ : ℕ} {z : State} {lent d : List ℕ} (r : Stepped) (S : SteppedAs s (letter c₀) z (dry lent) r d) (number : r .number ≡ 0)
+module _ {s : List ℕ} {c₀ : ℕ} {z : State} {lent d : List ℕ} (r : SteppedSeen) (S : SteppedAs s (letter c₀) z (dry lent) r d) (number : r .number ≡ 0)
     (wide : r .at ≡ length (shown (z .echo) c₀)) (k : ℕ) (counts : r .state .count ≡ z .count + k) (same : SameState z (r .state)) where
   module _ (a : Sheet) (i : IsSheet s a) (h : Shaped z) (f : RunFits a (meaningOf z)) (p : passesAt (grammar a) (meaningOf z .control) ≡ false) where
     unmoved : (y : Standing) → step a (meaningOf z) (letter c₀) ≡ took y → Took y z (dry lent) r d → Unmoved a c₀ k (meaningOf z) y
@@ -144,7 +144,7 @@ module _ {s : List ℕ} {c₀ : ℕ} {z : State} {lent d : List ℕ} (r : Steppe
           writes = omega (arith, A .written .next, wide, ap (λ (x : Env). length (shown (x .echo) c₀)) (env-is z));
         }
 
-    by-answer : (x : Answer) → step a (meaningOf z) (letter c₀) ≡ x → AnsweredAs x z (dry lent) r d → Steady a (z .echo) k (meaningOf z)
+    by-answer : (x : Answer) → step a (meaningOf z) (letter c₀) ≡ x → StepAnswered x z (dry lent) r d → Steady a (z .echo) k (meaningOf z)
     by-answer (refused n) e A = absurd (omega (arith, step-number a (meaningOf z) (letter c₀) n e .0, A, number))
     by-answer (took y) e A =
         subst (λ (b : Bool). Steady a b k (meaningOf z)) (ap (λ (x : Env). x .echo) (env-is z))
@@ -160,7 +160,7 @@ tried-char = inr (inr (inr (inl (omega arith))))
 pub not-probed : (s : List ℕ) (z : State) (r : Tried) → (r .steady ≡ false) × (r .visits ≡ 0) → ProbedAs s z r
 not-probed s z r (e, f) = record { few = omega (arith, f); right = λ g. not-told (sym e ∙ g) }
 
-pub probed : {s : List ℕ} {z : State} {lent d : List ℕ} (r : Stepped) → SteppedAs s (letter 120) z (dry lent) r d → r .number ≡ 0 → (w : ℕ) → w ≡ length (shown (z .echo) 120) → r .at ≡ w →
+pub probed : {s : List ℕ} {z : State} {lent d : List ℕ} (r : SteppedSeen) → SteppedAs s (letter 120) z (dry lent) r d → r .number ≡ 0 → (w : ℕ) → w ≡ length (shown (z .echo) 120) → r .at ≡ w →
     z .count ≤ r .state .count → SameState z (r .state) → ProbedAs s z (record { steady = true; visits = r .state .count - z .count })
 probed {s = s} {z = z} r S number w e g h same =
     record {

@@ -9,7 +9,7 @@ use lib.ListN.{length}
 use Rattle.lent.specs.Put.{PutAs}
 use Rattle.lent.proofs.Laws.{put-dry}
 use Rattle.output.proofs.Writing.{put-then, same-bytes}
-use Rattle.programs.specs.Program.{Program as SheetProgram}
+use Rattle.programs.specs.Program.{Program}
 use Rattle.programs.specs.Limits.{Visit}
 use Rattle.programs.specs.Section.{Fill, FieldIs, no-program, names}
 use Rattle.layout.specs.Layout.{tagCount, programsIn, stringsIn}
@@ -19,11 +19,11 @@ use Rattle.sheet.specs.Tags.{TagAt}
 use Rattle.sheet.specs.Sheet.{Sheet}
 use Rattle.sheet.proofs.SheetLaws.{from-counted}
 use Rattle.runs.specs.Execute.{nameOf}
-use Rattle.notation.specs.Program.{Program}
+use Rattle.notation.specs.Program.{TextProgram}
 use Rattle.packing.specs.Packs.{Packs}
 use Rattle.printed.specs.Programs.{programText}
 use Rattle.naming.specs.ByName.{programNamed, optionNamed}
-use Rattle.visits.specs.Written.{Pen, Written, NameAt, Sources}
+use Rattle.visits.specs.Written.{Pen, Written, TagNameAt, Sources}
 use Rattle.visits.proofs.Performing.{names-in, section-of, strings-of, section-is, strings-are, its-fits, it-lies}
 use Rattle.visits.proofs.Printing.{nothing-due}
 use Rattle.passages.specs.Passages.{mostOfAProgram, ProgramTextAt}
@@ -40,7 +40,7 @@ module _ (s : List ℕ) (l : Layout) (L : LaidOut s l) (a : Sheet) (z : Packs s 
   its-sources : Sources s (strings-of s l L) a
   its-sources =
       record {
-        names-are = λ t h. subst (λ (m : ℕ). NameAt s m (nameOf (a .names) t)) (omega arith) (names-in s 0 (tagCount s) (a .names) (z .sections .tags-at) (z .names-are) t h);
+        names-are = λ t h. subst (λ (m : ℕ). TagNameAt s m (nameOf (a .names) t)) (omega arith) (names-in s 0 (tagCount s) (a .names) (z .sections .tags-at) (z .names-are) t h);
         strings-are = z .strings-are ∙ sym (strings-are s l L);
       }
 
@@ -51,7 +51,7 @@ module _ (s : List ℕ) (l : Layout) (L : LaidOut s l) (a : Sheet) (z : Packs s 
       (subst (λ (w : List ℕ). Fill (tagCount s) w (section-of s l L) (z .programs .programs)) (sym (strings-are s l L))
       (subst (λ (w : List ℕ). Fill (tagCount s) (stringsIn s) w (z .programs .programs)) (sym (section-is s l L)) (z .programs .fill)))
 
-  pub due : (field : ℕ) (v : Visit) (p : SheetProgram) → (field ≡ 65535 → ⊥) → FieldIs (z .programs .programs) v field (some p)
+  pub due : (field : ℕ) (v : Visit) (p : Program) → (field ≡ 65535 → ⊥) → FieldIs (z .programs .programs) v field (some p)
       → ProgramTextAt (section-of s l L) s (strings-of s l L) field (programText (programNamed a p))
   due field v p n (names k q S w) =
       record {
@@ -67,7 +67,7 @@ module _ (s : List ℕ) (field : ℕ) (in-front : Bool) (p : Pen) where
   pub no-field : field ≡ 65535 → Written mostOfAnAside (FieldText s field in-front) p (p .at) (p .lent)
   no-field e = nothing-due mostOfAnAside (FieldText s field in-front) p go
     where
-      nothing : {ps : List SheetProgram} {v : Visit} (a : Sheet) (m : Option SheetProgram) → FieldIs ps v field m → asideText in-front (optionNamed a m) ≡ []
+      nothing : {ps : List Program} {v : Visit} (a : Sheet) (m : Option Program) → FieldIs ps v field m → asideText in-front (optionNamed a m) ≡ []
       nothing a none f = refl
       nothing a (some q) (names n q₁ S w) = absurd (n e)
 
@@ -84,7 +84,7 @@ module _ (s : List ℕ) (field : ℕ) (in-front : Bool) (p : Pen) where
           right = λ w u. same-bytes _ _ _ _ w _ _ (sym (u .bytes ∙ ap (asideText in-front) (u .names .named))) (go (u .sheet) (u .packs) (u .visit) (u .names .program) (u .names .is));
         }
       where
-        go : (a : Sheet) (z : Packs s a) (v : Visit) (m : Option SheetProgram) → FieldIs (z .programs .programs) v field m → PutAs (p .write) (p .lent) (p .at) (asideText in-front (optionNamed a m)) d₂ n₂
+        go : (a : Sheet) (z : Packs s a) (v : Visit) (m : Option Program) → FieldIs (z .programs .programs) v field m → PutAs (p .write) (p .lent) (p .at) (asideText in-front (optionNamed a m)) d₂ n₂
         go a z v none (no-program k) = absurd (n k)
         go a z v (some q) f = rw e (put-then _ _ _ _ _ _ _ _ _ (W .right (programText (programNamed a q)) (due s l L a z field v q n f)) P)
 
@@ -98,6 +98,6 @@ module _ (s : List ℕ) (field : ℕ) (in-front : Bool) (p : Pen) where
           right = λ w u. same-bytes _ _ _ _ w _ _ (sym (u .bytes ∙ ap (asideText in-front) (u .names .named))) (go (u .sheet) (u .packs) (u .visit) (u .names .program) (u .names .is));
         }
       where
-        go : (a : Sheet) (z : Packs s a) (v : Visit) (m : Option SheetProgram) → FieldIs (z .programs .programs) v field m → PutAs (p .write) (p .lent) (p .at) (asideText in-front (optionNamed a m)) d₂ n₂
+        go : (a : Sheet) (z : Packs s a) (v : Visit) (m : Option Program) → FieldIs (z .programs .programs) v field m → PutAs (p .write) (p .lent) (p .at) (asideText in-front (optionNamed a m)) d₂ n₂
         go a z v none (no-program k) = absurd (n k)
         go a z v (some q) f = rw e (put-then _ _ _ _ _ _ _ _ _ P (W .right (programText (programNamed a q)) (due s l L a z field v q n f)))

@@ -11,10 +11,10 @@ use lib.ListN.{length, length-map, getD, set, length-append}
 use lib.Seq.{getD-set-same, getD-set-other}
 use borrow.Author.Tests.{le-ltb}
 use Rattle.expressions.specs.Expr.{Atom}
-use Rattle.notation.specs.Program.{Program}
+use Rattle.notation.specs.Program.{TextProgram}
 use Rattle.notation.specs.Rules.{Tree, node, star}
 use Rattle.notation.specs.Statements.{parentheses}
-use Rattle.reading.specs.Expressions.{a-leaf, leafForm, a-star, a-dot, a-bar, an-open, a-close, a-brace, Level, level, fresh, joinedCat, whole, fronted, Parsing, wants, in-front, after, behind, over, opened, closed, backed, stepPiece, valueOfContent, wholeValue}
+use Rattle.reading.specs.Expressions.{a-leaf, leafForm, a-star, a-dot, a-bar, an-open, a-close, a-brace, ExpressionLevel, expressionLevel, freshExpression, joinedCat, wholeExpression, fronted, Parsing, wants, in-front, after, behind, over, expressionOpened, expressionClosed, backed, stepPiece, valueOfContent, wholeValue}
 use Rattle.packing.specs.Packed.{word, kind, argument}
 use Rattle.sketches.specs.Figures.{present}
 use Rattle.sketches.specs.Sketched.{levelsOf}
@@ -22,7 +22,7 @@ use Rattle.beds.specs.declared.Row.{Row}
 use Rattle.beds.specs.declared.Pair.{Pair}
 use Rattle.beds.specs.declared.Bed.{Bed}
 use Rattle.beds.specs.Nodes.{fieldOf, bareNode, treeNodes, formNodes, contentNodes, upToUnion, upToCat, upToOperand}
-use Rattle.beds.specs.Bedded.{mostBytes, Lays, NodeIn, FieldIn, pairAt, pairsOf, justOpened, noPair, stacked, Bedded, FewNodes, FreshIs, PieceIs, LeafIs, heldIn, SettledIs, FinishedIs}
+use Rattle.beds.specs.Bedded.{mostBedBytes, Lays, NodeIn, FieldIn, pairAt, pairsOf, justOpened, noPair, stacked, Bedded, FewNodesRead, FreshIs, PieceIs, LeafIs, heldIn, SettledIs, FinishedIs}
 use Rattle.beds.proofs.Lists.{leaf-nodes, from-cat, from-union, fresh-cat, fresh-operand, first-apart, few-after, few-wants}
 use Rattle.beds.proofs.Rows.{lays-as}
 
@@ -43,8 +43,8 @@ pub some-same : {A : Type 0} {x y : A} → some x ≡ some y → x ≡ y
 some-same e = cc
 
 -- the step of a machine leads to one state
-led : (field : Program → ℕ) (y x′ : Parsing) (r : Bed) → some y ≡ some x′ → FewNodes x′ → (FewNodes y → Bedded field y r) → Bedded field x′ r
-led field y x′ r e few h = let same = some-same e in subst (λ z. Bedded field z r) same (h (subst FewNodes (sym same) few))
+led : (field : TextProgram → ℕ) (y x′ : Parsing) (r : Bed) → some y ≡ some x′ → FewNodesRead x′ → (FewNodesRead y → Bedded field y r) → Bedded field x′ r
+led field y x′ r e few h = let same = some-same e in subst (λ z. Bedded field z r) same (h (subst FewNodesRead (sym same) few))
 
 -- how long a field that is an array of structs is: its relation speaks of the mapped list
 pub length-of-mapped : {X Y : Type 0} (f : X → Y) (l : List X) (n : ℕ) → length (map f l) ≡ n → length l ≡ n
@@ -72,17 +72,17 @@ stacked-pop : (ps : List Pair) (n : ℕ) → (n ≡ 0 → ⊥) → stacked ps n 
 stacked-pop ps zero h = absurd (h refl)
 stacked-pop ps (suc n) h = rw sub-one
 
-pairs-length : (field : Program → ℕ) (ls : List Level) → length (pairsOf field ls) ≡ length ls
+pairs-length : (field : TextProgram → ℕ) (ls : List ExpressionLevel) → length (pairsOf field ls) ≡ length ls
 pairs-length field [] = refl
 pairs-length field (l ∷ ls) = ap suc (pairs-length field ls)
 
-fresh-pair : (field : Program → ℕ) (ls : List Level) (n : ℕ) → n ≡ length (upToUnion field ls) → justOpened n ≡ pairAt field fresh ls
+fresh-pair : (field : TextProgram → ℕ) (ls : List ExpressionLevel) (n : ℕ) → n ≡ length (upToUnion field ls) → justOpened n ≡ pairAt field freshExpression ls
 fresh-pair field ls n e =
-    let c : n ≡ length (upToCat field fresh ls) = e ∙ sym (ap length (fresh-cat field ls)) in
-    let o : n ≡ length (upToOperand field fresh ls) = e ∙ sym (ap length (fresh-operand field ls)) in
+    let c : n ≡ length (upToCat field freshExpression ls) = e ∙ sym (ap length (fresh-cat field ls)) in
+    let o : n ≡ length (upToOperand field freshExpression ls) = e ∙ sym (ap length (fresh-operand field ls)) in
     ap (λ u. pair u n n false 255 255) e
     ∙ ap (λ m. pair (length (upToUnion field ls)) m n false 255 255) c
-    ∙ ap (λ m. pair (length (upToUnion field ls)) (length (upToCat field fresh ls)) m false 255 255) o
+    ∙ ap (λ m. pair (length (upToUnion field ls)) (length (upToCat field freshExpression ls)) m false 255 255) o
 
 pub fresh-is : (bytes : List ℕ) (around : List Pair) → FreshIs (bed (record { bytes = bytes; length = 0 }) (justOpened 0) around 0)
 fresh-is bytes around = record { is = λ field. record { begun = refl; few-open = omega arith; laid = record { short = omega arith; length-is = refl; bytes-are = refl }; here-is = fresh-pair field [] 0 refl; around-are = refl } }
@@ -91,12 +91,12 @@ module _ (b : Bed) where
   pub leaf-is : (kind′ argument′ : ℕ) (row : Row) → NodeIn (b .row) (b .row .length) kind′ argument′ row → LeafIs b kind′ argument′ (bed row (b .here) (b .around) (b .«open»))
   leaf-is kind′ argument′ row n = record { is = λ k e f. record { is = λ field x x′ s few h. go k e f field x x′ s few h } }
     where
-      go : (k : Option Atom) → kind′ ≡ kind (leafForm k) → argument′ ≡ argument (leafForm k) → (field : Program → ℕ) (x x′ : Parsing) → stepPiece x (a-leaf k) ≡ some x′ → FewNodes x′ → Bedded field x b
+      go : (k : Option Atom) → kind′ ≡ kind (leafForm k) → argument′ ≡ argument (leafForm k) → (field : TextProgram → ℕ) (x x′ : Parsing) → stepPiece x (a-leaf k) ≡ some x′ → FewNodesRead x′ → Bedded field x b
           → Bedded field x′ (bed row (b .here) (b .around) (b .«open»))
       go k e f field (wants w l ls) x′ s few h = led field (after (node none none (leafForm k)) l ls) x′ (bed row (b .here) (b .around) (b .«open»)) s few (λ small.
           let u = upToOperand field l ls in
           let same : bareNode kind′ argument′ ≡ treeNodes field (node none none (leafForm k)) = ap₂ bareNode e f ∙ leaf-nodes field k in
-          let room : length (u ++ bareNode kind′ argument′) ≤ mostBytes = subst (λ m. length (u ++ m) ≤ mostBytes) (sym same) (few-after field (node none none (leafForm k)) l ls small) in
+          let room : length (u ++ bareNode kind′ argument′) ≤ mostBedBytes = subst (λ m. length (u ++ m) ≤ mostBedBytes) (sym same) (few-after field (node none none (leafForm k)) l ls small) in
           record {
             begun = tt;
             few-open = h .few-open;
@@ -112,7 +112,7 @@ module _ (b : Bed) where
   pub star-is : (row : Row) → NodeIn (b .row) (b .here .operand) 5 0 row → PieceIs b a-star (bed row (b .here) (b .around) (b .«open»))
   star-is row n = record { is = go }
     where
-      go : (field : Program → ℕ) (x x′ : Parsing) → stepPiece x a-star ≡ some x′ → FewNodes x′ → Bedded field x b → Bedded field x′ (bed row (b .here) (b .around) (b .«open»))
+      go : (field : TextProgram → ℕ) (x x′ : Parsing) → stepPiece x a-star ≡ some x′ → FewNodesRead x′ → Bedded field x b → Bedded field x′ (bed row (b .here) (b .around) (b .«open»))
       go field (wants w l ls) x′ s few h = none-some s
       go field (in-front q ls) x′ s few h = none-some s
       go field (after e l ls) x′ s few h = led field (after (node none none (star e)) l ls) x′ (bed row (b .here) (b .around) (b .«open»)) s few (λ small.
@@ -130,12 +130,12 @@ module _ (b : Bed) where
       → PieceIs b a-dot (bed row (shifted (b .here) (b .here .cat) (row .length)) (b .around) (b .«open»))
   dot-is row n = record { is = go }
     where
-      go : (field : Program → ℕ) (x x′ : Parsing) → stepPiece x a-dot ≡ some x′ → FewNodes x′ → Bedded field x b
+      go : (field : TextProgram → ℕ) (x x′ : Parsing) → stepPiece x a-dot ≡ some x′ → FewNodesRead x′ → Bedded field x b
           → Bedded field x′ (bed row (shifted (b .here) (b .here .cat) (row .length)) (b .around) (b .«open»))
       go field (wants w l ls) x′ s few h = none-some s
       go field (in-front q ls) x′ s few h = none-some s
       go field (after e l ls) x′ s few h =
-          let m = level (l .before) (l .alt-left) (some (joinedCat (l .cat-left) e)) in
+          let m = expressionLevel (l .before) (l .alt-left) (some (joinedCat (l .cat-left) e)) in
           led field (wants false m ls) x′ (bed row (shifted (b .here) (b .here .cat) (row .length)) (b .around) (b .«open»)) s few (λ small.
           let laid = n .is (upToCat field l ls) (treeNodes field (joinedCat (l .cat-left) e)) (lays-as (from-cat field l ls e) (h .laid)) (ap (λ p. p .cat) (h .here-is)) (few-wants field m ls small) in
           record {
@@ -152,16 +152,16 @@ module _ (b : Bed) where
       → PieceIs b a-bar (bed row (shifted (b .here) (row .length) (row .length)) (b .around) (b .«open»))
   bar-is row n = record { is = go }
     where
-      go : (field : Program → ℕ) (x x′ : Parsing) → stepPiece x a-bar ≡ some x′ → FewNodes x′ → Bedded field x b
+      go : (field : TextProgram → ℕ) (x x′ : Parsing) → stepPiece x a-bar ≡ some x′ → FewNodesRead x′ → Bedded field x b
           → Bedded field x′ (bed row (shifted (b .here) (row .length) (row .length)) (b .around) (b .«open»))
       go field (wants w l ls) x′ s few h = none-some s
       go field (in-front q ls) x′ s few h = none-some s
       go field (after e l ls) x′ s few h =
-          let m = level (l .before) (some (whole l e)) none in
+          let m = expressionLevel (l .before) (some (wholeExpression l e)) none in
           led field (wants false m ls) x′ (bed row (shifted (b .here) (row .length) (row .length)) (b .around) (b .«open»)) s few (λ small.
           let end = append-nil (upToCat field m ls) in
-          let laid = n .is (upToUnion field ls) (treeNodes field (whole l e)) (lays-as (from-union field l ls e) (h .laid)) (ap (λ p. p .union) (h .here-is))
-          (subst (λ u. length u ≤ mostBytes) end (few-wants field m ls small)) in
+          let laid = n .is (upToUnion field ls) (treeNodes field (wholeExpression l e)) (lays-as (from-union field l ls e) (h .laid)) (ap (λ p. p .union) (h .here-is))
+          (subst (λ u. length u ≤ mostBedBytes) end (few-wants field m ls small)) in
           let operand : row .length ≡ length (upToOperand field m ls) = laid .length-is ∙ ap length (sym end) in
           record {
             begun = tt;
@@ -174,18 +174,18 @@ module _ (b : Bed) where
       go field (over e ls) x′ s few h = none-some s
 
   -- as many pairs around as levels
-  open-is : (field : Program → ℕ) (x : Parsing) → Bedded field x b → b .«open» ≡ length (levelsOf x)
+  open-is : (field : TextProgram → ℕ) (x : Parsing) → Bedded field x b → b .«open» ≡ length (levelsOf x)
   open-is field x h = sym (stacked-length (b .around) (b .«open»)) ∙ ap length (h .around-are) ∙ pairs-length field (levelsOf x)
 
   -- a parenthesis: where one more pair is allowed, and where it is not
-  opened-led : (field : Program → ℕ) (l : Level) (ls : List Level) (x′ : Parsing) (r : Bed) (o : Bool) → opened o l ls ≡ some x′ → (o ≡ true → Bedded field (wants true fresh (l ∷ ls)) r) → Bedded field x′ r
+  opened-led : (field : TextProgram → ℕ) (l : ExpressionLevel) (ls : List ExpressionLevel) (x′ : Parsing) (r : Bed) (o : Bool) → expressionOpened o l ls ≡ some x′ → (o ≡ true → Bedded field (wants true freshExpression (l ∷ ls)) r) → Bedded field x′ r
   opened-led field l ls x′ r true s h = subst (λ z. Bedded field z r) (some-same s) (h refl)
   opened-led field l ls x′ r false s h = none-some s
 
-  open-piece : (r : Bed) → ((field : Program → ℕ) (w : Bool) (l : Level) (ls : List Level) → Bedded field (wants w l ls) b → ltb (length ls) parentheses ≡ true → Bedded field (wants true fresh (l ∷ ls)) r) → PieceIs b an-open r
+  open-piece : (r : Bed) → ((field : TextProgram → ℕ) (w : Bool) (l : ExpressionLevel) (ls : List ExpressionLevel) → Bedded field (wants w l ls) b → ltb (length ls) parentheses ≡ true → Bedded field (wants true freshExpression (l ∷ ls)) r) → PieceIs b an-open r
   open-piece r h = record { is = go }
     where
-      go : (field : Program → ℕ) (x x′ : Parsing) → stepPiece x an-open ≡ some x′ → FewNodes x′ → Bedded field x b → Bedded field x′ r
+      go : (field : TextProgram → ℕ) (x x′ : Parsing) → stepPiece x an-open ≡ some x′ → FewNodesRead x′ → Bedded field x b → Bedded field x′ r
       go field (wants w l ls) x′ s few d = opened-led field l ls x′ r (ltb (length ls) parentheses) s (h field w l ls d)
       go field (in-front q ls) x′ s few d = none-some s
       go field (after e l ls) x′ s few d = none-some s
@@ -213,11 +213,11 @@ module _ (b : Bed) where
       omega arith))
 
   -- the program in front: there is one, or there is none
-  unfronted : (o : Option Program) (e e′ : Tree) → present o ≡ false → fronted o e ≡ some e′ → e ≡ e′
+  unfronted : (o : Option TextProgram) (e e′ : Tree) → present o ≡ false → fronted o e ≡ some e′ → e ≡ e′
   unfronted none (node f g k) e′ p s = some-same s
   unfronted (some q) e e′ p s = absurd (let z : _≡_ {A = ℕ} 0 1 = cc in omega arith)
 
-  with-front : (field : Program → ℕ) (u : List ℕ) (o : Option Program) (e e′ : Tree) (row row′ : Row) → present o ≡ true → fronted o e ≡ some e′
+  with-front : (field : TextProgram → ℕ) (u : List ℕ) (o : Option TextProgram) (e e′ : Tree) (row row′ : Row) → present o ≡ true → fronted o e ≡ some e′
       → FieldIn row (length u + 2) (fieldOf field o % 256) (fieldOf field o / 256) row′ → Lays (u ++ treeNodes field e) row → Lays (u ++ treeNodes field e′) row′
   with-front field u none e e′ row row′ p s n h = absurd (let z : _≡_ {A = ℕ} 0 1 = cc in omega arith)
   with-front field u (some q) (node none g k) e′ row row′ p s n h =
@@ -238,11 +238,11 @@ module _ (b : Bed) where
     };
   }
     where
-      held : (field : Program → ℕ) (x : Parsing) (e : Tree) → heldIn x ≡ some e → Bedded field x b → Bedded field (over e (levelsOf x)) (bed (b .row) begun′ (b .around) (b .«open»))
+      held : (field : TextProgram → ℕ) (x : Parsing) (e : Tree) → heldIn x ≡ some e → Bedded field x b → Bedded field (over e (levelsOf x)) (bed (b .row) begun′ (b .around) (b .«open»))
       held field (wants w l ls) e s h = none-some s
       held field (in-front q ls) e s h = none-some s
       held field (after a l ls) e s h =
-          let same = unfronted (l .before) (whole l a) e (sym (ap (λ p. p .fronted) (h .here-is)) ∙ plain) s in
+          let same = unfronted (l .before) (wholeExpression l a) e (sym (ap (λ p. p .fronted) (h .here-is)) ∙ plain) s in
           record {
             begun = tt;
             few-open = h .few-open;
@@ -265,7 +265,7 @@ module _ (b : Bed) where
     none-held = λ field l ls h. absurd (let p : present (l .before) ≡ true = sym (ap (λ p. p .fronted) (h .here-is)) ∙ there in let q : false ≡ true = sym (ap (λ m. present (m .before)) (h .begun)) ∙ p in let z : _≡_ {A = ℕ} 0 1 = cc in omega arith);
   }
     where
-      held : (field : Program → ℕ) (x : Parsing) (e : Tree) → heldIn x ≡ some e → Bedded field x b → Bedded field (over e (levelsOf x)) (bed row begun′ (b .around) (b .«open»))
+      held : (field : TextProgram → ℕ) (x : Parsing) (e : Tree) → heldIn x ≡ some e → Bedded field x b → Bedded field (over e (levelsOf x)) (bed row begun′ (b .around) (b .«open»))
       held field (wants w l ls) e s h = none-some s
       held field (in-front q ls) e s h = none-some s
       held field (after a l ls) e s h =
@@ -273,7 +273,7 @@ module _ (b : Bed) where
           record {
             begun = tt;
             few-open = h .few-open;
-            laid = with-front field (upToUnion field ls) (l .before) (whole l a) e (b .row) row (sym (ap (λ p. p .fronted) (h .here-is)) ∙ there) s put (lays-as (from-union field l ls a) (h .laid));
+            laid = with-front field (upToUnion field ls) (l .before) (wholeExpression l a) e (b .row) row (sym (ap (λ p. p .fronted) (h .here-is)) ∙ there) s put (lays-as (from-union field l ls a) (h .laid));
             here-is = new ∙ fresh-pair field ls (b .here .union) (ap (λ p. p .union) (h .here-is));
             around-are = h .around-are;
           }
@@ -284,34 +284,34 @@ module _ (b : Bed) where
   pub braced-is : (r : Bed) → SettledIs b r → PieceIs b a-brace r
   braced-is r n = record { is = go }
     where
-      back : (field : Program → ℕ) (x x′ : Parsing) (o : Option Tree) → heldIn x ≡ o → backed o (levelsOf x) ≡ some x′ → Bedded field x b → Bedded field x′ r
+      back : (field : TextProgram → ℕ) (x x′ : Parsing) (o : Option Tree) → heldIn x ≡ o → backed o (levelsOf x) ≡ some x′ → Bedded field x b → Bedded field x′ r
       back field x x′ none e s h = none-some s
       back field x x′ (some (node f none k)) e s h =
           let d = n .some-held field x (node f none k) e h in
           subst (λ z. Bedded field z r) (some-same s) (record { begun = tt; few-open = d .few-open; laid = d .laid; here-is = d .here-is; around-are = d .around-are })
       back field x x′ (some (node f (some g) k)) e s h = none-some s
 
-      go : (field : Program → ℕ) (x x′ : Parsing) → stepPiece x a-brace ≡ some x′ → FewNodes x′ → Bedded field x b → Bedded field x′ r
+      go : (field : TextProgram → ℕ) (x x′ : Parsing) → stepPiece x a-brace ≡ some x′ → FewNodesRead x′ → Bedded field x b → Bedded field x′ r
       go field (wants true l ls) x′ s few h = subst (λ z. Bedded field z r) (some-same s) (n .none-held field l ls h)
       go field (wants false l ls) x′ s few h = none-some s
       go field (in-front q ls) x′ s few h = none-some s
-      go field (after e l ls) x′ s few h = back field (after e l ls) x′ (fronted (l .before) (whole l e)) refl s h
+      go field (after e l ls) x′ s few h = back field (after e l ls) x′ (fronted (l .before) (wholeExpression l e)) refl s h
       go field (behind q f k ls) x′ s few h = none-some s
       go field (over e ls) x′ s few h = none-some s
 
   -- a closing parenthesis: from behind the pair's program to the pair around
-  close-piece : (c r : Bed) → SettledIs b c → ((field : Program → ℕ) (e : Tree) (l : Level) (ls : List Level) → Bedded field (over e (l ∷ ls)) c → Bedded field (after e l ls) r) → PieceIs b a-close r
+  close-piece : (c r : Bed) → SettledIs b c → ((field : TextProgram → ℕ) (e : Tree) (l : ExpressionLevel) (ls : List ExpressionLevel) → Bedded field (over e (l ∷ ls)) c → Bedded field (after e l ls) r) → PieceIs b a-close r
   close-piece c r n h = record { is = go }
     where
-      shut : (field : Program → ℕ) (x x′ : Parsing) (ls : List Level) (o : Option Tree) → levelsOf x ≡ ls → heldIn x ≡ o → closed ls o ≡ some x′ → Bedded field x b → Bedded field x′ r
+      shut : (field : TextProgram → ℕ) (x x′ : Parsing) (ls : List ExpressionLevel) (o : Option Tree) → levelsOf x ≡ ls → heldIn x ≡ o → expressionClosed ls o ≡ some x′ → Bedded field x b → Bedded field x′ r
       shut field x x′ ls none le e s d = none-some s
       shut field x x′ [] (some a) le e s d = none-some s
       shut field x x′ (l ∷ ls) (some a) le e s d = subst (λ z. Bedded field z r) (some-same s) (h field a l ls (subst (λ m. Bedded field (over a m) c) le (n .some-held field x a e d)))
 
-      go : (field : Program → ℕ) (x x′ : Parsing) → stepPiece x a-close ≡ some x′ → FewNodes x′ → Bedded field x b → Bedded field x′ r
+      go : (field : TextProgram → ℕ) (x x′ : Parsing) → stepPiece x a-close ≡ some x′ → FewNodesRead x′ → Bedded field x b → Bedded field x′ r
       go field (wants w l ls) x′ s few d = none-some s
       go field (in-front q ls) x′ s few d = none-some s
-      go field (after e l ls) x′ s few d = shut field (after e l ls) x′ ls (fronted (l .before) (whole l e)) refl refl s d
+      go field (after e l ls) x′ s few d = shut field (after e l ls) x′ ls (fronted (l .before) (wholeExpression l e)) refl refl s d
       go field (behind q f k ls) x′ s few d = none-some s
       go field (over e ls) x′ s few d = shut field (over e ls) x′ ls (some e) refl refl s d
 
@@ -330,18 +330,18 @@ module _ (b : Bed) where
   pub finished-is : (c : Bed) → SettledIs b c → FinishedIs b (c .row)
   finished-is c n = record { is = go }
     where
-      ended : (field : Program → ℕ) (x : Parsing) (ls : List Level) (o : Option Tree) (e : Option Tree) → levelsOf x ≡ ls → heldIn x ≡ o → wholeValue ls o ≡ some e → Bedded field x b → Lays (contentNodes field e) (c .row)
+      ended : (field : TextProgram → ℕ) (x : Parsing) (ls : List ExpressionLevel) (o : Option Tree) (e : Option Tree) → levelsOf x ≡ ls → heldIn x ≡ o → wholeValue ls o ≡ some e → Bedded field x b → Lays (contentNodes field e) (c .row)
       ended field x [] none e le s v d = none-some v
       ended field x [] (some a) e le s v d =
           let h = n .some-held field x a s d in
           lays-as (ap (λ m. upToUnion field m ++ treeNodes field a) le ∙ ap (contentNodes field) (some-same v)) (h .laid)
       ended field x (l ∷ ls) o e le s v d = none-some v
 
-      go : (field : Program → ℕ) (x : Parsing) (e : Option Tree) → valueOfContent x ≡ some e → Bedded field x b → Lays (contentNodes field e) (c .row)
+      go : (field : TextProgram → ℕ) (x : Parsing) (e : Option Tree) → valueOfContent x ≡ some e → Bedded field x b → Lays (contentNodes field e) (c .row)
       go field (wants true l []) e v d = lays-as (ap (contentNodes field) (some-same v)) (n .none-held field l [] d .laid)
       go field (wants true l (m ∷ ls)) e v d = none-some v
       go field (wants false l ls) e v d = none-some v
       go field (in-front q ls) e v d = none-some v
-      go field (after a l ls) e v d = ended field (after a l ls) ls (fronted (l .before) (whole l a)) e refl refl v d
+      go field (after a l ls) e v d = ended field (after a l ls) ls (fronted (l .before) (wholeExpression l a)) e refl refl v d
       go field (behind q f k ls) e v d = none-some v
       go field (over a ls) e v d = ended field (over a ls) ls (some a) e refl refl v d

@@ -9,43 +9,43 @@ use lib.ListN.{length, getD, length-append}
 use Rattle.expressions.specs.Expr.{Atom, anychar}
 use Rattle.expressions.specs.Grammar.{nonterminals}
 use Rattle.programs.specs.Limits.{first, second}
-use Rattle.programs.specs.Parsed.{visit}
-use Rattle.notation.specs.Program.{Program}
+use Rattle.programs.specs.Parsed.{whichVisit}
+use Rattle.notation.specs.Program.{TextProgram}
 use Rattle.notation.specs.Rules.{node, Form}
-use Rattle.notation.specs.Tokens.{Mark, plain, left, right, Token, nonterminal, value, attribute, name, start-tag, end-tag, empty-tag, string, word, CHAR, ECHO, ECHO-OFF, REJECT, PRINT, IF, THEN, ELSE, BEGIN, END, AND, OR, NOT, EMPTY, sign, DEFINED, ASSIGNED, OPEN, CLOSE, BRACE, UNBRACE, DOT, BAR, STAR, SEMICOLON, EQUALS}
+use Rattle.notation.specs.Tokens.{Dollar, plain, left, right, TextToken, nonterminal, value, attribute, name, start-tag, end-tag, empty-tag, string, word, CHAR, ECHO, ECHO-OFF, REJECT, PRINT, IF, THEN, ELSE, BEGIN, END, AND, OR, NOT, EMPTY, sign, DEFINED, ASSIGNED, OPEN, CLOSE, BRACE, UNBRACE, DOT, BAR, STAR, SEMICOLON, EQUALS}
 use Rattle.reading.specs.Statements.{Listing, valueOfList}
-use Rattle.reading.specs.Expressions.{Piece, a-leaf, a-star, a-dot, a-bar, an-open, a-close, a-brace, an-unbrace, other, nonterminal?, atomIf, pieceOf, unbraces, listing, Level, level, fresh, Parsing, wants, in-front, after, behind, over, stepPiece, stepExpression}
+use Rattle.reading.specs.Expressions.{ExpressionPart, a-leaf, a-star, a-dot, a-bar, an-open, a-close, a-brace, an-unbrace, other, nonterminal?, atomIf, pieceOf, unbraces, listing, ExpressionLevel, expressionLevel, freshExpression, Parsing, wants, in-front, after, behind, over, stepPiece, stepExpression}
 use Rattle.reading.proofs.Braces.{list-stops}
-use Rattle.lexemes.specs.Kinds.{markNumber, kindOf, numberOf}
+use Rattle.lexemes.specs.Kinds.{markNumber, tokenKind, tokenNumber}
 use Rattle.packing.specs.Packed.{word as word-of, kind as kind-of, argument as argument-of}
 use Rattle.sketches.specs.Moves.{programAt}
 use Rattle.sketches.specs.Sketched.{pointOf, listingIn}
 use Rattle.beds.specs.declared.Row.{Row}
 use Rattle.beds.specs.declared.Bed.{Bed}
 use Rattle.beds.specs.Nodes.{fieldOf, formNodes, upToUnion, upToCat, upToOperand}
-use Rattle.beds.specs.Bedded.{Lays, FieldIn, Bedded, LeafIs, PieceIs, SettledIs, StepIs, UnbracedIs}
+use Rattle.beds.specs.Bedded.{Lays, FieldIn, Bedded, LeafIs, PieceIs, SettledIs, BedStepIs, UnbracedIs}
 use Rattle.beds.proofs.Lists.{fresh-operand, second-apart}
 use Rattle.beds.proofs.Rows.{lays-as}
 use Rattle.beds.proofs.Beds.{bed, pair, none-some, some-same, braced-is}
 
 -- the pieces by the kinds of the tokens that they are, but for nonterminals
-abbrev pieces : List Piece
+abbrev pieces : List ExpressionPart
 pieces =
     other ∷ other ∷ other ∷ other ∷ other ∷ other ∷ other ∷ other ∷ other ∷ other
     ∷ a-leaf (some anychar) ∷ other ∷ other ∷ other ∷ other ∷ other ∷ other ∷ other ∷ other ∷ other
     ∷ other ∷ other ∷ other ∷ other ∷ other ∷ an-open ∷ a-close ∷ a-brace ∷ an-unbrace ∷ a-dot
     ∷ a-bar ∷ a-star ∷ other ∷ other ∷ a-leaf none ∷ []
 
-abbrev pub pieceAt : ℕ → ℕ → Piece
+abbrev pub pieceAt : ℕ → ℕ → ExpressionPart
 pieceAt zero n = atomIf (nonterminal? n) (Atom.nonterminal n)
 pieceAt (suc k) n = getD pieces (suc k) other
 
-piece-is : (t : Token) → pieceOf t ≡ pieceAt (kindOf t) (numberOf t)
+piece-is : (t : TextToken) → pieceOf t ≡ pieceAt (tokenKind t) (tokenNumber t)
 piece-is (nonterminal n) = refl
 piece-is (value v) = refl
 piece-is (attribute m a) = marks m
   where
-    marks : (m : Mark) → other ≡ pieceAt (markNumber m) a
+    marks : (m : Dollar) → other ≡ pieceAt (markNumber m) a
     marks plain = refl
     marks left = refl
     marks right = refl
@@ -81,7 +81,7 @@ piece-is (sign SEMICOLON) = refl
 piece-is (sign EQUALS) = refl
 
 -- outside programs a step goes by the piece alone
-by-piece : (x : Parsing) (t : Token) → listingIn x ≡ none → stepExpression x t ≡ stepPiece x (pieceOf t)
+by-piece : (x : Parsing) (t : TextToken) → listingIn x ≡ none → stepExpression x t ≡ stepPiece x (pieceOf t)
 by-piece (wants b l ls) t e = refl
 by-piece (in-front q ls) t e = none-some (sym e)
 by-piece (after e′ l ls) t e = refl
@@ -105,20 +105,20 @@ none-unbrace (over e ls) = refl
 
 module _ (b : Bed) (kind number : ℕ) where
   -- a token of a kind is a piece
-  by-kind : (r : Bed) → PieceIs b (pieceAt kind number) r → StepIs b kind number r
+  by-kind : (r : Bed) → PieceIs b (pieceAt kind number) r → BedStepIs b kind number r
   by-kind r h = record {
     is = λ field x x′ t k n outside s few d. h .is field x x′ (
-        ap (stepPiece x) (sym (piece-is t ∙ ap (λ m. pieceAt m (numberOf t)) k ∙ ap (pieceAt kind) n)) ∙ sym (by-piece x t outside) ∙ s) few d;
+        ap (stepPiece x) (sym (piece-is t ∙ ap (λ m. pieceAt m (tokenNumber t)) k ∙ ap (pieceAt kind) n)) ∙ sym (by-piece x t outside) ∙ s) few d;
   }
 
-  kind-is : (r : Bed) (k : ℕ) → kind ≡ k → PieceIs b (pieceAt k number) r → StepIs b kind number r
+  kind-is : (r : Bed) (k : ℕ) → kind ≡ k → PieceIs b (pieceAt k number) r → BedStepIs b kind number r
   kind-is r k e h = by-kind r (subst (λ m. PieceIs b (pieceAt m number) r) (sym e) h)
 
   -- no state takes a token of another kind
-  pub other-kind : (kind ≡ 0 → ⊥) → (kind ≡ 10 → ⊥) → (kind ≡ 25 → ⊥) → (kind ≡ 26 → ⊥) → (kind ≡ 27 → ⊥) → (kind ≡ 29 → ⊥) → (kind ≡ 30 → ⊥) → (kind ≡ 31 → ⊥) → (kind ≡ 34 → ⊥) → StepIs b kind number b
+  pub other-kind : (kind ≡ 0 → ⊥) → (kind ≡ 10 → ⊥) → (kind ≡ 25 → ⊥) → (kind ≡ 26 → ⊥) → (kind ≡ 27 → ⊥) → (kind ≡ 29 → ⊥) → (kind ≡ 30 → ⊥) → (kind ≡ 31 → ⊥) → (kind ≡ 34 → ⊥) → BedStepIs b kind number b
   other-kind n0 n10 n25 n26 n27 n29 n30 n31 n34 = record { is = λ field x x′ t k n outside s few d. none-some (sym (none-takes x t k) ∙ sym (by-piece x t outside) ∙ s) }
     where
-      none-takes : (x : Parsing) (t : Token) → kindOf t ≡ kind → stepPiece x (pieceOf t) ≡ none
+      none-takes : (x : Parsing) (t : TextToken) → tokenKind t ≡ kind → stepPiece x (pieceOf t) ≡ none
       none-takes x (nonterminal n) k = absurd (n0 (sym k))
       none-takes x (value v) k = none-other x
       none-takes x (attribute m a) k = none-other x
@@ -153,31 +153,31 @@ module _ (b : Bed) (kind number : ℕ) where
       none-takes x (sign SEMICOLON) k = none-other x
       none-takes x (sign EQUALS) k = none-other x
 
-  pub open-kind : (r : Bed) → kind ≡ 25 → PieceIs b an-open r → StepIs b kind number r
+  pub open-kind : (r : Bed) → kind ≡ 25 → PieceIs b an-open r → BedStepIs b kind number r
   open-kind r e h = kind-is r 25 e h
 
-  pub close-kind : (r : Bed) → kind ≡ 26 → PieceIs b a-close r → StepIs b kind number r
+  pub close-kind : (r : Bed) → kind ≡ 26 → PieceIs b a-close r → BedStepIs b kind number r
   close-kind r e h = kind-is r 26 e h
 
-  pub brace-kind : (r : Bed) → kind ≡ 27 → SettledIs b r → StepIs b kind number r
+  pub brace-kind : (r : Bed) → kind ≡ 27 → SettledIs b r → BedStepIs b kind number r
   brace-kind r e h = kind-is r 27 e (braced-is b r h)
 
-  pub dot-kind : (r : Bed) → kind ≡ 29 → PieceIs b a-dot r → StepIs b kind number r
+  pub dot-kind : (r : Bed) → kind ≡ 29 → PieceIs b a-dot r → BedStepIs b kind number r
   dot-kind r e h = kind-is r 29 e h
 
-  pub bar-kind : (r : Bed) → kind ≡ 30 → PieceIs b a-bar r → StepIs b kind number r
+  pub bar-kind : (r : Bed) → kind ≡ 30 → PieceIs b a-bar r → BedStepIs b kind number r
   bar-kind r e h = kind-is r 30 e h
 
-  pub star-kind : (r : Bed) → kind ≡ 31 → PieceIs b a-star r → StepIs b kind number r
+  pub star-kind : (r : Bed) → kind ≡ 31 → PieceIs b a-star r → BedStepIs b kind number r
   star-kind r e h = kind-is r 31 e h
 
-  pub character-is : (r : Bed) → kind ≡ 10 → LeafIs b 2 0 r → StepIs b kind number r
+  pub character-is : (r : Bed) → kind ≡ 10 → LeafIs b 2 0 r → BedStepIs b kind number r
   character-is r e h = kind-is r 10 e (h .is (some anychar) refl refl)
 
-  pub empty-is : (r : Bed) → kind ≡ 34 → LeafIs b 6 0 r → StepIs b kind number r
+  pub empty-is : (r : Bed) → kind ≡ 34 → LeafIs b 6 0 r → BedStepIs b kind number r
   empty-is r e h = kind-is r 34 e (h .is none refl refl)
 
-  pub nonterminal-is : (r : Bed) → kind ≡ 0 → LeafIs b 1 (number % 256) r → StepIs b kind number r
+  pub nonterminal-is : (r : Bed) → kind ≡ 0 → LeafIs b 1 (number % 256) r → BedStepIs b kind number r
   nonterminal-is r e h = kind-is r 0 e (go (nonterminal? number))
     where
       go : (d : Dec (number < nonterminals)) → PieceIs b (atomIf d (Atom.nonterminal number)) r
@@ -185,17 +185,17 @@ module _ (b : Bed) (kind number : ℕ) where
       go (no l) = record { is = λ field x x′ s few d. none-some (sym (none-other x) ∙ s) }
 
 -- behind a program: the state that the } leads to
-ended-front : (q : Listing) (ls : List Level) (p : Program) → valueOfList q ≡ some p → stepExpression (in-front q ls) (sign UNBRACE) ≡ some (wants false (level (some p) none none) ls)
+ended-front : (q : Listing) (ls : List ExpressionLevel) (p : TextProgram) → valueOfList q ≡ some p → stepExpression (in-front q ls) (sign UNBRACE) ≡ some (wants false (expressionLevel (some p) none none) ls)
 ended-front q ls p v =
-    ap (λ o. listing o (λ r. in-front r ls) (unbraces an-unbrace (valueOfList q) (λ p. wants false (level (some p) none none) ls))) (list-stops first q)
-    ∙ ap (λ o. unbraces an-unbrace o (λ p. wants false (level (some p) none none) ls)) v
+    ap (λ o. listing o (λ r. in-front r ls) (unbraces an-unbrace (valueOfList q) (λ p. wants false (expressionLevel (some p) none none) ls))) (list-stops first q)
+    ∙ ap (λ o. unbraces an-unbrace o (λ p. wants false (expressionLevel (some p) none none) ls)) v
 
-ended-behind : (q : Listing) (f : Option Program) (k : Form) (ls : List Level) (p : Program) → valueOfList q ≡ some p → stepExpression (behind q f k ls) (sign UNBRACE) ≡ some (over (node f (some p) k) ls)
+ended-behind : (q : Listing) (f : Option TextProgram) (k : Form) (ls : List ExpressionLevel) (p : TextProgram) → valueOfList q ≡ some p → stepExpression (behind q f k ls) (sign UNBRACE) ≡ some (over (node f (some p) k) ls)
 ended-behind q f k ls p v =
     ap (λ o. listing o (λ r. behind r f k ls) (unbraces an-unbrace (valueOfList q) (λ p. over (node f (some p) k) ls))) (list-stops second q)
     ∙ ap (λ o. unbraces an-unbrace o (λ p. over (node f (some p) k) ls)) v
 
-same-list : (q q′ : Listing) (p : Program) → some q ≡ some q′ → valueOfList q′ ≡ some p → valueOfList q ≡ some p
+same-list : (q q′ : Listing) (p : TextProgram) → some q ≡ some q′ → valueOfList q′ ≡ some p → valueOfList q ≡ some p
 same-list q q′ p e v = ap valueOfList (some-same e) ∙ v
 
 high-byte : (n : ℕ) → n ≤ 0xFFFF → n / 256 % 256 ≡ n / 256
@@ -206,7 +206,7 @@ module _ (b : Bed) (n : ℕ) where
       → UnbracedIs b second′ n (bed (b .row) (pair (b .here .union) (b .here .cat) (b .here .operand) true (n % 256) (n / 256 % 256)) (b .around) (b .«open»))
   unbraced-front second′ absent = record { is = go }
     where
-      go : (field : Program → ℕ) (x x′ : Parsing) (q : Listing) (p : Program) → programAt (pointOf x) ≡ some (visit second′) → listingIn x ≡ some q → valueOfList q ≡ some p → stepExpression x (sign UNBRACE) ≡ some x′
+      go : (field : TextProgram → ℕ) (x x′ : Parsing) (q : Listing) (p : TextProgram) → programAt (pointOf x) ≡ some (whichVisit second′) → listingIn x ≡ some q → valueOfList q ≡ some p → stepExpression x (sign UNBRACE) ≡ some x′
           → n ≡ field p → n ≤ 0xFFFF → Bedded field x b → Bedded field x′ (bed (b .row) (pair (b .here .union) (b .here .cat) (b .here .operand) true (n % 256) (n / 256 % 256)) (b .around) (b .«open»))
       go field (wants w l ls) x′ q p v e t s i few h = none-some e
       go field (in-front q₀ ls) x′ q p v e t s i few h =
@@ -217,13 +217,13 @@ module _ (b : Bed) (n : ℕ) where
             few-open = h .few-open;
             laid = lays-as (sym (fresh-operand field ls)) (h .laid);
             here-is = ap (λ o. pair (o .union) (o .cat) (o .operand) true (n % 256) (n / 256 % 256)) (h .here-is)
-                ∙ ap (λ m. pair (length (upToUnion field ls)) (length (upToCat field fresh ls)) (length (upToOperand field fresh ls)) true (n % 256) m) (high-byte n few)
-                ∙ ap (λ m. pair (length (upToUnion field ls)) (length (upToCat field fresh ls)) (length (upToOperand field fresh ls)) true (m % 256) (m / 256)) i;
+                ∙ ap (λ m. pair (length (upToUnion field ls)) (length (upToCat field freshExpression ls)) (length (upToOperand field freshExpression ls)) true (n % 256) m) (high-byte n few)
+                ∙ ap (λ m. pair (length (upToUnion field ls)) (length (upToCat field freshExpression ls)) (length (upToOperand field freshExpression ls)) true (m % 256) (m / 256)) i;
             around-are = h .around-are;
           })
       go field (after a l ls) x′ q p v e t s i few h = none-some e
       go field (behind q₀ f k ls) x′ q p v e t s i few h = absurd (
-          let z : some second ≡ some first = v ∙ ap (λ o. some (visit o)) absent in
+          let z : some second ≡ some first = v ∙ ap (λ o. some (whichVisit o)) absent in
           let y : _≡_ {A = ℕ} 0 1 = cc in
           omega arith)
       go field (over a ls) x′ q p v e t s i few h = none-some e
@@ -231,11 +231,11 @@ module _ (b : Bed) (n : ℕ) where
   pub unbraced-behind : (second′ : Bool) (row : Row) → second′ ≡ true → FieldIn (b .row) (b .here .union + 4) (n % 256) (n / 256 % 256) row → UnbracedIs b second′ n (bed row (b .here) (b .around) (b .«open»))
   unbraced-behind second′ row there put = record { is = go }
     where
-      go : (field : Program → ℕ) (x x′ : Parsing) (q : Listing) (p : Program) → programAt (pointOf x) ≡ some (visit second′) → listingIn x ≡ some q → valueOfList q ≡ some p → stepExpression x (sign UNBRACE) ≡ some x′
+      go : (field : TextProgram → ℕ) (x x′ : Parsing) (q : Listing) (p : TextProgram) → programAt (pointOf x) ≡ some (whichVisit second′) → listingIn x ≡ some q → valueOfList q ≡ some p → stepExpression x (sign UNBRACE) ≡ some x′
           → n ≡ field p → n ≤ 0xFFFF → Bedded field x b → Bedded field x′ (bed row (b .here) (b .around) (b .«open»))
       go field (wants w l ls) x′ q p v e t s i few h = none-some e
       go field (in-front q₀ ls) x′ q p v e t s i few h = absurd (
-          let z : some first ≡ some second = v ∙ ap (λ o. some (visit o)) there in
+          let z : some first ≡ some second = v ∙ ap (λ o. some (whichVisit o)) there in
           let y : _≡_ {A = ℕ} 0 1 = cc in
           omega arith)
       go field (after a l ls) x′ q p v e t s i few h = none-some e

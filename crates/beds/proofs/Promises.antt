@@ -4,13 +4,13 @@ use mathlib.Core.Bool.{false}
 use mathlib.Core.List.{List, [], _∷_, _++_}
 use mathlib.Core.Option.{Option, none, some}
 use Prim.Native.Nat.{ℕ}
-use Rattle.notation.specs.Program.{Program}
-use Rattle.notation.specs.Rules.{Tree, node, Form, atom, cat, alt, star, empty, Rule, Rules}
+use Rattle.notation.specs.Program.{TextProgram}
+use Rattle.notation.specs.Rules.{Tree, node, Form, atom, cat, alt, star, empty, TextRule, Rules}
 use Rattle.notation.specs.Limits.{RuleWithin, EachWithin}
 use Rattle.programs.specs.Limits.{first, second}
 use Rattle.reading.specs.Statements.{Listing, stepStatements, valueOfList}
-use Rattle.reading.specs.Expressions.{Piece, a-leaf, a-star, a-dot, a-bar, an-open, a-close, a-brace, an-unbrace, other, pieceOf, unbraces, listing, level, wants, in-front, after, behind, over, finishedContent}
-use Rattle.reading.specs.Rules.{ruleOf}
+use Rattle.reading.specs.Expressions.{ExpressionPart, a-leaf, a-star, a-dot, a-bar, an-open, a-close, a-brace, an-unbrace, other, pieceOf, unbraces, listing, expressionLevel, wants, in-front, after, behind, over, finishedContent}
+use Rattle.reading.specs.Rules.{ruleRead}
 use Rattle.sketches.specs.Sketched.{listingIn}
 use Rattle.packing.specs.Packed.{field, nodeRecord, treeBytes, formBytes}
 use Rattle.beds.specs.Nodes.{fieldOf, record-of, treeNodes, formNodes}
@@ -26,14 +26,14 @@ pub one-laid : OneLaid
 one-laid l m r h g = sym (h .bytes-are) ∙ g .bytes-are
 
 module _ (r : Rules) where
-  abbrev fields : Program → ℕ
+  abbrev fields : TextProgram → ℕ
   fields p = field r (some p)
 
-  same-field : (o : Option Program) → fieldOf fields o ≡ field r o
+  same-field : (o : Option TextProgram) → fieldOf fields o ≡ field r o
   same-field none = refl
   same-field (some p) = refl
 
-  same-record : (f g : Option Program) (k : Form) → record-of fields f g k ≡ nodeRecord r f g k
+  same-record : (f g : Option TextProgram) (k : Form) → record-of fields f g k ≡ nodeRecord r f g k
   same-record none none k = refl
   same-record none (some q) k = refl
   same-record (some p) none k = refl
@@ -55,7 +55,7 @@ sheet-nodes r none = refl
 sheet-nodes r (some e) = same-tree r e
 
 -- a program that goes on leaves the bed as it is
-unbraces-to : {S : Type 0} (k : Piece) (o : Option Program) (f : Program → S) (x : S) → unbraces k o f ≡ some x → (p : Program) × (f p ≡ x)
+unbraces-to : {S : Type 0} (k : ExpressionPart) (o : Option TextProgram) (f : TextProgram → S) (x : S) → unbraces k o f ≡ some x → (p : TextProgram) × (f p ≡ x)
 unbraces-to (a-leaf a) o f x e = none-some e
 unbraces-to a-star o f x e = none-some e
 unbraces-to a-dot o f x e = none-some e
@@ -68,14 +68,14 @@ unbraces-to an-unbrace (some p) f x e = (p, some-same e)
 unbraces-to other o f x e = none-some e
 
 -- a list goes on, or its end leads to a state without one
-goes-on : {S : Type 0} (o : Option Listing) (f : Listing → S) (k : Piece) (w : Option Program) (g : Program → S) (x : S) → listing o f (unbraces k w g) ≡ some x → ((p : Program) → g p ≡ x → ⊥) → (r : Listing) × (f r ≡ x)
+goes-on : {S : Type 0} (o : Option Listing) (f : Listing → S) (k : ExpressionPart) (w : Option TextProgram) (g : TextProgram → S) (x : S) → listing o f (unbraces k w g) ≡ some x → ((p : TextProgram) → g p ≡ x → ⊥) → (r : Listing) × (f r ≡ x)
 goes-on none f k w g x e n = let z = unbraces-to k w g x e in absurd (n (z .0) (z .1))
 goes-on (some r) f k w g x e n = (r, some-same e)
 
 pub stays : StaysInPrograms
 stays field (wants b l ls) x′ t q q′ r e e′ s h = none-some e
 stays field (in-front q₀ ls) x′ t q q′ r e e′ s h =
-    let z = goes-on (stepStatements first q₀ t) (λ m. in-front m ls) (pieceOf t) (valueOfList q₀) (λ p. wants false (level (some p) none none) ls) x′ s (λ p i. none-some (ap listingIn i ∙ e′)) in
+    let z = goes-on (stepStatements first q₀ t) (λ m. in-front m ls) (pieceOf t) (valueOfList q₀) (λ p. wants false (expressionLevel (some p) none none) ls) x′ s (λ p i. none-some (ap listingIn i ∙ e′)) in
     subst (λ y. Bedded field y r) (z .1) (record { begun = tt; few-open = h .few-open; laid = h .laid; here-is = h .here-is; around-are = h .around-are })
 stays field (after a l ls) x′ t q q′ r e e′ s h = none-some e
 stays field (behind q₀ f k ls) x′ t q q′ r e e′ s h =
@@ -83,9 +83,9 @@ stays field (behind q₀ f k ls) x′ t q q′ r e e′ s h =
     subst (λ y. Bedded field y r) (z .1) (record { begun = tt; few-open = h .few-open; laid = h .laid; here-is = h .here-is; around-are = h .around-are })
 stays field (over a ls) x′ t q q′ r e e′ s h = none-some e
 
-last-within : (rs : List Rule) (r : Rule) → EachWithin (rs ++ r ∷ []) → RuleWithin r
+last-within : (rs : List TextRule) (r : TextRule) → EachWithin (rs ++ r ∷ []) → RuleWithin r
 last-within [] r h = h .0
 last-within (s ∷ rs) r h = last-within rs r (h .1)
 
 pub few-within : FewWithin
-few-within x f u h w = last-within (h .earlier) (ruleOf f none u (finishedContent x) h) (w .each) .inside .few-nodes
+few-within x f u h w = last-within (h .earlier) (ruleRead f none u (finishedContent x) h) (w .each) .inside .few-nodes

@@ -10,7 +10,7 @@ use Rattle.lent.specs.Put.{put, PutAs}
 use Rattle.lent.proofs.Laws.{put-all, put-append}
 use Rattle.beds.specs.declared.Row.{Row}
 use Rattle.beds.specs.Nodes.{bareNode}
-use Rattle.beds.specs.Bedded.{mostBytes, Lays, NodeIn, FieldIn}
+use Rattle.beds.specs.Bedded.{mostBedBytes, Lays, NodeIn, FieldIn}
 
 pub lays-as : {l m : List ℕ} {r : Row} → l ≡ m → Lays l r → Lays m r
 lays-as {l} {m} {r} e h = subst (λ k. Lays k r) e h
@@ -23,13 +23,13 @@ beyond-two : (u v : List ℕ) (r : Row) → Lays (u ++ v) r → r .bytes ≡ u +
 beyond-two u v r h = beyond (u ++ v) r h ∙ append-assoc u v (drop (r .length) (r .bytes))
 
 module _ (a : Row) (at kind argument : ℕ) where
-  pub no-room : mostBytes - 6 < a .length → NodeIn a at kind argument a
+  pub no-room : mostBedBytes - 6 < a .length → NodeIn a at kind argument a
   no-room h = record { is = λ u v x e few. absurd (omega (arith, h, x .length-is, simp length-append at few, length-append u v)) }
 
   pub past-end : a .length < at → NodeIn a at kind argument a
   past-end h = record { is = λ u v x e few. absurd (omega (arith, h, x .length-is, length-append u v, e)) }
 
-  pub node-in : (m : List ℕ) (behind : ℕ) (r : Row) → length (a .bytes) ≡ mostBytes → PutAs true (a .bytes) at (bareNode kind argument) m behind
+  pub node-in : (m : List ℕ) (behind : ℕ) (r : Row) → length (a .bytes) ≡ mostBedBytes → PutAs true (a .bytes) at (bareNode kind argument) m behind
       → PutAs true m behind (take (a .length - at) (drop at (a .bytes))) (r .bytes) (r .length) → NodeIn a at kind argument r
   node-in m behind r full p q = record {
     is = λ u v x e few.
@@ -52,10 +52,10 @@ module _ (a : Row) (at kind argument : ℕ) where
   }
 
 module _ (a : Row) (node skip low high : ℕ) where
-  pub far-field : mostBytes < node → FieldIn a (node + skip) low high a
+  pub far-field : mostBedBytes < node → FieldIn a (node + skip) low high a
   far-field h = record { is = λ u v x y l e. absurd (omega (arith, h, l .short, length-append u (x ∷ y ∷ v), e)) }
 
-  pub field-in : (end : ℕ) (r : Row) → length (a .bytes) ≡ mostBytes → PutAs true (a .bytes) (node + skip) (low ∷ high ∷ []) (r .bytes) end → r .length ≡ a .length → FieldIn a (node + skip) low high r
+  pub field-in : (end : ℕ) (r : Row) → length (a .bytes) ≡ mostBedBytes → PutAs true (a .bytes) (node + skip) (low ∷ high ∷ []) (r .bytes) end → r .length ≡ a .length → FieldIn a (node + skip) low high r
   field-in end r full p same = record {
     is = λ u v x y l e.
         let at = node + skip in

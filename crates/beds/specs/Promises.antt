@@ -5,10 +5,10 @@ use mathlib.Core.Option.{Option, some}
 use Prim.Native.Nat.{ℕ, _*_}
 use lib.ListN.{length}
 use Rattle.expressions.specs.Expr.{nodesOf}
-use Rattle.notation.specs.Program.{Program}
-use Rattle.notation.specs.Rules.{Tree, contentOf, Rules}
-use Rattle.notation.specs.Limits.{Within}
-use Rattle.notation.specs.Tokens.{Token}
+use Rattle.notation.specs.Program.{TextProgram}
+use Rattle.notation.specs.Rules.{Tree, contentInside, Rules}
+use Rattle.notation.specs.Limits.{WithinLimits}
+use Rattle.notation.specs.Tokens.{TextToken}
 use Rattle.reading.specs.Statements.{Listing}
 use Rattle.reading.specs.Expressions.{Parsing, stepExpression}
 use Rattle.reading.specs.Rules.{Head, within, finishedRules}
@@ -17,7 +17,7 @@ use Rattle.sketches.specs.Sketched.{listingIn}
 use Rattle.beds.specs.declared.Row.{Row}
 use Rattle.beds.specs.declared.Bed.{Bed}
 use Rattle.beds.specs.Nodes.{contentNodes}
-use Rattle.beds.specs.Bedded.{Lays, Bedded, FewNodes}
+use Rattle.beds.specs.Bedded.{Lays, Bedded, FewNodesRead}
 
 -- with the fields of rules they are the bytes that the sheet of these rules has
 abbrev pub SheetNodes : Type 0
@@ -25,16 +25,16 @@ SheetNodes = (r : Rules) (e : Option Tree) → contentNodes (λ p. field r (some
 
 -- six for each node
 abbrev pub SixEach : Type 0
-SixEach = (field : Program → ℕ) (e : Option Tree) → length (contentNodes field e) ≡ 6 * nodesOf (contentOf e)
+SixEach = (field : TextProgram → ℕ) (e : Option Tree) → length (contentNodes field e) ≡ 6 * nodesOf (contentInside e)
 
 -- a program goes on
 abbrev pub StaysInPrograms : Type 0
-StaysInPrograms = (field : Program → ℕ) (x x′ : Parsing) (t : Token) (q q′ : Listing) (b : Bed) → listingIn x ≡ some q → listingIn x′ ≡ some q′ → stepExpression x t ≡ some x′ → Bedded field x b
+StaysInPrograms = (field : TextProgram → ℕ) (x x′ : Parsing) (t : TextToken) (q q′ : Listing) (b : Bed) → listingIn x ≡ some q → listingIn x′ ≡ some q′ → stepExpression x t ≡ some x′ → Bedded field x b
     → Bedded field x′ b
 
 -- a text that keeps its limits has few nodes here
 abbrev pub FewWithin : Type 0
-FewWithin = (x : Parsing) (f : Option Program) (u : List ℕ) (h : Head) → Within (finishedRules (within x f u h)) → FewNodes x
+FewWithin = (x : Parsing) (f : Option TextProgram) (u : List ℕ) (h : Head) → WithinLimits (finishedRules (within x f u h)) → FewNodesRead x
 
 -- a bed's nodes are one list only
 abbrev pub OneLaid : Type 0

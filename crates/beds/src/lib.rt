@@ -3,7 +3,7 @@
 ghost use mathlib.Core.Path.{_≡_};
 ghost use Prim.Native.Nat.{_+_, _≤_};
 ghost use Rattle.reading.specs.Expressions.{a-star, a-dot, a-bar, an-open, a-close};
-ghost use Rattle.beds.specs.Bedded.{NodeIn, FieldIn, justOpened, LeafIs, PieceIs, SettledIs, FreshIs, StepIs, UnbracedIs, FinishedIs};
+ghost use Rattle.beds.specs.Bedded.{NodeIn, FieldIn, justOpened, LeafIs, PieceIs, SettledIs, FreshIs, BedStepIs, UnbracedIs, FinishedIs};
 
 // The bytes of the most nodes that a production may have.
 pub const MOST: usize = 192;
@@ -253,7 +253,7 @@ impl Bed {
 
     // A token outside programs.
     pub fn step(self, kind: usize, number: usize) -> Bed
-        ensures { λ r. ⌜ StepIs self kind number r ⌝ }
+        ensures { λ r. ⌜ BedStepIs self kind number r ⌝ }
     {
         match kind {
             0 => self.leaf(1, (number % 256) as u8),

@@ -11,7 +11,7 @@ use lib.ListN.{length, getD, drop, set, length-set, drop-of-length-le}
 use lib.Seq.{drop-cons, drop-drop}
 use lib.Dec.{eqb, ltb}
 use borrow.Author.Tests.{eq-eqb, ne-eqb, eqb-true, eqb-false, lt-ltb, le-ltb}
-use Rattle.places.specs.Lines.{endsLine, count, lineEnds}
+use Rattle.places.specs.Lines.{endsLine, howMany, lineEnds}
 use Rattle.behind.specs.Tags.{kindOpening, kindClosing, tagKind}
 use Rattle.behind.specs.Lines.{openOn, linesPast, Noted, lineBehind, linesPassing, beforeTag, tagLine, NextTag, rootLine}
 use Rattle.behind.specs.declared.Lines.{Lines}
@@ -138,7 +138,7 @@ all-passed l s i here w end inv = sym (ap (λ z. linesPassing l z here) (drop-of
 
 -- lines are counted as the places are: where the number does not begin again from 0, so many more as end in the bytes
 pub lines-counted : (l : Lines) (s : List ℕ) (line : ℕ) → line + length s < 2 ^ 64 → linesPassing l s line .line ≡ line + lineEnds s
-unfolding linesPassing count
+unfolding linesPassing howMany
 lines-counted l [] line h = omega arith
 lines-counted l (b ∷ s) line h = by (endsLine b s) (λ n. lines-counted (linesPast l (tagKind (b ∷ s)) line) s n)
   where

@@ -10,7 +10,7 @@ use Rattle.lent.specs.Put.{PutAs}
 use Rattle.output.proofs.Writing.{put-then, same-bytes}
 use Rattle.notation.specs.Limits.{nodesInAll}
 use Rattle.encoding.specs.Distinct.{run-together}
-use Rattle.encoding.specs.Encoded.{tagsOf, stringsOf, programsOf}
+use Rattle.encoding.specs.Encoded.{tagsStored, stringsStored, programsStored}
 use Rattle.packing.specs.Packed.{tagsSection, productionsSection, nodesSection, trailer, sheetBytes}
 use Rattle.packing.proofs.Productions.{productions-length, nodes-length}
 use Rattle.records.specs.Records.{TrailerFits}
@@ -61,11 +61,11 @@ sixth n k e = omega (arith, e)
 pub binds-sheets : BindsSheets
 unfolding sheetBytes
 binds-sheets r =
-    let t = tagsSection (tagsOf r) in
+    let t = tagsSection (tagsStored r) in
     let p = productionsSection r 0 (r .productions) in
     let n = nodesSection r (r .productions) in
-    let g = run-together (programsOf r) in
-    let s = run-together (stringsOf r) in
-    ap₂ (λ c d. t ++ (p ++ (n ++ (g ++ (s ++ trailer (length (tagsOf r)) c d (length g) (length s) (r .start))))))
+    let g = run-together (programsStored r) in
+    let s = run-together (stringsStored r) in
+    ap₂ (λ c d. t ++ (p ++ (n ++ (g ++ (s ++ trailer (length (tagsStored r)) c d (length g) (length s) (r .start))))))
     (twelfth (length p) (length (r .productions)) (productions-length r 0 (r .productions)))
     (sixth (length n) (nodesInAll (r .productions)) (nodes-length r (r .productions)))

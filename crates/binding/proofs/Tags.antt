@@ -15,7 +15,7 @@ use Rattle.encoding.specs.Distinct.{run-together}
 use Rattle.stores.specs.Rows.{endsFrom, RowsIn}
 use Rattle.stores.proofs.Mentioning.{one-store}
 use Rattle.packing.specs.Packed.{tagsSection}
-use Rattle.binding.specs.Bound.{AllShort, TagRows, TagsPut}
+use Rattle.binding.specs.Bound.{ShortNames, TagRows, TagsPut}
 
 pub sixteen : (n : List ℕ) → length n ≤ longestName → length (tagRecord n) ≡ 16
 sixteen n h = omega (arith, length-append n (replicate (longestName - length n) 0), length-replicate {A = ℕ} (longestName - length n) 0)
@@ -29,7 +29,7 @@ pub record TagsLeft (bytes ends : List ℕ) (count : ℕ) (memory : List ℕ) (a
   pub ends-left : drop i ends ≡ endsFrom from back ++ free-ends
   pub inside : from ≤ length bytes
   pub number : count ≡ i + length back
-  pub short-left : AllShort back
+  pub short-left : ShortNames back
   pub rest : (after : List ℕ) (r : ℕ) → PutAs true now n (tagsSection back) after r → PutAs true memory at (tagsSection l) after r
 
 -- the name that is next
@@ -40,11 +40,11 @@ pub record NextName (bytes ends : List ℕ) (i from : ℕ) : Type 0 where
   pub short : getD ends i 0 - from ≤ longestName
 
 -- the store's rows are short, whichever they are called
-pub short-all : (bytes ends : List ℕ) (count : ℕ) → TagRows bytes ends count → (l : List (List ℕ)) → RowsIn bytes ends count l → AllShort l
-short-all bytes ends count t l h = subst AllShort (one-store bytes ends count (t .rows) l (t .are) h) (t .short)
+pub short-all : (bytes ends : List ℕ) (count : ℕ) → TagRows bytes ends count → (l : List (List ℕ)) → RowsIn bytes ends count l → ShortNames l
+short-all bytes ends count t l h = subst ShortNames (one-store bytes ends count (t .rows) l (t .are) h) (t .short)
 
 module _ (bytes ends : List ℕ) (count : ℕ) (memory : List ℕ) (at : ℕ) where
-  pub all-left : (l : List (List ℕ)) → RowsIn bytes ends count l → AllShort l → TagsLeft bytes ends count memory at l 0 0 at memory
+  pub all-left : (l : List (List ℕ)) → RowsIn bytes ends count l → ShortNames l → TagsLeft bytes ends count memory at l 0 0 at memory
   all-left l h s = record {
     back = l;
     free-bytes = h .free-bytes;
@@ -68,13 +68,13 @@ module _ (bytes ends : List ℕ) (count : ℕ) (memory : List ℕ) (at : ℕ) wh
       inside : from ≤ length bytes
       number : count ≡ i + suc (length back)
       short-row : length row ≤ longestName
-      short-left : AllShort back
+      short-left : ShortNames back
       rest : (after : List ℕ) (r : ℕ) → PutAs true now n (tagRecord row ++ tagsSection back) after r → PutAs true memory at (tagsSection l) after r
 
     ahead : TagsLeft bytes ends count memory at l i from n now → i < count → Ahead
     ahead h s = go (h .back) (h .bytes-left) (h .ends-left) (h .number) (h .short-left) (h .rest)
       where
-        go : (back : List (List ℕ)) → drop from bytes ≡ run-together back ++ h .free-bytes → drop i ends ≡ endsFrom from back ++ h .free-ends → count ≡ i + length back → AllShort back
+        go : (back : List (List ℕ)) → drop from bytes ≡ run-together back ++ h .free-bytes → drop i ends ≡ endsFrom from back ++ h .free-ends → count ≡ i + length back → ShortNames back
             → ((after : List ℕ) (r : ℕ) → PutAs true now n (tagsSection back) after r → PutAs true memory at (tagsSection l) after r) → Ahead
         go [] b e c a r = absurd (omega arith)
         go (y ∷ back) b e c a r = record {
@@ -142,7 +142,7 @@ module _ (bytes ends : List ℕ) (count : ℕ) (memory : List ℕ) (at : ℕ) wh
         go [] c r = r now n (nothing-put true now n)
         go (y ∷ back) c r = absurd (omega (arith, c))
 
-  pub tags-put : (i from n : ℕ) (now : List ℕ) → TagRows bytes ends count → ((l : List (List ℕ)) → RowsIn bytes ends count l → AllShort l → TagsLeft bytes ends count memory at l i from n now) → i ≤ count → count ≤ i
+  pub tags-put : (i from n : ℕ) (now : List ℕ) → TagRows bytes ends count → ((l : List (List ℕ)) → RowsIn bytes ends count l → ShortNames l → TagsLeft bytes ends count memory at l i from n now) → i ≤ count → count ≤ i
       → n ≡ at + 16 * i → TagsPut bytes ends count memory at now n
   tags-put i from n now t left low high e = record { next = omega (arith, low, high, e); is = λ l h. none-left l i from n now (left l h (short-all bytes ends count t l h)) high }
 

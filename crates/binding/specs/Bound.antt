@@ -10,16 +10,16 @@ use Rattle.stores.specs.Rows.{RowsIn}
 use Rattle.packing.specs.Packed.{tagsSection, trailer}
 
 -- names that a tag's record can hold
-abbrev pub AllShort : List (List ℕ) → Type 0
-AllShort [] = Unit {0}
-AllShort (n ∷ l) = (length n ≤ longestName) × AllShort l
+abbrev pub ShortNames : List (List ℕ) → Type 0
+ShortNames [] = Unit {0}
+ShortNames (n ∷ l) = (length n ≤ longestName) × ShortNames l
 
 -- a store of such names, no more than a sheet has
 pub record TagRows (bytes ends : List ℕ) (count : ℕ) : Type 0 where
   pub few : count ≤ mostTags
   pub rows : List (List ℕ)
   pub are : RowsIn bytes ends count rows
-  pub short : AllShort rows
+  pub short : ShortNames rows
 
 -- their records, from an offset on
 pub record TagsPut (bytes ends : List ℕ) (count : ℕ) (memory : List ℕ) (at : ℕ) (after : List ℕ) (r : ℕ) : Type 0 where

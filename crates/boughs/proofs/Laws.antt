@@ -12,15 +12,15 @@ use borrow.Author.Tests.{ne-eqb, eq-eqb}
 use Rattle.lent.specs.Put.{PutAs}
 use Rattle.output.proofs.Writing.{put-then, same-bytes}
 use Rattle.expressions.specs.Expr.{Atom, nonterminal, anychar, nodes}
-use Rattle.programs.specs.Program.{Program as SheetProgram}
+use Rattle.programs.specs.Program.{Program}
 use Rattle.programs.specs.Limits.{Visit, first, second}
 use Rattle.programs.specs.Section.{FieldIs, no-program, names}
 use Rattle.layout.specs.Records.{kindOf, argumentOf, firstProgramOfNode, secondProgramOfNode}
 use Rattle.trees.specs.Trees.{TreeAt}
 use Rattle.sheet.specs.Sheet.{Sheet}
-use Rattle.notation.specs.Program.{Program}
-use Rattle.notation.specs.Rules.{Visits, Tree, node, Form, atom, cat, alt, star, empty, expression, expressionOf, visits, visitsOf}
-use Rattle.notation.specs.Tokens.{bytesOf}
+use Rattle.notation.specs.Program.{TextProgram}
+use Rattle.notation.specs.Rules.{TextVisits, Tree, node, Form, atom, cat, alt, star, empty, expression, expressionOf, visits, visitsOf}
+use Rattle.notation.specs.Tokens.{tokenBytes}
 use Rattle.encoding.proofs.Sheets.{tree-length}
 use Rattle.packing.specs.Packs.{Packs}
 use Rattle.printed.specs.Spacing.{inParentheses, inParenthesesIf}
@@ -31,7 +31,7 @@ use Rattle.clauses.specs.Clauses.{signWhere}
 use Rattle.clauses.proofs.Laws.{decimal-short, sign-short}
 use Rattle.asides.specs.Asides.{asideText, mostOfAnAside, FieldNamed, FieldText}
 use Rattle.asides.proofs.Laws.{asides-are-theirs}
-use Rattle.boughs.specs.Boughs.{bindsAt, atomAt, joinAt, apartAt, NodesNamed, TreeNamed, bareText, insideText, mostOfANode, TreePut}
+use Rattle.boughs.specs.Boughs.{bindsAt, leafText, joinAt, apartAt, NodesNamed, TreeNamed, bareText, insideText, mostOfANode, TreePut}
 use Rattle.boughs.specs.declared.Placed.{Placed}
 
 -- ---- by the kind
@@ -47,19 +47,19 @@ binds-star k e = rw e refl
 pub binds-most : (k : ℕ) → (k ≡ 4 → ⊥) → (k ≡ 3 → ⊥) → (k ≡ 5 → ⊥) → 3 ≡ bindsAt k
 binds-most k f g h = rw (ne-eqb k 4 f, ne-eqb k 3 g, ne-eqb k 5 h) refl
 
-pub atom-number : (k n : ℕ) → k ≡ 1 → bytesOf (Rattle.notation.specs.Tokens.nonterminal n) ≡ atomAt k n
+pub atom-number : (k n : ℕ) → k ≡ 1 → tokenBytes (Rattle.notation.specs.Tokens.nonterminal n) ≡ leafText k n
 atom-number k n e = rw e refl
 
-pub atom-character : (k n : ℕ) → k ≡ 2 → 67 ∷ 72 ∷ 65 ∷ 82 ∷ [] ≡ atomAt k n
+pub atom-character : (k n : ℕ) → k ≡ 2 → 67 ∷ 72 ∷ 65 ∷ 82 ∷ [] ≡ leafText k n
 atom-character k n e = rw e refl
 
-pub atom-empty : (k n : ℕ) → (k ≡ 1 → ⊥) → (k ≡ 2 → ⊥) → 69 ∷ 77 ∷ 80 ∷ 84 ∷ 89 ∷ [] ≡ atomAt k n
+pub atom-empty : (k n : ℕ) → (k ≡ 1 → ⊥) → (k ≡ 2 → ⊥) → 69 ∷ 77 ∷ 80 ∷ 84 ∷ 89 ∷ [] ≡ leafText k n
 atom-empty k n f g = rw (ne-eqb k 1 f, ne-eqb k 2 g) refl
 
-pub atom-short : (k n : ℕ) → length (atomAt k n) ≤ 5
+pub atom-short : (k n : ℕ) → length (leafText k n) ≤ 5
 atom-short k n = on (eqb k 1) (eqb k 2)
   where
-    on : (b c : Bool) → length (cond b (bytesOf (Rattle.notation.specs.Tokens.nonterminal n)) (cond c (67 ∷ 72 ∷ 65 ∷ 82 ∷ []) (69 ∷ 77 ∷ 80 ∷ 84 ∷ 89 ∷ []))) ≤ 5
+    on : (b c : Bool) → length (cond b (tokenBytes (Rattle.notation.specs.Tokens.nonterminal n)) (cond c (67 ∷ 72 ∷ 65 ∷ 82 ∷ []) (69 ∷ 77 ∷ 80 ∷ 84 ∷ 89 ∷ []))) ≤ 5
     on true c = omega (arith, decimal-short n)
     on false true = omega arith
     on false false = omega arith
@@ -113,14 +113,14 @@ some-nodes (node f g empty) = omega arith
 
 module _ (s : List ℕ) (a : Sheet) (z : Packs s a) where
   -- a field is empty exactly where no program is named
-  names-one : (v : Visit) (field : ℕ) (o : Option Program) → FieldNamed s a z v field o → not (eqb field 65535) ≡ hasOne o
+  names-one : (v : Visit) (field : ℕ) (o : Option TextProgram) → FieldNamed s a z v field o → not (eqb field 65535) ≡ hasOne o
   names-one v field o h = on (h .program) (h .is) ∙ ap hasOne (sym (h .named))
     where
-      on : (m : Option SheetProgram) → FieldIs (z .programs .programs) v field m → not (eqb field 65535) ≡ hasOne (optionNamed a m)
+      on : (m : Option Program) → FieldIs (z .programs .programs) v field m → not (eqb field 65535) ≡ hasOne (optionNamed a m)
       on none (no-program e) = ap not (eq-eqb field 65535 e)
       on (some p) (names n q S w) = ap not (ne-eqb field 65535 n)
 
-  apart-is : (i asked : ℕ) (f g : Option Program) (k : Form) → TreeNamed s a z i (node f g k) → apartAt s i asked ≡ (hasOne f || hasOne g) || ltb (binds k) asked
+  apart-is : (i asked : ℕ) (f g : Option TextProgram) (k : Form) → TreeNamed s a z i (node f g k) → apartAt s i asked ≡ (hasOne f || hasOne g) || ltb (binds k) asked
   apart-is i asked f g k h =
       let x : not (eqb (firstProgramOfNode s i) 65535) ≡ hasOne f = names-one first (firstProgramOfNode s i) f (h .programs .0 .first-is) in
       let y : not (eqb (secondProgramOfNode s i) 65535) ≡ hasOne g = names-one second (secondProgramOfNode s i) g (h .programs .0 .second-is) in
@@ -128,11 +128,11 @@ module _ (s : List ℕ) (a : Sheet) (z : Packs s a) where
       ∙ ap (λ (b : Bool). (hasOne f || b) || ltb (bindsAt (kindOf s i)) asked) y ∙ ap (λ (n : ℕ). (hasOne f || hasOne g) || ltb n asked) (kind-binds s i k (h .stands))
 
   -- programs of the nodes of the one tree, and of the other behind it
-  front-nodes : (i : ℕ) (us vs : List Visits) → NodesNamed s a z i (us ++ vs) → NodesNamed s a z i us
+  front-nodes : (i : ℕ) (us vs : List TextVisits) → NodesNamed s a z i (us ++ vs) → NodesNamed s a z i us
   front-nodes i [] vs h = tt
   front-nodes i (u ∷ us) vs h = (h .0, front-nodes (suc i) us vs (h .1))
 
-  back-nodes : (i : ℕ) (us vs : List Visits) → NodesNamed s a z i (us ++ vs) → NodesNamed s a z (i + length us) vs
+  back-nodes : (i : ℕ) (us vs : List TextVisits) → NodesNamed s a z i (us ++ vs) → NodesNamed s a z (i + length us) vs
   back-nodes i [] vs h = let e : i ≡ i + 0 = omega arith in subst (λ (n : ℕ). NodesNamed s a z n vs) e h
   back-nodes i (u ∷ us) vs h = let e : suc i + length us ≡ i + suc (length us) = omega arith in subst (λ (n : ℕ). NodesNamed s a z n vs) e (back-nodes (suc i) us vs (h .1))
 
@@ -154,8 +154,8 @@ pub binds-here : {k n b : ℕ} → k ≡ n → b ≡ bindsAt k → b ≡ bindsAt
 binds-here e f = f ∙ ap bindsAt e
 
 module _ {w : Bool} {d e : List ℕ} {at r k n : ℕ} (f : k ≡ n) where
-  pub atom-here : {x y : ℕ} → x ≡ y → PutAs w d at (atomAt k x) e r → PutAs w d at (atomAt n y) e r
-  atom-here {x} {y} g P = subst (λ (m : ℕ). PutAs w d at (atomAt n m) e r) g (subst (λ (m : ℕ). PutAs w d at (atomAt m x) e r) f P)
+  pub atom-here : {x y : ℕ} → x ≡ y → PutAs w d at (leafText k x) e r → PutAs w d at (leafText n y) e r
+  atom-here {x} {y} g P = subst (λ (m : ℕ). PutAs w d at (leafText n m) e r) g (subst (λ (m : ℕ). PutAs w d at (leafText m x) e r) f P)
 
   pub join-here : PutAs w d at (joinAt k) e r → PutAs w d at (joinAt n) e r
   join-here P = subst (λ (m : ℕ). PutAs w d at (joinAt m) e r) f P
@@ -170,15 +170,15 @@ module _ (s : List ℕ) (i left : ℕ) (p : Pen) where
       (a : Sheet) (z : Packs s a) (t : Tree) → TreeNamed s a z i t → nodes (expression t) ≤ left → (next ≡ i + nodes (expression t)) × PutAs (p .write) (p .lent) (p .at) (text t) d at
 
   module _ (some-left : 1 ≤ left) where
-    pub an-atom : (b : ℕ) → b ≡ bindsAt (kindOf s i) → b ≡ 3 → (n : ℕ) (d : List ℕ) → PutAs (p .write) (p .lent) (p .at) (atomAt (kindOf s i) (argumentOf s i)) d n
+    pub an-atom : (b : ℕ) → b ≡ bindsAt (kindOf s i) → b ≡ 3 → (n : ℕ) (d : List ℕ) → PutAs (p .write) (p .lent) (p .at) (leafText (kindOf s i) (argumentOf s i)) d n
         → TreePut (2 * mostOfAnAside + 2) bareText s i left p (record { next = i + 1; at = n }) d
     an-atom b eb e n d P = record { low = omega arith; high = omega (arith, some-left); reach = omega (arith, P .next, atom-short (kindOf s i) (argumentOf s i)); right = go }
       where
         never : (k : Form) → TreeAt s i (expressionOf k) → binds k ≡ 3
         never k h = sym (kind-binds s i k h) ∙ sym eb ∙ e
 
-        it : (x y : ℕ) → kindOf s i ≡ x → argumentOf s i ≡ y → PutAs (p .write) (p .lent) (p .at) (atomAt x y) d n
-        it x y f g = subst (λ (m : ℕ). PutAs (p .write) (p .lent) (p .at) (atomAt x m) d n) g (subst (λ (m : ℕ). PutAs (p .write) (p .lent) (p .at) (atomAt m (argumentOf s i)) d n) f P)
+        it : (x y : ℕ) → kindOf s i ≡ x → argumentOf s i ≡ y → PutAs (p .write) (p .lent) (p .at) (leafText x y) d n
+        it x y f g = subst (λ (m : ℕ). PutAs (p .write) (p .lent) (p .at) (leafText x m) d n) g (subst (λ (m : ℕ). PutAs (p .write) (p .lent) (p .at) (leafText m (argumentOf s i)) d n) f P)
 
         go : Right bareText (i + 1) n d
         go a z (node f g (atom (nonterminal m))) h few = (refl, it 1 m (h .stands .0) (h .stands .1))
@@ -239,7 +239,7 @@ module _ (s : List ℕ) (i left : ℕ) (p : Pen) where
         → Written mostOfAnAside (FieldText s g false) (record { write = p .write; lent = d₂; at = r .at }) n₃ d₃ → TreePut 2 insideText s i left p (record { next = r .next; at = n₃ }) d₃
     with-programs f g ef eg F R G = record { low = R .low; high = R .high; reach = omega (arith, F .reach, R .reach, G .reach); right = go }
       where
-        field : (a : Sheet) (z : Packs s a) (v : Visit) (n m : ℕ) (b : Bool) (o : Option Program) → n ≡ m → FieldNamed s a z v m o → FieldText s n b (asideText b o)
+        field : (a : Sheet) (z : Packs s a) (v : Visit) (n m : ℕ) (b : Bool) (o : Option TextProgram) → n ≡ m → FieldNamed s a z v m o → FieldText s n b (asideText b o)
         field a z v n m b o e h = record { sheet = a; packs = z; visit = v; program = o; names = subst (λ (x : ℕ). FieldNamed s a z v x o) (sym e) h; bytes = refl }
 
         go : Right insideText (r .next) n₃ d₃

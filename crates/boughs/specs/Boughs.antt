@@ -10,8 +10,8 @@ use Rattle.expressions.specs.Expr.{nodes}
 use Rattle.layout.specs.Records.{kindOf, firstProgramOfNode, secondProgramOfNode}
 use Rattle.trees.specs.Trees.{TreeAt}
 use Rattle.sheet.specs.Sheet.{Sheet}
-use Rattle.notation.specs.Rules.{Visits, Tree, node, expression, visits}
-use Rattle.notation.specs.Tokens.{nonterminal, CHAR, EMPTY, DOT, BAR, wordBytes, signBytes, bytesOf}
+use Rattle.notation.specs.Rules.{TextVisits, Tree, node, expression, visits}
+use Rattle.notation.specs.Tokens.{nonterminal, CHAR, EMPTY, DOT, BAR, wordBytes, signBytes, tokenBytes}
 use Rattle.packing.specs.Packs.{Packs}
 use Rattle.printed.specs.Expressions.{programInFront, programBehind, formText}
 use Rattle.visits.specs.Written.{Pen}
@@ -23,8 +23,8 @@ abbrev pub bindsAt : ℕ → ℕ
 bindsAt k = cond (eqb k 4) 0 (cond (eqb k 3) 1 (cond (eqb k 5) 2 3))
 
 -- a node of one kind and argument that has no parts
-abbrev pub atomAt : ℕ → ℕ → List ℕ
-atomAt k n = cond (eqb k 1) (bytesOf (nonterminal n)) (cond (eqb k 2) (wordBytes CHAR) (wordBytes EMPTY))
+abbrev pub leafText : ℕ → ℕ → List ℕ
+leafText k n = cond (eqb k 1) (tokenBytes (nonterminal n)) (cond (eqb k 2) (wordBytes CHAR) (wordBytes EMPTY))
 
 -- what stands between the two parts of a node
 abbrev pub joinAt : ℕ → List ℕ
@@ -35,7 +35,7 @@ abbrev pub apartAt : List ℕ → ℕ → ℕ → Bool
 apartAt s i asked = (not (eqb (firstProgramOfNode s i) 65535) || not (eqb (secondProgramOfNode s i) 65535)) || ltb (bindsAt (kindOf s i)) asked
 
 -- the programs of the nodes from i on
-abbrev pub NodesNamed : (s : List ℕ) (a : Sheet) → Packs s a → ℕ → List Visits → Type 0
+abbrev pub NodesNamed : (s : List ℕ) (a : Sheet) → Packs s a → ℕ → List TextVisits → Type 0
 NodesNamed s a z i [] = Unit {0}
 NodesNamed s a z i (v ∷ vs) = BothNamed s a z (firstProgramOfNode s i) (secondProgramOfNode s i) v × NodesNamed s a z (suc i) vs
 

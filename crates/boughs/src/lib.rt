@@ -5,10 +5,10 @@ ghost use Prim.Native.Nat.{_+_, _*_, _≤_, _<_};
 ghost use Rattle.lent.specs.Put.{PutAs};
 ghost use Rattle.output.specs.Reach.{farthest};
 ghost use Rattle.layout.specs.LaidOut.{LaidOut};
-ghost use Rattle.notation.specs.Tokens.{nonterminal, bytesOf};
+ghost use Rattle.notation.specs.Tokens.{nonterminal, tokenBytes};
 ghost use Rattle.printed.specs.Expressions.{treeText};
 ghost use Rattle.asides.specs.Asides.{mostOfAnAside};
-ghost use Rattle.boughs.specs.Boughs.{bindsAt, atomAt, joinAt, apartAt, bareText, insideText, mostOfANode, TreePut};
+ghost use Rattle.boughs.specs.Boughs.{bindsAt, leafText, joinAt, apartAt, bareText, insideText, mostOfANode, TreePut};
 use asides::NONE;
 use layout::Layout;
 
@@ -52,7 +52,7 @@ fn stands_apart(s: &[u8], l: Layout, i: usize, asked: u8) -> bool
 // Writes a nonterminal by its number.
 pub fn put_nonterminal(n: usize, out: &mut [u8], at: usize, write: bool) -> usize
     requires { ⌜ (n < 256) × (at + 1 ≤ farthest) ⌝ }
-    ensures { λ r. ⌜ PutAs write (now (out .entry)) at (bytesOf (nonterminal n)) (now (out .exit)) r ⌝ }
+    ensures { λ r. ⌜ PutAs write (now (out .entry)) at (tokenBytes (nonterminal n)) (now (out .exit)) r ⌝ }
 {
     let from = lent::put_bytes(out, at, b"n", write);
     printer::put_decimal(out, from, n as u8, write)
@@ -61,7 +61,7 @@ pub fn put_nonterminal(n: usize, out: &mut [u8], at: usize, write: bool) -> usiz
 // Writes a node that has no parts.
 fn put_atom(kind: usize, argument: usize, out: &mut [u8], at: usize, write: bool) -> usize
     requires { ⌜ (argument < 256) × (at + 1 ≤ farthest) ⌝ }
-    ensures { λ r. ⌜ PutAs write (now (out .entry)) at (atomAt kind argument) (now (out .exit)) r ⌝ }
+    ensures { λ r. ⌜ PutAs write (now (out .entry)) at (leafText kind argument) (now (out .exit)) r ⌝ }
 {
     if kind == 1 {
         return put_nonterminal(argument, out, at, write);

@@ -11,7 +11,7 @@ use Rattle.tokens.specs.declared.Event.{Event}
 use Rattle.tokens.specs.declared.Event.the-variants.{Start, End, Empty, Character}
 use Rattle.tokens.specs.Tokens.{start, end, empty, crlf, cr, Tok, tag, ref, numeric, line, char}
 use Rattle.tokens.specs.Stream.{Reads, flat, Followed, AllWhole, eventsAt}
-use Rattle.tokens.specs.LineEnds.{normal, Handed, a-tag, a-character, handed, allHanded, TranslatedTo}
+use Rattle.tokens.specs.LineEnds.{normal, Handed, a-tag, a-character, handedOn, allHanded, TranslatedTo}
 use Rattle.tokens.proofs.LineEnds.{translated}
 use Rattle.tokens.proofs.Streams.{reads-flat}
 use Rattle.sheet.specs.Sheet.{Sheet}
@@ -34,7 +34,7 @@ abbrev tokensHanded : Sheet → List Handed → List Token
 tokensHanded a [] = []
 tokensHanded a (h ∷ hs) = tokenHanded a h ∷ tokensHanded a hs
 
-handed-token : (a : Sheet) (s : List ℕ) (e : Event) → tokenOf a s e ≡ tokenHanded a (handed s e)
+handed-token : (a : Sheet) (s : List ℕ) (e : Event) → tokenOf a s e ≡ tokenHanded a (handedOn s e)
 handed-token a s (Start from len) = refl
 handed-token a s (End from len) = refl
 handed-token a s (Empty from len) = refl

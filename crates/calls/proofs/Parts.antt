@@ -29,7 +29,7 @@ use Rattle.runs.specs.Visits.{mostVisits}
 use Rattle.calls.specs.Limits.{silent, outputOf, Taking, taken, refuses, no-room, limited, within, oneToken}
 use Rattle.calls.specs.Held.{Held, leavesOpen, closingOf, handed}
 use Rattle.calls.specs.Call.{Result, stopped-at, after-writing, numberAt, stops, full, no-token, Runs, takes, halts, CalledBy, Called}
-use Rattle.calls.specs.Parts.{answers-together, EndTold, CutOff, SameAnswer, Continued, Feeds, at-once, closes, goes-on, Each, CallOf}
+use Rattle.calls.specs.Parts.{answers-together, EndTold, CutOff, SameAnswer, Continued, Feeds, at-once, closes, goes-on, EachCall, CallOf}
 use Rattle.calls.proofs.Read.{NoToken, Alike, read-on, read-token, token-long, token-at, token-of, none-there, token-there}
 use Rattle.calls.proofs.Answers.{AfterToken, split, to-number, call-one, call-some}
 use Rattle.calls.proofs.Frame.{countOf}
@@ -309,7 +309,7 @@ module _ {H : Type 0} {Call : List ℕ → Bool → ℕ → H → H → Result �
 pub each-call : {H : Type 0} {Call : List ℕ → Bool → ℕ → H → H → Result → ℕ → Type 0}
     (P : (part : List ℕ) (b : Bool) (room : ℕ) (h h′ : H) (r : Result) (v : ℕ) → Call part b room h h′ r v → Type 0) →
     ((part : List ℕ) (b : Bool) (room : ℕ) (h h′ : H) (r : Result) (v : ℕ) (c : Call part b room h h′ r v) → P part b room h h′ r v c) →
-    {more : Bool} {whole : List ℕ} {room : ℕ} {h : H} {r : Result} {v : ℕ} (d : Feeds Call more whole room h r v) → Each P d
+    {more : Bool} {whole : List ℕ} {room : ℕ} {h : H} {r : Result} {v : ℕ} (d : Feeds Call more whole room h r v) → EachCall P d
 each-call P k (at-once c) = k _ _ _ _ _ _ _ c
 each-call P k (closes room extra s later b r₁ n t c e) = k _ _ _ _ _ _ _ c
 each-call P k (goes-on room extra s later b r₁ t c e d) = (k _ _ _ _ _ _ _ c, each-call P k d)

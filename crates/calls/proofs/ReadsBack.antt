@@ -11,7 +11,7 @@ use Rattle.tokens.specs.declared.Event.the-variants.{Start, End, Empty, Charact
 use Rattle.tokens.specs.declared.Answer.the-variants.{Token}
 use Rattle.tokens.specs.Stream.{ReadAs, Reads}
 use Rattle.sheet.specs.Sheet.{Sheet, IsSheet}
-use Rattle.output.specs.Escape.{Piece, render, AllFit, events}
+use Rattle.output.specs.Escape.{Piece, render, AllFit, eventsFrom}
 use Rattle.output.proofs.ReadBack.{reads-back, pieces-back, never-cr}
 use Rattle.runs.specs.Visits.{grammar}
 use Rattle.runs.specs.Fits.{EventsFit, SheetFits, StoreFits}

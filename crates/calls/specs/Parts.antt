@@ -60,12 +60,12 @@ pub data Feeds {H : Type 0} (Call : List ℕ → Bool → ℕ → H → H → Re
       Feeds Call more (s ++ later) (room + extra) h (answers-together r₁ r₂) v
 
 -- P holds of each of the calls
-abbrev pub Each : {H : Type 0} {Call : List ℕ → Bool → ℕ → H → H → Result → ℕ → Type 0} →
+abbrev pub EachCall : {H : Type 0} {Call : List ℕ → Bool → ℕ → H → H → Result → ℕ → Type 0} →
     (P : (part : List ℕ) (b : Bool) (room : ℕ) (h h′ : H) (r : Result) (v : ℕ) → Call part b room h h′ r v → Type 0) →
     {more : Bool} {whole : List ℕ} {room : ℕ} {h : H} {r : Result} {v : ℕ} → Feeds Call more whole room h r v → Type 0
-Each P (at-once c) = P _ _ _ _ _ _ _ c
-Each P (closes room extra s later b r₁ n t c e) = P s b room _ _ r₁ _ c
-Each P (goes-on room extra s later b r₁ t c e d) = P s b room _ _ r₁ _ c × Each P d
+EachCall P (at-once c) = P _ _ _ _ _ _ _ c
+EachCall P (closes room extra s later b r₁ n t c e) = P s b room _ _ r₁ _ c
+EachCall P (goes-on room extra s later b r₁ t c e d) = P s b room _ _ r₁ _ c × EachCall P d
 
 -- a call of the definition, by what is held
 pub record CallOf (a : Sheet) (part : List ℕ) (more : Bool) (room : ℕ) (h h′ : Held) (r : Result) (v : ℕ) : Type 0 where

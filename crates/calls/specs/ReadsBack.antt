@@ -8,7 +8,7 @@ use lib.ListN.{length}
 use Rattle.tokens.specs.Stream.{Reads}
 use Rattle.tokens.specs.LineEnds.{NoCR}
 use Rattle.sheet.specs.Sheet.{Sheet}
-use Rattle.output.specs.Escape.{Piece, render, events, allPieces}
+use Rattle.output.specs.Escape.{Piece, render, eventsFrom, allPieces}
 use Rattle.runs.specs.Fits.{StoreFits}
 use Rattle.calls.specs.Held.{Held}
 use Rattle.calls.specs.Call.{Result, Called}
@@ -18,8 +18,8 @@ use Rattle.calls.specs.Call.{Result, Called}
 pub record ReadsBackAs (o : List ℕ) (printed : List Piece) : Type 0 where
   pub is : o ≡ render printed
   pub no-cr : NoCR o
-  pub reads : (p r : List ℕ) → Reads true (p ++ (o ++ r)) (length p) (events (length p) printed) (length p + length o)
-  pub same : (p r : List ℕ) → allPieces (p ++ (o ++ r)) (events (length p) printed) ≡ printed
+  pub reads : (p r : List ℕ) → Reads true (p ++ (o ++ r)) (length p) (eventsFrom (length p) printed) (length p + length o)
+  pub same : (p r : List ℕ) → allPieces (p ++ (o ++ r)) (eventsFrom (length p) printed) ≡ printed
 
 -- as some tags and characters
 abbrev pub ReadsBack : List ℕ → Type 0

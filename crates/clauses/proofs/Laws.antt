@@ -14,14 +14,14 @@ use Rattle.output.proofs.Writing.{put-then, same-bytes}
 use Rattle.programs.specs.Program.{Operand, constant, current, recalled, operandBytes, Condition, equal, negated, both, either, conditionBytes}
 use Rattle.programs.proofs.Agree.{condition-some}
 use Rattle.programs.proofs.Reading.{byte-of, first-byte, starts-length}
-use Rattle.notation.specs.Tokens.{decimal, bytesOf}
+use Rattle.notation.specs.Tokens.{decimal, tokenBytes}
 use Rattle.printed.specs.Spacing.{inParentheses, inParenthesesIf}
 use Rattle.printed.specs.Conditions.{operandToken, conditionBinds, conditionText}
 use Rattle.printer.specs.Operands.{operandTextAt}
 use Rattle.visits.specs.Evaluated.{LiesAt}
 use Rattle.visits.specs.Written.{Pen}
 use Rattle.visits.proofs.Lying.{first-part, second-part, condition-of}
-use Rattle.clauses.specs.Clauses.{bindsAt, BindsAreTheirs, wordAt, conditionTextIn, signWhere, mostOfAByte, ClausePut}
+use Rattle.clauses.specs.Clauses.{bindsAt, BindsAreTheirs, wordBetween, conditionTextIn, signWhere, mostOfAByte, ClausePut}
 use Rattle.clauses.specs.declared.Put.{Put}
 
 -- ---- by the first byte
@@ -40,13 +40,13 @@ binds-and k e = rw e refl
 pub binds-most : (k : ℕ) → (k ≡ 3 → ⊥) → (k ≡ 2 → ⊥) → 2 ≡ bindsAt k
 binds-most k f g = rw (ne-eqb k 3 f, ne-eqb k 2 g) refl
 
-pub word-and : (k : ℕ) → k ≡ 2 → 32 ∷ 97 ∷ 110 ∷ 100 ∷ 32 ∷ [] ≡ wordAt k
+pub word-and : (k : ℕ) → k ≡ 2 → 32 ∷ 97 ∷ 110 ∷ 100 ∷ 32 ∷ [] ≡ wordBetween k
 word-and k e = rw e refl
 
-pub word-or : (k : ℕ) → (k ≡ 2 → ⊥) → 32 ∷ 111 ∷ 114 ∷ 32 ∷ [] ≡ wordAt k
+pub word-or : (k : ℕ) → (k ≡ 2 → ⊥) → 32 ∷ 111 ∷ 114 ∷ 32 ∷ [] ≡ wordBetween k
 word-or k f = rw (ne-eqb k 2 f) refl
 
-pub word-short : (k : ℕ) → length (wordAt k) ≤ 5
+pub word-short : (k : ℕ) → length (wordBetween k) ≤ 5
 word-short k = on (eqb k 2)
   where
     on : (b : Bool) → length {A = ℕ} (32 ∷ (cond b (97 ∷ 110 ∷ 100 ∷ []) (111 ∷ 114 ∷ []) ++ 32 ∷ [])) ≤ 5
@@ -86,7 +86,7 @@ operand-length (current a) = refl
 operand-length (recalled a) = refl
 
 -- the text of the bytes where an operand lies is the operand's
-operand-text : (s : List ℕ) (j : ℕ) (x : Operand) → LiesAt operandBytes s j x → operandTextAt (getD s j 0) (getD s (j + 1) 0) ≡ bytesOf (operandToken x)
+operand-text : (s : List ℕ) (j : ℕ) (x : Operand) → LiesAt operandBytes s j x → operandTextAt (getD s j 0) (getD s (j + 1) 0) ≡ tokenBytes (operandToken x)
 operand-text s j (constant v) st = rw (first-byte s j 0 (v ∷ []) st, byte-of s j (0 ∷ v ∷ []) st 1 (omega arith) .1) refl
 operand-text s j (current a) st = rw (first-byte s j 1 (a ∷ []) st, byte-of s j (1 ∷ a ∷ []) st 1 (omega arith) .1) refl
 operand-text s j (recalled a) st = rw (first-byte s j 2 (a ∷ []) st, byte-of s j (2 ∷ a ∷ []) st 1 (omega arith) .1) refl
@@ -141,8 +141,8 @@ module _ (s : List ℕ) (i : ℕ) (p : Pen) where
             let one = operand-text s (i + 1) x (first-part s (i + 1) (operandBytes x) (operandBytes y) two) in
             let at : i + 1 + length (operandBytes x) ≡ i + 3 = omega (arith, operand-length x) in
             let other = operand-text s (i + 3) y (subst (λ (n : ℕ). Starts (drop n s) (operandBytes y)) at (second-part s (i + 1) (operandBytes x) (operandBytes y) two)) in
-            let X′ = same-bytes _ _ _ _ (bytesOf (operandToken x)) _ _ one X in
-            let Y′ = same-bytes _ _ _ _ (bytesOf (operandToken y)) _ _ other Y in
+            let X′ = same-bytes _ _ _ _ (tokenBytes (operandToken x)) _ _ one X in
+            let Y′ = same-bytes _ _ _ _ (tokenBytes (operandToken y)) _ _ other Y in
             rw (w .2) (omega (arith, length-append (operandBytes x) (operandBytes y), operand-length x, operand-length y), put-then _ _ _ _ _ _ _ _ _ X′ (put-then _ _ _ _ _ _ _ _ _ M Y′))
 
   -- ---- parentheses around it
@@ -190,10 +190,10 @@ module _ (s : List ℕ) (i : ℕ) (p : Pen) where
             rw (w .1) (omega (arith, q .0), put-then _ _ _ _ _ _ _ _ _ N (same-bytes _ _ _ _ (inParentheses (conditionText c′)) _ _ same (q .1)))
 
     module _ (k : ℕ) (at-i : getD s i 0 ≡ k) (b : ℕ) (eb : b ≡ bindsAt k) (d₁ d₂ d₃ : List ℕ) (n₂ : ℕ) (r q : Put)
-        (R : ClausePut 0 (conditionTextIn b) s (i + 1) p r d₁) (W : PutAs (p .write) d₁ (r .at) (wordAt k) d₂ n₂)
+        (R : ClausePut 0 (conditionTextIn b) s (i + 1) p r d₁) (W : PutAs (p .write) d₁ (r .at) (wordBetween k) d₂ n₂)
         (Q : ClausePut 0 (conditionTextIn (b + 1)) s (r .next) (record { write = p .write; lent = d₂; at = n₂ }) q d₃) where
       two-parts : (c d : Condition) → Starts (drop i s) (k ∷ (conditionBytes c ++ conditionBytes d))
-          → (q .next ≡ i + length (k ∷ (conditionBytes c ++ conditionBytes d))) × PutAs (p .write) (p .lent) (p .at) (conditionTextIn b c ++ (wordAt k ++ conditionTextIn (b + 1) d)) d₃ (q .at)
+          → (q .next ≡ i + length (k ∷ (conditionBytes c ++ conditionBytes d))) × PutAs (p .write) (p .lent) (p .at) (conditionTextIn b c ++ (wordBetween k ++ conditionTextIn (b + 1) d)) d₃ (q .at)
       two-parts c d st =
           let two = second-part s i (k ∷ []) (conditionBytes c ++ conditionBytes d) st in
           let x = R .right c (first-part s (i + 1) (conditionBytes c) (conditionBytes d) two) in
@@ -203,8 +203,8 @@ module _ (s : List ℕ) (i : ℕ) (p : Pen) where
       pub two-of : (k ≡ 0 → ⊥) → (k ≡ 1 → ⊥) → ClausePut 2 conditionText s i p q d₃
       two-of f g = record { low = omega (arith, R .low, Q .low); high = Q .high; reach = omega (arith, R .reach, W .next, word-short k, Q .reach); dry = λ z. Q .dry z ∙ dry-put _ _ _ _ _ _ z W ∙ R .dry z; right = go }
         where
-          same : (j : ℕ) (c d : Condition) → k ≡ j → conditionTextIn b c ++ (wordAt k ++ conditionTextIn (b + 1) d) ≡ conditionTextIn (bindsAt j) c ++ (wordAt j ++ conditionTextIn (bindsAt j + 1) d)
-          same j c d e = ap (λ (n : ℕ). conditionTextIn n c ++ (wordAt k ++ conditionTextIn (n + 1) d)) eb ∙ ap (λ (n : ℕ). conditionTextIn (bindsAt n) c ++ (wordAt n ++ conditionTextIn (bindsAt n + 1) d)) e
+          same : (j : ℕ) (c d : Condition) → k ≡ j → conditionTextIn b c ++ (wordBetween k ++ conditionTextIn (b + 1) d) ≡ conditionTextIn (bindsAt j) c ++ (wordBetween j ++ conditionTextIn (bindsAt j + 1) d)
+          same j c d e = ap (λ (n : ℕ). conditionTextIn n c ++ (wordBetween k ++ conditionTextIn (n + 1) d)) eb ∙ ap (λ (n : ℕ). conditionTextIn (bindsAt n) c ++ (wordBetween n ++ conditionTextIn (bindsAt n + 1) d)) e
 
           again : (j : ℕ) (c d : Condition) → k ≡ j → Starts (drop i s) (j ∷ (conditionBytes c ++ conditionBytes d)) → Starts (drop i s) (k ∷ (conditionBytes c ++ conditionBytes d))
           again j c d e st = subst (λ (n : ℕ). Starts (drop i s) (n ∷ (conditionBytes c ++ conditionBytes d))) (sym e) st
@@ -219,4 +219,4 @@ module _ (s : List ℕ) (i : ℕ) (p : Pen) where
           go (either c d) st =
               let e : k ≡ 3 = sym at-i ∙ first-byte s i 3 (conditionBytes c ++ conditionBytes d) st in
               let z = two-parts c d (again 3 c d e st) in
-              (z .0, same-bytes _ _ _ _ (conditionText (either c d)) _ _ (same 3 c d e ∙ ap (λ (l : List ℕ). l ++ (wordAt 3 ++ conditionTextIn 1 d)) (never-in-parentheses c)) (z .1))
+              (z .0, same-bytes _ _ _ _ (conditionText (either c d)) _ _ (same 3 c d e ∙ ap (λ (l : List ℕ). l ++ (wordBetween 3 ++ conditionTextIn 1 d)) (never-in-parentheses c)) (z .1))

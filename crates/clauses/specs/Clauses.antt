@@ -24,8 +24,8 @@ abbrev pub BindsAreTheirs : Type 0
 BindsAreTheirs = (c : Condition) → bindsAt (getD (conditionBytes c) 0 0) ≡ conditionBinds c
 
 -- the word between two conditions, with a space on each side
-abbrev pub wordAt : ℕ → List ℕ
-wordAt k = 32 ∷ (cond (eqb k 2) (wordBytes AND) (wordBytes OR) ++ 32 ∷ [])
+abbrev pub wordBetween : ℕ → List ℕ
+wordBetween k = 32 ∷ (cond (eqb k 2) (wordBytes AND) (wordBytes OR) ++ 32 ∷ [])
 
 -- in a place that asks for so much binding
 abbrev pub conditionTextIn : ℕ → Condition → List ℕ

@@ -5,7 +5,7 @@ ghost use lib.ListN.{length, getD};
 ghost use Rattle.lent.specs.Put.{PutAs};
 ghost use Rattle.output.specs.Reach.{farthest};
 ghost use Rattle.printed.specs.Conditions.{conditionText};
-ghost use Rattle.clauses.specs.Clauses.{bindsAt, wordAt, conditionTextIn, signWhere, mostOfAByte, ClausePut};
+ghost use Rattle.clauses.specs.Clauses.{bindsAt, wordBetween, conditionTextIn, signWhere, mostOfAByte, ClausePut};
 
 // The byte after what was read, and where the next byte of text goes.
 pub struct Put {
@@ -41,7 +41,7 @@ pub fn put_where(wanted: bool, sign: u8, out: &mut [u8], at: usize, write: bool)
 // Writes the word between the parts of a condition with that first byte.
 fn put_word(k: u8, out: &mut [u8], at: usize, write: bool) -> usize
     requires { ⌜ at ≤ farthest + 1 ⌝ }
-    ensures { λ r. ⌜ PutAs write (now (out .entry)) at (wordAt k) (now (out .exit)) r ⌝ }
+    ensures { λ r. ⌜ PutAs write (now (out .entry)) at (wordBetween k) (now (out .exit)) r ⌝ }
 {
     if k == 2 {
         return lent::put_bytes(out, at, b" and ", write);

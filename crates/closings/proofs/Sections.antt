@@ -9,18 +9,18 @@ use Rattle.limits.specs.Limits.{mostTags, mostProductions, mostNodes, mostProgr
 use Rattle.notation.specs.Rules.{Rules}
 use Rattle.notation.specs.RuleText.{RuleText}
 use Rattle.encoding.specs.Distinct.{run-together}
-use Rattle.encoding.specs.Encoded.{tagsOf, stringsOf, programsOf}
+use Rattle.encoding.specs.Encoded.{tagsStored, stringsStored, programsStored}
 use Rattle.encoding.specs.Keeps.{AllNames}
 use Rattle.encoding.proofs.Sheets.{sheets-keep}
 use Rattle.packing.specs.Packed.{nodesSection, productionsSection}
 use Rattle.stores.specs.Rows.{endsFrom, RowsIn}
-use Rattle.binding.specs.Bound.{AllShort, TagRows, SectionsFit}
+use Rattle.binding.specs.Bound.{ShortNames, TagRows, SectionsFit}
 use Rattle.shelves.specs.declared.Shelved.{Shelved}
 use Rattle.shelves.proofs.Rows.{rows-fit}
 use Rattle.pasts.specs.declared.Past.{Past}
 use Rattle.sealing.specs.declared.Outcome.{Outcome}
 use Rattle.sealing.specs.Sealed.{SectionsOf, SealedIs}
-use Rattle.closings.specs.Closings.{UsedIs, Ready, SomeReady, BoundAs}
+use Rattle.closings.specs.Closings.{UsedIs, AllThere, SomeReady, BoundAs}
 
 -- the last end is where the rows end
 last-end : (at : ℕ) (x : List ℕ) (l : List (List ℕ)) (free : List ℕ) → getD (endsFrom at (x ∷ l) ++ free) (length l) 0 ≡ at + length (run-together (x ∷ l))
@@ -43,18 +43,18 @@ used-some ends count e = record { is = λ bytes l h. on bytes l h }
         let k : count - 1 ≡ length l = omega (arith, h .number) in
         ap₂ (λ (n : ℕ) (z : List ℕ). getD z n 0) k (h .ends-are) ∙ last-end 0 x l (h .free-ends) ∙ (let z : 0 + length (x ++ run-together l) ≡ length (x ++ run-together l) = omega arith in z)
 
-names-short : (l : List (List ℕ)) → AllNames l → AllShort l
+names-short : (l : List (List ℕ)) → AllNames l → ShortNames l
 names-short [] h = tt
 names-short (n ∷ l) h = (h .0 .short, names-short l (h .1))
 
 module _ (text : List ℕ) (r : Rules) (start : ℕ) (counts : Shelved) (past : Past) (tags tagends productions nodes strings stringends programs programends : List ℕ)
-    (w : Ready text r start counts past tags tagends productions nodes strings stringends programs programends) where
+    (w : AllThere text r start counts past tags tagends productions nodes strings stringends programs programends) where
   pub tag-rows : TagRows tags tagends (counts .tags)
   tag-rows = record {
     few = omega (arith, w .tags-held .number, w .room .few-tags);
-    rows = tagsOf r;
+    rows = tagsStored r;
     are = w .tags-held;
-    short = names-short (tagsOf r) (sheets-keep text r (w .is-text) .names);
+    short = names-short (tagsStored r) (sheets-keep text r (w .is-text) .names);
   }
 
   rows-of : (bytes ends : List ℕ) (n : ℕ) (l : List (List ℕ)) (k : ℕ) → RowsIn bytes ends n l → k ≡ length (run-together l) → take k bytes ≡ run-together l
@@ -74,14 +74,14 @@ module _ (text : List ℕ) (r : Rules) (start : ℕ) (counts : Shelved) (past : 
   nodes-inside = omega (arith, w .past-held .nodes-are, w .past-held .before-is, w .is-text .within .few-nodes, w .node-room)
 
   pub programs-inside : (c : ℕ) → UsedIs programends (counts .programs) c → c ≤ length programs
-  programs-inside c u = omega (arith, u .is programs (programsOf r) (w .programs-held), rows-fit programs programends (counts .programs) (programsOf r) (w .programs-held) .1)
+  programs-inside c u = omega (arith, u .is programs (programsStored r) (w .programs-held), rows-fit programs programends (counts .programs) (programsStored r) (w .programs-held) .1)
 
   pub strings-inside : (d : ℕ) → UsedIs stringends (counts .strings) d → d ≤ length strings
-  strings-inside d u = omega (arith, u .is strings (stringsOf r) (w .strings-held), rows-fit strings stringends (counts .strings) (stringsOf r) (w .strings-held) .1)
+  strings-inside d u = omega (arith, u .is strings (stringsStored r) (w .strings-held), rows-fit strings stringends (counts .strings) (stringsStored r) (w .strings-held) .1)
 
   pub counts-inside : (counts .programs ≤ length programends) × (counts .strings ≤ length stringends)
   counts-inside =
-      (omega (arith, w .programs-held .number, rows-fit programs programends (counts .programs) (programsOf r) (w .programs-held) .0), omega (arith, w .strings-held .number, rows-fit strings stringends (counts .strings) (stringsOf r) (w .strings-held) .0))
+      (omega (arith, w .programs-held .number, rows-fit programs programends (counts .programs) (programsStored r) (w .programs-held) .0), omega (arith, w .strings-held .number, rows-fit strings stringends (counts .strings) (stringsStored r) (w .strings-held) .0))
 
   pub sections-of : (c d : ℕ) → UsedIs programends (counts .programs) c → UsedIs stringends (counts .strings) d
       → SectionsOf r tags tagends (counts .tags) (take (12 * past .productions - 0) productions) (take (past .nodes - 0) nodes) (take (c - 0) programs) (take (d - 0) strings) start
@@ -94,8 +94,8 @@ module _ (text : List ℕ) (r : Rules) (start : ℕ) (counts : Shelved) (past : 
         tags-are = w .tags-held;
         productions-are = ap (λ (n : ℕ). take n productions) i ∙ past-productions;
         nodes-are = ap (λ (n : ℕ). take n nodes) j ∙ past-nodes;
-        programs-are = ap (λ (n : ℕ). take n programs) k ∙ rows-of programs programends (counts .programs) (programsOf r) c (w .programs-held) (u .is programs (programsOf r) (w .programs-held));
-        strings-are = ap (λ (n : ℕ). take n strings) l ∙ rows-of strings stringends (counts .strings) (stringsOf r) d (w .strings-held) (v .is strings (stringsOf r) (w .strings-held));
+        programs-are = ap (λ (n : ℕ). take n programs) k ∙ rows-of programs programends (counts .programs) (programsStored r) c (w .programs-held) (u .is programs (programsStored r) (w .programs-held));
+        strings-are = ap (λ (n : ℕ). take n strings) l ∙ rows-of strings stringends (counts .strings) (stringsStored r) d (w .strings-held) (v .is strings (stringsStored r) (w .strings-held));
         start-is = w .start-is;
       }
 
@@ -107,8 +107,8 @@ module _ (text : List ℕ) (r : Rules) (start : ℕ) (counts : Shelved) (past : 
   sections-fit c d u v = record {
     few-productions = omega (arith, part-long (12 * past .productions) productions productions-inside, w .past-held .productions-are, w .is-text .within .few-productions);
     few-nodes = omega (arith, part-long (past .nodes) nodes nodes-inside, w .past-held .nodes-are, w .past-held .before-is, w .is-text .within .few-nodes);
-    short-programs = omega (arith, part-long c programs (programs-inside c u), u .is programs (programsOf r) (w .programs-held), w .room .short-programs);
-    short-strings = omega (arith, part-long d strings (strings-inside d v), v .is strings (stringsOf r) (w .strings-held), w .room .short-strings);
+    short-programs = omega (arith, part-long c programs (programs-inside c u), u .is programs (programsStored r) (w .programs-held), w .room .short-programs);
+    short-strings = omega (arith, part-long d strings (strings-inside d v), v .is strings (stringsStored r) (w .strings-held), w .room .short-strings);
     start-fits = w .start-small;
   }
 

@@ -45,8 +45,8 @@ use Rattle.fit.specs.Fit.{ClosingFits}
 use Rattle.fit.specs.RunFits.{RunFits}
 use Rattle.fit.proofs.RunsFit.{run-fit}
 use Rattle.steps.proofs.Onward.{event-fits, taken-fits}
-use Rattle.steps.specs.Taken.{EventIn, Taken, Takes, TakenAs}
-use Rattle.steps.specs.Seen.{Whole as Stepped}
+use Rattle.steps.specs.Taken.{EventIn, Taken, TakingIs, TakenAs}
+use Rattle.steps.specs.Seen.{SteppedSeen}
 use Rattle.steps.specs.declared.Run.{Run}
 use Rattle.steady.specs.Steady.{counting}
 use Rattle.stretches.specs.declared.Stretch.{Stretch}
@@ -123,12 +123,12 @@ module _ {s : List ℕ} {z₀ : State} {part : List ℕ} {more : Bool} {lent d :
     here = oneToken sheet (meaningOf z) left (tokenOf sheet part e)
 
     -- the token's answer, with the room that there is
-    takes-here : (r : Stepped) (d′ : List ℕ) → TakenAs s part e z d put r d′ → Takes here z d put r d′
+    takes-here : (r : SteppedSeen) (d′ : List ℕ) → TakenAs s part e z d put r d′ → TakingIs here z d put r d′
     takes-here r d′ t =
-        subst (λ (n : ℕ). Takes (oneToken sheet (meaningOf z) n (tokenOf sheet part e)) z d put r d′) (ap (λ (n : ℕ). n - put) (g .long))
+        subst (λ (n : ℕ). TakingIs (oneToken sheet (meaningOf z) n (tokenOf sheet part e)) z d put r d′) (ap (λ (n : ℕ). n - put) (g .long))
         (t .right sheet (g .given .is-sheet) (g .shaped) (g .fits))
 
-    taken-on : (r : Stepped) (d′ : List ℕ) → TakenAs s part e z d put r d′ → (y : Standing) (w : List ℕ) → here ≡ taken y w → Taken y w z d put r d′ →
+    taken-on : (r : SteppedSeen) (d′ : List ℕ) → TakenAs s part e z d put r d′ → (y : Standing) (w : List ℕ) → here ≡ taken y w → Taken y w z d put r d′ →
         Going s z₀ part more lent d′ next (r .at) (r .state)
     taken-on r d′ T y w q k =
         let o = takes-one sheet (meaningOf z) left (tokenOf sheet part e) y w q in
@@ -159,20 +159,20 @@ module _ {s : List ℕ} {z₀ : State} {part : List ℕ} {more : Bool} {lent d :
               (subst (λ (i : ℕ). Runs sheet part more next i (meaningOf (r .state)) x) (omega (arith, n)) c))));
         }
 
-    pub goes-on : (r : Stepped) (d′ : List ℕ) → TakenAs s part e z d put r d′ → r .number ≡ 0 → Going s z₀ part more lent d′ next (r .at) (r .state)
+    pub goes-on : (r : SteppedSeen) (d′ : List ℕ) → TakenAs s part e z d put r d′ → r .number ≡ 0 → Going s z₀ part more lent d′ next (r .at) (r .state)
     goes-on r d′ T o = by here refl (takes-here r d′ T)
       where
-        by : (t : Taking) → here ≡ t → Takes t z d put r d′ → Going s z₀ part more lent d′ next (r .at) (r .state)
+        by : (t : Taking) → here ≡ t → TakingIs t z d put r d′ → Going s z₀ part more lent d′ next (r .at) (r .state)
         by (taken y w) q k = taken-on r d′ T y w q k
         by (refuses n) q k = absurd (omega (arith, o, k .number, refuses-over sheet (meaningOf z) left (tokenOf sheet part e) n q))
         by no-room q k = absurd (omega (arith, o, k .number))
 
     -- a number other than 0: the run stops before the token
-    halts : (r : Stepped) (d′ : List ℕ) → TakenAs s part e z d put r d′ → (r .number ≡ 0 → ⊥) →
+    halts : (r : SteppedSeen) (d′ : List ℕ) → TakenAs s part e z d put r d′ → (r .number ≡ 0 → ⊥) →
         Runs sheet part more at left (meaningOf z) (stopped-at (r .number) at (meaningOf z)) × (d ≡ d′)
     halts r d′ T w = by here refl (takes-here r d′ T)
       where
-        by : (t : Taking) → here ≡ t → Takes t z d put r d′ → Runs sheet part more at left (meaningOf z) (stopped-at (r .number) at (meaningOf z)) × (d ≡ d′)
+        by : (t : Taking) → here ≡ t → TakingIs t z d put r d′ → Runs sheet part more at left (meaningOf z) (stopped-at (r .number) at (meaningOf z)) × (d ≡ d′)
         by (taken y u) q k = absurd (w (k .number))
         by (refuses n) q k = (subst (λ (i : ℕ). Runs sheet part more at left (meaningOf z) (stopped-at i at (meaningOf z))) (sym (k .number)) (run-halts (stops e next n means q)), sym (k .left))
         by no-room q k = (subst (λ (i : ℕ). Runs sheet part more at left (meaningOf z) (stopped-at i at (meaningOf z))) (sym (k .number)) (run-halts (no-space e next means q)), sym (k .left))
@@ -308,7 +308,7 @@ few d = by (run-number d)
 -- a token that is not taken
 module _ {s : List ℕ} {z₀ : State} {part : List ℕ} (ended-now : Bool) {lent d : List ℕ} {at put : ℕ} {z : State} (g : Going s z₀ part (not ended-now) lent d at put z)
     (e : Event) (next : ℕ) (means : ReadAs (not ended-now) part at (Token e (record { at = next })))
-    (r : Stepped) (d′ : List ℕ) (taking : TakenAs s part e z d put r d′) (w : r .number ≡ 0 → ⊥) where
+    (r : SteppedSeen) (d′ : List ℕ) (taking : TakenAs s part e z d put r d′) (w : r .number ≡ 0 → ⊥) where
   pub refused-few : r .number ≤ 30
   refused-few = few (halts g e next means r d′ taking w .0)
 

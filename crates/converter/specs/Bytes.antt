@@ -28,7 +28,7 @@ pub record Untouched (b b′ lent after : List ℕ) (r : Counts) : Type 0 where
   pub left : after ≡ lent
 
 -- the same numbers as a call whose state is a value
-pub record CountsOf (q : Reply) (r : Counts) : Type 0 where
+pub record SameNumbers (q : Reply) (r : Counts) : Type 0 where
   pub number : r .number ≡ q .number
   pub taken : r .taken ≡ q .taken
   pub written : r .written ≡ q .written
@@ -37,14 +37,14 @@ pub record CountsOf (q : Reply) (r : Counts) : Type 0 where
 -- b are the bytes before the call, b′ those after it: those of the state handed back, as which they read back
 pub data BytesAnsweredAs (s b b′ part : List ℕ) (ended : Bool) (lent after : List ℕ) (r : Counts) : Type 0 where
   as-given : GivenBack s (stateIn b) (r .number) → Untouched b b′ lent after r → BytesAnsweredAs s b b′ part ended lent after r
-  runs : stateIn b ≡ some (stateFrom b) → (q : Reply) → Ran s (stateFrom b) part ended lent after q → CountsOf q r → b′ ≡ bytesOf (q .state) → stateFrom b′ ≡ q .state →
+  runs : stateIn b ≡ some (stateFrom b) → (q : Reply) → Ran s (stateFrom b) part ended lent after q → SameNumbers q r → b′ ≡ bytesOf (q .state) → stateFrom b′ ≡ q .state →
       BytesAnsweredAs s b b′ part ended lent after r
 
 -- the same call with the state that the bytes are as a value: what is said of that is said of this one
 pub record AsValue (s b b′ part : List ℕ) (ended : Bool) (lent after : List ℕ) (r : Counts) : Type 0 where
   pub reply : Reply
   pub answered : AnsweredAs s (stateFrom b) part ended lent after reply
-  pub counts : CountsOf reply r
+  pub counts : SameNumbers reply r
   pub reads-back : stateFrom b′ ≡ reply .state
 
 -- what two answers of a call whose state is bytes have in common, to the byte

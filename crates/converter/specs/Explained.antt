@@ -9,7 +9,7 @@ use lib.ListN.{length, take, drop}
 use Rattle.sheet.specs.Sheet.{Sheet}
 use Rattle.calls.specs.Call.{Result}
 use Rattle.calls.specs.Explained.{Explained, Answers}
-use Rattle.calls.specs.Parts.{Feeds, Each, SameAnswer}
+use Rattle.calls.specs.Parts.{Feeds, EachCall, SameAnswer}
 use Rattle.calls.specs.SameCharacters.{SameCharacters}
 use Rattle.state.specs.Bytes.{bytesOf}
 use Rattle.state.specs.Changes.{freshState}
@@ -50,7 +50,7 @@ abbrev pub FedExactly : {H : Type 0} (Call : List ℕ → Bool → ℕ → H →
     (P : (part : List ℕ) (b : Bool) (room : ℕ) (h h′ : H) (r : Result) (v : ℕ) → Call part b room h h′ r v → Type 0) → H → Sheet → Type 0
 FedExactly Call P h a =
     (whole : List ℕ) (more : Bool) (room : ℕ) (x : Result) (told : ℕ) (d : Feeds Call more whole room h x told) →
-    Each P d × FedAs a whole more room x told
+    EachCall P d × FedAs a whole more room x told
 
 -- and what they write, one after the other, reads back as the tags and characters that the tree puts out; the number is that of one call on the whole
 abbrev pub FedReadBack : {H : Type 0} (Call : List ℕ → Bool → ℕ → H → H → Result → ℕ → Type 0) → H → Sheet → Type 0

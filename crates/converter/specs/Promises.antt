@@ -13,7 +13,7 @@ use Rattle.output.specs.Escape.{render}
 use Rattle.runs.specs.Visits.{Env}
 use Rattle.calls.specs.Call.{Result, again}
 use Rattle.calls.specs.Accepted.{Accepted}
-use Rattle.calls.specs.Parts.{Feeds, Each, SameAnswer, FedAccepted}
+use Rattle.calls.specs.Parts.{Feeds, EachCall, SameAnswer, FedAccepted}
 use Rattle.state.specs.Changes.{freshState}
 use Rattle.state.specs.Bytes.{bytesOf}
 use Rattle.state.specs.declared.State.{State}
@@ -62,7 +62,7 @@ FedAccepts s a = (whole : List ℕ) (room : ℕ) (x : Result) (v : ℕ) → Feed
 abbrev pub FedConverts : List ℕ → Sheet → Type 0
 FedConverts s a =
     (whole : List ℕ) (room : ℕ) (x : Result) (v : ℕ) (d : Feeds (ValueCall s) false whole room freshState x v) → (e : Env) → Accepted a whole e →
-    length (render (e .out)) ≤ room → FedAccepted whole e x v × Each (ValueAsLent s) d
+    length (render (e .out)) ≤ room → FedAccepted whole e x v × EachCall (ValueAsLent s) d
 
 abbrev pub BytesFedAccepts : List ℕ → Sheet → Type 0
 BytesFedAccepts s a =
@@ -71,7 +71,7 @@ BytesFedAccepts s a =
 abbrev pub BytesFedConverts : List ℕ → Sheet → Type 0
 BytesFedConverts s a =
     (whole : List ℕ) (room : ℕ) (x : Result) (v : ℕ) (d : Feeds (BytesCall s) false whole room (bytesOf freshState) x v) → (e : Env) → Accepted a whole e →
-    length (render (e .out)) ≤ room → FedAccepted whole e x v × Each (BytesAsLent s) d
+    length (render (e .out)) ≤ room → FedAccepted whole e x v × EachCall (BytesAsLent s) d
 
 -- from any state that fits, a stream in parts gives what one call gives, but for a reference by number that a part has cut off
 abbrev pub PartsAsOne : List ℕ → Sheet → Type 0

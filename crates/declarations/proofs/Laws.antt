@@ -16,7 +16,7 @@ use Rattle.models.specs.Spelling.{MarkIs, unmarked, question, asterisk, plus}
 use Rattle.models.specs.Reader.{LeftOf, fresh, commas, bars, behindLeft}
 use Rattle.models.proofs.Counted.{counted}
 use Rattle.declarations.specs.declared.NodeRow.{NodeRow}
-use Rattle.declarations.specs.Nodes.{preorder, roomForNodes, mostBytes, Lays, Shows, LeafIs, JoinedNodes, Deeper, Operator, catenation, union, operatorKind, operated, OverTwoIs, StarShown, MarkedAs, LeftShown, BehindAs, OrNameIs}
+use Rattle.declarations.specs.Nodes.{preorder, roomForNodes, mostNodeBytes, LaysNodes, Shows, LeafNodesAre, JoinedNodes, Deeper, Operator, catenation, union, operatorKind, operated, OverTwoIs, StarShown, MarkedAs, LeftShown, BehindAs, OrNameIs}
 
 -- two bytes a node
 pub two-bytes : (e : Exp) → length (preorder e) ≡ 2 * nodes e
@@ -36,13 +36,13 @@ no-deeper (star e) = let h = no-deeper e in (omega arith, omega (arith, h .1))
 no-deeper empty = (omega arith, omega arith)
 
 module _ (a b : NodeRow) where
-  pub joined-long : mostBytes < b .length → JoinedNodes a b a
+  pub joined-long : mostNodeBytes < b .length → JoinedNodes a b a
   joined-long h = record { is = λ room l m x y. absurd (omega arith); deep-is = λ room. absurd (omega arith) }
 
-  pub joined-over : mostBytes - b .length < a .length → JoinedNodes a b a
+  pub joined-over : mostNodeBytes - b .length < a .length → JoinedNodes a b a
   joined-over h = record { is = λ room l m x y. absurd (omega arith); deep-is = λ room. absurd (omega arith) }
 
-  pub joined-put : mostBytes ≤ length (a .bytes) → mostBytes ≤ length (b .bytes) → b .length ≤ mostBytes → (r : NodeRow) → PutAs true (a .bytes) (a .length) (take (b .length) (b .bytes)) (r .bytes) (r .length)
+  pub joined-put : mostNodeBytes ≤ length (a .bytes) → mostNodeBytes ≤ length (b .bytes) → b .length ≤ mostNodeBytes → (r : NodeRow) → PutAs true (a .bytes) (a .length) (take (b .length) (b .bytes)) (r .bytes) (r .length)
       → r .deep ≡ max (a .deep) (b .deep) → JoinedNodes a b r
   joined-put full full′ short r put d = record {
     is = λ room l m x y.
@@ -62,66 +62,66 @@ module _ (a b : NodeRow) where
   }
 
 -- a node in front of others, one deeper
-module _ (kind : ℕ) (a front all : NodeRow) (leaf : LeafIs kind 0 front) (h : JoinedNodes front a all) where
-  pub fronted : (l : List ℕ) → Lays l a → length l + 2 ≤ mostBytes → Lays (kind ∷ 0 ∷ l) all
+module _ (kind : ℕ) (a front all : NodeRow) (leaf : LeafNodesAre kind 0 front) (h : JoinedNodes front a all) where
+  pub fronted : (l : List ℕ) → LaysNodes l a → length l + 2 ≤ mostNodeBytes → LaysNodes (kind ∷ 0 ∷ l) all
   fronted l x room = h .is (omega (arith, leaf .laid .length-is, x .length-is)) (kind ∷ 0 ∷ []) l (leaf .laid) x
 
-  pub fronted-deep : (l : List ℕ) → Lays l a → length l + 2 ≤ mostBytes → 1 ≤ a .deep → all .deep ≡ a .deep
+  pub fronted-deep : (l : List ℕ) → LaysNodes l a → length l + 2 ≤ mostNodeBytes → 1 ≤ a .deep → all .deep ≡ a .deep
   fronted-deep l x room d = let e = h .deep-is (omega (arith, leaf .laid .length-is, x .length-is)) in omega (arith, e, leaf .deep-is)
 
-lays-deeper : (l : List ℕ) (r s : NodeRow) → Lays l r → s .length ≡ r .length → s .bytes ≡ r .bytes → Lays l s
+lays-deeper : (l : List ℕ) (r s : NodeRow) → LaysNodes l r → s .length ≡ r .length → s .bytes ≡ r .bytes → LaysNodes l s
 lays-deeper l r s x e f = record { length-is = e ∙ x .length-is; bytes-are = subst (λ n. take n (s .bytes) ≡ l) (sym e) (ap (take (r .length)) f ∙ x .bytes-are) }
 
 operated-preorder : (o : Operator) (e f : Exp) → preorder (operated o e f) ≡ operatorKind o ∷ 0 ∷ (preorder e ++ preorder f)
 operated-preorder catenation e f = refl
 operated-preorder union e f = refl
 
-operated-laid : (o : Operator) (kind : ℕ) (e f : Exp) (r : NodeRow) → kind ≡ operatorKind o → Lays (kind ∷ 0 ∷ (preorder e ++ preorder f)) r → Lays (preorder (operated o e f)) r
-operated-laid o kind e f r h x = subst (λ z. Lays z r) (ap (λ n. n ∷ 0 ∷ (preorder e ++ preorder f)) h ∙ sym (operated-preorder o e f)) x
+operated-laid : (o : Operator) (kind : ℕ) (e f : Exp) (r : NodeRow) → kind ≡ operatorKind o → LaysNodes (kind ∷ 0 ∷ (preorder e ++ preorder f)) r → LaysNodes (preorder (operated o e f)) r
+operated-laid o kind e f r h x = subst (λ z. LaysNodes z r) (ap (λ n. n ∷ 0 ∷ (preorder e ++ preorder f)) h ∙ sym (operated-preorder o e f)) x
 
 operated-depth : (o : Operator) (e f : Exp) → depth (operated o e f) ≡ suc (max (depth e) (depth f))
 operated-depth catenation e f = refl
 operated-depth union e f = refl
 
-pub over-two : (kind : ℕ) (a b below front all r : NodeRow) → JoinedNodes a b below → LeafIs kind 0 front → JoinedNodes front below all → Deeper all r → OverTwoIs kind a b r
+pub over-two : (kind : ℕ) (a b below front all r : NodeRow) → JoinedNodes a b below → LeafNodesAre kind 0 front → JoinedNodes front below all → Deeper all r → OverTwoIs kind a b r
 over-two kind a b below front all r j leaf k d = record {
   is = λ o e′ e f x y few.
       let len = length-append (preorder e) (preorder f) in
-      let room : a .length + b .length + 2 ≤ mostBytes = omega (arith, x .laid .length-is, y .laid .length-is, two-bytes e, two-bytes f, few) in
+      let room : a .length + b .length + 2 ≤ mostNodeBytes = omega (arith, x .laid .length-is, y .laid .length-is, two-bytes e, two-bytes f, few) in
       let l = j .is (omega arith) (preorder e) (preorder f) (x .laid) (y .laid) in
-      let fits : length (preorder e ++ preorder f) + 2 ≤ mostBytes = omega (arith, len, x .laid .length-is, y .laid .length-is, room) in
+      let fits : length (preorder e ++ preorder f) + 2 ≤ mostNodeBytes = omega (arith, len, x .laid .length-is, y .laid .length-is, room) in
       let q = fronted kind below front all leaf k (preorder e ++ preorder f) l fits in
       let below-deep : below .deep ≡ max (a .deep) (b .deep) = j .deep-is (omega arith) in
       let de = no-deeper e in
       let df = no-deeper f in
       let all-deep : all .deep ≡ below .deep = fronted-deep kind below front all leaf k (preorder e ++ preorder f) l fits (omega (arith, below-deep, x .deep-is, y .deep-is, de .0)) in
-      let low : all .deep < mostBytes = omega (arith, all-deep, below-deep, x .deep-is, y .deep-is, de .1, df .1, few) in
+      let low : all .deep < mostNodeBytes = omega (arith, all-deep, below-deep, x .deep-is, y .deep-is, de .1, df .1, few) in
       record {
         laid = operated-laid o kind e f r e′ (lays-deeper (kind ∷ 0 ∷ (preorder e ++ preorder f)) all r q (d .same-length) (d .same-bytes));
         deep-is = let z = d .deep low in let w = operated-depth o e f in omega (arith, z, w, all-deep, below-deep, x .deep-is, y .deep-is);
       };
 }
 
-pub starred-is : (a front all r : NodeRow) → LeafIs 5 0 front → JoinedNodes front a all → Deeper all r → StarShown a r
+pub starred-is : (a front all r : NodeRow) → LeafNodesAre 5 0 front → JoinedNodes front a all → Deeper all r → StarShown a r
 starred-is a front all r leaf k d = record {
   is = λ e x few.
-      let fits : length (preorder e) + 2 ≤ mostBytes = omega (arith, two-bytes e, few) in
+      let fits : length (preorder e) + 2 ≤ mostNodeBytes = omega (arith, two-bytes e, few) in
       let q = fronted 5 a front all leaf k (preorder e) (x .laid) fits in
       let de = no-deeper e in
       let all-deep : all .deep ≡ a .deep = fronted-deep 5 a front all leaf k (preorder e) (x .laid) fits (omega (arith, x .deep-is, de .0)) in
-      let low : all .deep < mostBytes = omega (arith, all-deep, x .deep-is, de .1, few) in
+      let low : all .deep < mostNodeBytes = omega (arith, all-deep, x .deep-is, de .1, few) in
       record { laid = lays-deeper (5 ∷ 0 ∷ preorder e) all r q (d .same-length) (d .same-bytes); deep-is = let z = d .deep low in omega (arith, z, all-deep, x .deep-is) };
 }
 
 -- the marks
 module _ (mark : ℕ) (a : NodeRow) where
-  empty-shown : (r : NodeRow) → LeafIs 6 0 r → Shows empty r
+  empty-shown : (r : NodeRow) → LeafNodesAre 6 0 r → Shows empty r
   empty-shown r h = record { laid = h .laid; deep-is = h .deep-is }
 
   other-mark : {B : Type 0} {c : ℕ} → mark ≡ c → (mark ≡ c → ⊥) → B
   other-mark e n = absurd (n e)
 
-  pub question-marked : (leaf r : NodeRow) → mark ≡ 63 → LeafIs 6 0 leaf → OverTwoIs 4 a leaf r → MarkedAs mark a r
+  pub question-marked : (leaf r : NodeRow) → mark ≡ 63 → LeafNodesAre 6 0 leaf → OverTwoIs 4 a leaf r → MarkedAs mark a r
   question-marked leaf r e h o = record { is = λ number x y m s few. go number x y m refl s few }
     where
       go : (number : List ℕ → ℕ) (x y : Model) {k : List ℕ} → MarkIs x k y → k ≡ mark ∷ [] → Shows (modelExpression number x) a → modelNodes y ≤ roomForNodes → Shows (modelExpression number y) r

@@ -28,33 +28,33 @@ contentPreorder (tree e) = preorder e
 abbrev pub roomForNodes : ℕ
 roomForNodes = 2 * nodesAtMost + 2
 
-abbrev pub mostBytes : ℕ
-mostBytes = 2 * roomForNodes
+abbrev pub mostNodeBytes : ℕ
+mostNodeBytes = 2 * roomForNodes
 
 -- r holds these bytes
-pub record Lays (l : List ℕ) (r : NodeRow) : Type 0 where
+pub record LaysNodes (l : List ℕ) (r : NodeRow) : Type 0 where
   pub length-is : r .length ≡ length l
   pub bytes-are : take (r .length) (r .bytes) ≡ l
 
 -- r holds the nodes of an expression, and its depth
 pub record Shows (e : Exp) (r : NodeRow) : Type 0 where
-  pub laid : Lays (preorder e) r
+  pub laid : LaysNodes (preorder e) r
   pub deep-is : r .deep ≡ depth e
 
-pub record LeafIs (kind argument : ℕ) (r : NodeRow) : Type 0 where
-  pub laid : Lays (kind ∷ argument ∷ []) r
+pub record LeafNodesAre (kind argument : ℕ) (r : NodeRow) : Type 0 where
+  pub laid : LaysNodes (kind ∷ argument ∷ []) r
   pub deep-is : r .deep ≡ 1
 
 -- where there is room
 pub record JoinedNodes (a b r : NodeRow) : Type 0 where
-  pub is : a .length + b .length ≤ mostBytes → (l m : List ℕ) → Lays l a → Lays m b → Lays (l ++ m) r
-  pub deep-is : a .length + b .length ≤ mostBytes → r .deep ≡ max (a .deep) (b .deep)
+  pub is : a .length + b .length ≤ mostNodeBytes → (l m : List ℕ) → LaysNodes l a → LaysNodes m b → LaysNodes (l ++ m) r
+  pub deep-is : a .length + b .length ≤ mostNodeBytes → r .deep ≡ max (a .deep) (b .deep)
 
 -- the same bytes, with a depth one more where that is below the most
 pub record Deeper (a r : NodeRow) : Type 0 where
   pub same-length : r .length ≡ a .length
   pub same-bytes : r .bytes ≡ a .bytes
-  pub deep : a .deep < mostBytes → r .deep ≡ a .deep + 1
+  pub deep : a .deep < mostNodeBytes → r .deep ≡ a .deep + 1
 
 -- the two operators
 pub data Operator : Type 0 where

@@ -1,7 +1,7 @@
 // A content model's nodes in preorder, by value: kind and argument of each, and how deep they go.
 ghost use mathlib.Core.Path.{_≡_};
 ghost use Rattle.expressions.specs.Expr.{nonterminal, anychar, atom};
-ghost use Rattle.declarations.specs.Nodes.{Shows, OrNameIs, LeafIs, JoinedNodes, Deeper, OverTwoIs, StarShown, MarkedAs, BehindAs};
+ghost use Rattle.declarations.specs.Nodes.{Shows, OrNameIs, LeafNodesAre, JoinedNodes, Deeper, OverTwoIs, StarShown, MarkedAs, BehindAs};
 
 // The bytes of the most nodes that one byte of a text makes of a model within its limits.
 pub const MOST: usize = 132;
@@ -15,7 +15,7 @@ pub struct NodeRow {
 
 // A lone node.
 pub fn leaf(kind: u8, argument: u8) -> NodeRow
-    ensures { λ r. ⌜ LeafIs kind argument r ⌝ }
+    ensures { λ r. ⌜ LeafNodesAre kind argument r ⌝ }
 {
     let mut bytes = [0; 132];
     bytes[0] = kind;

@@ -9,14 +9,14 @@ use lib.ListN.{length, drop, length-append}
 use lib.Seq.{take-append-seam, drop-append-seam}
 use Rattle.notation.specs.Rules.{Rules}
 use Rattle.encoding.specs.Distinct.{distinct, run-together}
-use Rattle.encoding.specs.Encoded.{tagsOf, stringsOf, programsOf}
+use Rattle.encoding.specs.Encoded.{tagsStored, stringsStored, programsStored}
 use Rattle.encoding.specs.Keeps.{AllNames}
 use Rattle.stores.specs.Rows.{RowsIn}
 use Rattle.packing.specs.Packed.{tagsSection, sheetBytes, trailerOf}
 use Rattle.packing.specs.Packs.{Packs}
 use Rattle.writing.specs.Written.{WrittenAs}
 use Rattle.writing.proofs.OneAnswer.{one-writing}
-use Rattle.binding.specs.Bound.{AllShort}
+use Rattle.binding.specs.Bound.{ShortNames}
 use Rattle.sealing.specs.Sealed.{SectionsOf}
 use Rattle.sealing.proofs.Laws.{tags-length}
 use Rattle.printed.specs.Text.{textOf}
@@ -162,7 +162,7 @@ models-are-written text area n x (written ds (declared f h) l) =
     }
 
 -- names are short
-all-short : (l : List (List ℕ)) → AllNames l → AllShort l
+all-short : (l : List (List ℕ)) → AllNames l → ShortNames l
 all-short [] h = tt
 all-short (n ∷ l) h = (h .0 .short, all-short l (h .1))
 
@@ -207,13 +207,13 @@ unfolding sheetBytes declaredProductions declaredNodes
 largest-declared text ds f h =
     let r : Rules = rulesOfDtd ds in
     let s = sections-long ds in
-    let names : AllShort (tagsOf r) = subst AllShort (sym (tags-declared ds)) (all-short (distinct (declaredNames ds)) (declared-sheets-keep text ds f h .names)) in
-    let programs : length (run-together (programsOf r)) ≡ 0 = ap (λ (l : List (List ℕ)). length (run-together l)) (programs-none ds) in
-    let strings : length (run-together (stringsOf r)) ≡ 0 = ap (λ (l : List (List ℕ)). length (run-together l)) (strings-none ds) in
+    let names : ShortNames (tagsStored r) = subst ShortNames (sym (tags-declared ds)) (all-short (distinct (declaredNames ds)) (declared-sheets-keep text ds f h .names)) in
+    let programs : length (run-together (programsStored r)) ≡ 0 = ap (λ (l : List (List ℕ)). length (run-together l)) (programs-none ds) in
+    let strings : length (run-together (stringsStored r)) ≡ 0 = ap (λ (l : List (List ℕ)). length (run-together l)) (strings-none ds) in
     omega (
       arith,
-      six-lengths (tagsSection (tagsOf r)) (declaredProductions ds) (declaredNodes ds) (run-together (programsOf r)) (run-together (stringsOf r)) (trailerOf r),
-      tags-length (tagsOf r) names,
+      six-lengths (tagsSection (tagsStored r)) (declaredProductions ds) (declaredNodes ds) (run-together (programsStored r)) (run-together (stringsStored r)) (trailerOf r),
+      tags-length (tagsStored r) names,
       ap length (tags-declared ds),
       few-tags ds h,
       s .productions-long,

@@ -5,8 +5,8 @@ use mathlib.Core.Option.{none}
 use Prim.Native.Nat.{ℕ, zero, suc, _+_}
 use lib.ListN.{replicate, replicate-append-replicate}
 use Rattle.expressions.specs.Expr.{nonterminal, anychar, Exp, atom, cat, alt, star, empty, nodes, Content, nothing, tree, nodesOf}
-use Rattle.sheet.specs.Fields.{Visits as SheetVisits}
-use Rattle.notation.specs.Rules.{Visits, expression, visits, contentOf, visitsIn, Rules}
+use Rattle.sheet.specs.Fields.{Visits}
+use Rattle.notation.specs.Rules.{TextVisits, expression, visits, contentInside, visitsInside, Rules}
 use Rattle.notation.specs.Limits.{AllWithin}
 use Rattle.encoding.specs.Mentions.{Mention, inTree, inContent}
 use Rattle.encoding.specs.Encoded.{each}
@@ -16,7 +16,7 @@ use Rattle.declarations.specs.Nodes.{preorder, contentPreorder}
 use Rattle.declaring.specs.Rules.{plainTree, plainContent}
 use Rattle.declaring.specs.Sections.{nodeRecords}
 
-abbrev noVisits : Visits
+abbrev noVisits : TextVisits
 noVisits = record { first-visit = none; second-visit = none }
 
 -- the expression is there again
@@ -27,28 +27,28 @@ expression-plain (alt e f) = ap₂ Exp.alt (expression-plain e) (expression-plai
 expression-plain (star e) = ap Exp.star (expression-plain e)
 expression-plain empty = refl
 
-pub content-plain : (c : Content) → contentOf (plainContent c) ≡ c
+pub content-plain : (c : Content) → contentInside (plainContent c) ≡ c
 content-plain nothing = refl
 content-plain (tree e) = ap tree (expression-plain e)
 
 -- no visit of a node has a program
-two-rows : (m n : ℕ) (a b : List Visits) → a ≡ replicate m noVisits → b ≡ replicate n noVisits → noVisits ∷ (a ++ b) ≡ replicate (suc (m + n)) noVisits
-two-rows m n a b h k = ap (λ (l : List Visits). noVisits ∷ l) (ap₂ (λ (x y : List Visits). x ++ y) h k ∙ replicate-append-replicate m n noVisits)
+two-rows : (m n : ℕ) (a b : List TextVisits) → a ≡ replicate m noVisits → b ≡ replicate n noVisits → noVisits ∷ (a ++ b) ≡ replicate (suc (m + n)) noVisits
+two-rows m n a b h k = ap (λ (l : List TextVisits). noVisits ∷ l) (ap₂ (λ (x y : List TextVisits). x ++ y) h k ∙ replicate-append-replicate m n noVisits)
 
 visits-plain : (e : Exp) → visits (plainTree e) ≡ replicate (nodes e) noVisits
 visits-plain (atom k) = refl
 visits-plain (cat e f) = two-rows (nodes e) (nodes f) (visits (plainTree e)) (visits (plainTree f)) (visits-plain e) (visits-plain f)
 visits-plain (alt e f) = two-rows (nodes e) (nodes f) (visits (plainTree e)) (visits (plainTree f)) (visits-plain e) (visits-plain f)
-visits-plain (star e) = ap (λ (l : List Visits). noVisits ∷ l) (visits-plain e)
+visits-plain (star e) = ap (λ (l : List TextVisits). noVisits ∷ l) (visits-plain e)
 visits-plain empty = refl
 
-pub visits-none : (c : Content) → visitsIn (plainContent c) ≡ replicate (nodesOf c) noVisits
+pub visits-none : (c : Content) → visitsInside (plainContent c) ≡ replicate (nodesOf c) noVisits
 visits-none nothing = refl
 visits-none (tree e) = visits-plain e
 
 pub each-none : (r : Rules) (n : ℕ) → each r (replicate n noVisits) ≡ replicate n noPrograms
 each-none r zero = refl
-each-none r (suc n) = ap (λ (l : List SheetVisits). noPrograms ∷ l) (each-none r n)
+each-none r (suc n) = ap (λ (l : List Visits). noPrograms ∷ l) (each-none r n)
 
 pub none-within : (n : ℕ) → AllWithin (replicate n noVisits)
 none-within zero = tt

@@ -4,14 +4,14 @@ use mathlib.Core.List.{List, [], _∷_, _++_}
 use Prim.Native.Nat.{ℕ, suc, _+_}
 use lib.ListN.{length, replicate}
 use Rattle.expressions.specs.Expr.{Content, nodesOf}
-use Rattle.sheet.specs.Fields.{Visits as SheetVisits}
-use Rattle.sheet.specs.Sheet.{Rule as SheetRule, Sheet}
-use Rattle.notation.specs.Program.{Program}
-use Rattle.notation.specs.Rules.{contentOf, visitsIn, Rules}
+use Rattle.sheet.specs.Fields.{Visits}
+use Rattle.sheet.specs.Sheet.{Rule, Sheet}
+use Rattle.notation.specs.Program.{TextProgram}
+use Rattle.notation.specs.Rules.{contentInside, visitsInside, Rules}
 use Rattle.notation.specs.Limits.{nodesInAll}
-use Rattle.encoding.specs.Mentions.{Mention, a-tag, inRules, tagsIn, stringsIn, programsIn}
+use Rattle.encoding.specs.Mentions.{Mention, a-tag, inRules, tagsMentioned, stringsMentioned, programsMentioned}
 use Rattle.encoding.specs.Distinct.{distinct, placeOf, run-together}
-use Rattle.encoding.specs.Encoded.{tagsOf, stringsOf, bytesOfEach, programsOf, each, rulesOf}
+use Rattle.encoding.specs.Encoded.{tagsStored, stringsStored, bytesOfEach, programsStored, each, rulesOf}
 use Rattle.packing.specs.Packed.{nodesOfRule}
 use Rattle.models.specs.Models.{Declaration}
 use Rattle.models.specs.Expressions.{specContent, specNodes}
@@ -27,15 +27,15 @@ abbrev onlyTags : List (List ℕ) → List Mention
 onlyTags [] = []
 onlyTags (n ∷ ns) = a-tag n ∷ onlyTags ns
 
-tags-only : (ns : List (List ℕ)) → tagsIn (onlyTags ns) ≡ ns
+tags-only : (ns : List (List ℕ)) → tagsMentioned (onlyTags ns) ≡ ns
 tags-only [] = refl
 tags-only (n ∷ ns) = ap (λ (l : List (List ℕ)). n ∷ l) (tags-only ns)
 
-no-strings : (ns : List (List ℕ)) → stringsIn (onlyTags ns) ≡ []
+no-strings : (ns : List (List ℕ)) → stringsMentioned (onlyTags ns) ≡ []
 no-strings [] = refl
 no-strings (n ∷ ns) = no-strings ns
 
-no-programs : (ns : List (List ℕ)) → programsIn (onlyTags ns) ≡ []
+no-programs : (ns : List (List ℕ)) → programsMentioned (onlyTags ns) ≡ []
 no-programs [] = refl
 no-programs (n ∷ ns) = no-programs ns
 
@@ -43,18 +43,18 @@ mentions-tags : (all ds : List Declaration) → inRules (declarationRules all ds
 mentions-tags all [] = refl
 mentions-tags all (d ∷ ds) = ap₂ (λ (x y : List Mention). a-tag (d .declared) ∷ ((x ++ []) ++ y)) (mentions-none (specContent (numberOfName all) (d .content))) (mentions-tags all ds)
 
-pub tags-declared : (ds : List Declaration) → tagsOf (rulesOfDtd ds) ≡ distinct (declaredNames ds)
+pub tags-declared : (ds : List Declaration) → tagsStored (rulesOfDtd ds) ≡ distinct (declaredNames ds)
 unfolding rulesOfDtd
-tags-declared ds = ap (λ (m : List Mention). distinct (tagsIn m)) (mentions-tags ds ds) ∙ ap distinct (tags-only (declaredNames ds))
+tags-declared ds = ap (λ (m : List Mention). distinct (tagsMentioned m)) (mentions-tags ds ds) ∙ ap distinct (tags-only (declaredNames ds))
 
-pub strings-none : (ds : List Declaration) → stringsOf (rulesOfDtd ds) ≡ []
+pub strings-none : (ds : List Declaration) → stringsStored (rulesOfDtd ds) ≡ []
 unfolding rulesOfDtd
-strings-none ds = ap (λ (m : List Mention). distinct (stringsIn m)) (mentions-tags ds ds) ∙ ap distinct (no-strings (declaredNames ds))
+strings-none ds = ap (λ (m : List Mention). distinct (stringsMentioned m)) (mentions-tags ds ds) ∙ ap distinct (no-strings (declaredNames ds))
 
-pub programs-none : (ds : List Declaration) → programsOf (rulesOfDtd ds) ≡ []
+pub programs-none : (ds : List Declaration) → programsStored (rulesOfDtd ds) ≡ []
 unfolding rulesOfDtd
 programs-none ds =
-    ap (λ (m : List Mention). distinct (bytesOfEach (rulesOfDtd ds) (programsIn m))) (mentions-tags ds ds) ∙ ap (λ (p : List Program). distinct (bytesOfEach (rulesOfDtd ds) p)) (no-programs (declaredNames ds))
+    ap (λ (m : List Mention). distinct (bytesOfEach (rulesOfDtd ds) (programsMentioned m))) (mentions-tags ds ds) ∙ ap (λ (p : List TextProgram). distinct (bytesOfEach (rulesOfDtd ds) p)) (no-programs (declaredNames ds))
 
 -- as many nodes as the marks count
 pub rule-nodes : (all : List Declaration) (d : Declaration) → nodesOfRule (declarationRule all d) ≡ specNodes (d .content)
@@ -69,32 +69,32 @@ as-many all [] = refl
 as-many all (d ∷ ds) = ap suc (as-many all ds)
 
 -- each is the sheet's
-module _ (all : List Declaration) (r : Rules) (tags : tagsOf r ≡ distinct (declaredNames all)) where
-  nodes-none : (d : Declaration) → each r (visitsIn (plainContent (specContent (numberOfName all) (d .content)))) ≡ replicate (specNodes (d .content)) noPrograms
+module _ (all : List Declaration) (r : Rules) (tags : tagsStored r ≡ distinct (declaredNames all)) where
+  nodes-none : (d : Declaration) → each r (visitsInside (plainContent (specContent (numberOfName all) (d .content)))) ≡ replicate (specNodes (d .content)) noPrograms
   nodes-none d =
       let c = specContent (numberOfName all) (d .content) in
       ap (each r) (visits-none c) ∙ each-none r (nodesOf c) ∙ ap (λ (n : ℕ). replicate n noPrograms) (nodes-counted (numberOfName all) (d .content))
 
-  abbrev ruleOfThree : Declaration → ℕ → Content → List SheetVisits → SheetRule
+  abbrev ruleOfThree : Declaration → ℕ → Content → List Visits → Rule
   ruleOfThree d tag content visits = record { production = record { nonterm = numberOfName all (d .declared); tagno = tag; content = content }; own = noPrograms; of-nodes = visits }
 
   rules-declared : (ds : List Declaration) → rulesOf r (declarationRules all ds) ≡ declaredRules all ds
   rules-declared [] = refl
   rules-declared (d ∷ ds) =
       let c = specContent (numberOfName all) (d .content) in
-      let v = each r (visitsIn (plainContent c)) in
-      ap (λ (t : ℕ). ruleOfThree d t (contentOf (plainContent c)) v ∷ rulesOf r (declarationRules all ds)) (ap (λ (l : List (List ℕ)). placeOf l (d .declared)) tags)
+      let v = each r (visitsInside (plainContent c)) in
+      ap (λ (t : ℕ). ruleOfThree d t (contentInside (plainContent c)) v ∷ rulesOf r (declarationRules all ds)) (ap (λ (l : List (List ℕ)). placeOf l (d .declared)) tags)
       ∙ ap (λ (x : Content). ruleOfThree d (tagOfName all (d .declared)) x v ∷ rulesOf r (declarationRules all ds)) (content-plain c)
-      ∙ ap (λ (x : List SheetVisits). ruleOfThree d (tagOfName all (d .declared)) c x ∷ rulesOf r (declarationRules all ds)) (nodes-none d)
-      ∙ ap (λ (l : List SheetRule). declaredRule all d ∷ l) (rules-declared ds)
+      ∙ ap (λ (x : List Visits). ruleOfThree d (tagOfName all (d .declared)) c x ∷ rulesOf r (declarationRules all ds)) (nodes-none d)
+      ∙ ap (λ (l : List Rule). declaredRule all d ∷ l) (rules-declared ds)
 
-abbrev sheetOfThree : List (List ℕ) → List SheetRule → List ℕ → Sheet
+abbrev sheetOfThree : List (List ℕ) → List Rule → List ℕ → Sheet
 sheetOfThree names rules strings = record { names = names; rules = rules; strings = strings; start-nonterminal = 0 }
 
 pub sheet-is-declared : SheetIsDeclared
 unfolding rulesOfDtd
 sheet-is-declared ds =
     let r : Rules = rulesOfDtd ds in
-    ap (λ (l : List (List ℕ)). sheetOfThree l (rulesOf r (declarationRules ds ds)) (run-together (stringsOf r))) (tags-declared ds)
-    ∙ ap (λ (l : List SheetRule). sheetOfThree (distinct (declaredNames ds)) l (run-together (stringsOf r))) (rules-declared ds r (tags-declared ds) ds)
+    ap (λ (l : List (List ℕ)). sheetOfThree l (rulesOf r (declarationRules ds ds)) (run-together (stringsStored r))) (tags-declared ds)
+    ∙ ap (λ (l : List Rule). sheetOfThree (distinct (declaredNames ds)) l (run-together (stringsStored r))) (rules-declared ds r (tags-declared ds) ds)
     ∙ ap (λ (l : List (List ℕ)). sheetOfThree (distinct (declaredNames ds)) (declaredRules ds ds) (run-together l)) (strings-none ds)

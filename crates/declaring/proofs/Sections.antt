@@ -8,12 +8,12 @@ use native.Mathlib.Omega.{arith}
 use Rattle.expressions.specs.Expr.{nonterminal, anychar, Exp, atom, cat, alt, star, empty, Content, tree}
 use Rattle.notation.specs.Rules.{Rules}
 use Rattle.encoding.specs.Distinct.{has, added, distinct, placeOf}
-use Rattle.encoding.specs.Encoded.{tagsOf}
+use Rattle.encoding.specs.Encoded.{tagsStored}
 use Rattle.encoding.proofs.Stored.{AllHad, distinct-all}
 use Rattle.stores.proofs.Grows.{grows-behind, places-stay}
 use Rattle.packing.specs.Packed.{nodesSection, productionsSection}
 use Rattle.packing.proofs.Productions.{productions-length, nodes-length}
-use Rattle.records.specs.Records.{productionBytes}
+use Rattle.records.specs.Records.{recordBytes}
 use Rattle.models.specs.Models.{Model, called, sequence, choice, optional, any-number, at-least-one, ContentSpec, nothing-inside, mixed, children, Declaration}
 use Rattle.models.specs.Expressions.{modelExpression, orNames, specContent, specNodes}
 use Rattle.models.specs.Family.{namesIn, namesInSpec, mentioned, nodesTogether}
@@ -29,7 +29,7 @@ use Rattle.declaring.proofs.Typed.{had-front}
 
 -- by numbers of names, whatever they are
 abbrev recordOf : (List ℕ → ℕ) → (List ℕ → ℕ) → ℕ → Declaration → List ℕ
-recordOf number tag first d = productionBytes (number (d .declared)) (tag (d .declared)) first (specNodes (d .content)) 0xFFFF 0xFFFF
+recordOf number tag first d = recordBytes (number (d .declared)) (tag (d .declared)) first (specNodes (d .content)) 0xFFFF 0xFFFF
 
 abbrev recordsOf : (List ℕ → ℕ) → (List ℕ → ℕ) → ℕ → List Declaration → List ℕ
 recordsOf number tag first [] = []
@@ -42,11 +42,11 @@ abbrev nodesOfAll : (List ℕ → ℕ) → List Declaration → List ℕ
 nodesOfAll number [] = []
 nodesOfAll number (d ∷ ds) = nodesOfOne number d ++ nodesOfAll number ds
 
-module _ (all : List Declaration) (r : Rules) (tags : tagsOf r ≡ distinct (declaredNames all)) where
+module _ (all : List Declaration) (r : Rules) (tags : tagsStored r ≡ distinct (declaredNames all)) where
   productions-by-number : (first : ℕ) (ds : List Declaration) → productionsSection r first (declarationRules all ds) ≡ recordsOf (numberOfName all) (tagOfName all) first ds
   productions-by-number first [] = refl
   productions-by-number first (d ∷ ds) =
-      ap₂ (λ (l : List (List ℕ)) (n : ℕ). productionBytes (numberOfName all (d .declared)) (placeOf l (d .declared)) first n 0xFFFF 0xFFFF ++ productionsSection r (first + n) (declarationRules all ds)) tags (rule-nodes all d)
+      ap₂ (λ (l : List (List ℕ)) (n : ℕ). recordBytes (numberOfName all (d .declared)) (placeOf l (d .declared)) first n 0xFFFF 0xFFFF ++ productionsSection r (first + n) (declarationRules all ds)) tags (rule-nodes all d)
       ∙ ap (λ (l : List ℕ). recordOf (numberOfName all) (tagOfName all) first d ++ l) (productions-by-number (first + specNodes (d .content)) ds)
 
   nodes-by-number : (ds : List Declaration) → nodesSection r (declarationRules all ds) ≡ nodesOfAll (numberOfName all) ds
@@ -89,13 +89,13 @@ module _ (f g : List ℕ → ℕ) (l : List (List ℕ)) (same : (n : List ℕ) �
   same-numbers : (tag : List ℕ → ℕ) (first : ℕ) (ds : List Declaration) → AllHad l (mentioned ds) → recordsOf f tag first ds ≡ recordsOf g tag first ds
   same-numbers tag first [] h = refl
   same-numbers tag first (d ∷ ds) h =
-      ap₂ (λ (k : ℕ) (m : List ℕ). productionBytes k (tag (d .declared)) first (specNodes (d .content)) 0xFFFF 0xFFFF ++ m) (same (d .declared) (h .0))
+      ap₂ (λ (k : ℕ) (m : List ℕ). recordBytes k (tag (d .declared)) first (specNodes (d .content)) 0xFFFF 0xFFFF ++ m) (same (d .declared) (h .0))
       (same-numbers tag (first + specNodes (d .content)) ds (had-behind l (namesInSpec (d .content)) (mentioned ds) (h .1)))
 
   same-tags : (number : List ℕ → ℕ) (first : ℕ) (ds : List Declaration) → AllHad l (declaredNames ds) → recordsOf number f first ds ≡ recordsOf number g first ds
   same-tags number first [] h = refl
   same-tags number first (d ∷ ds) h =
-      ap₂ (λ (k : ℕ) (m : List ℕ). productionBytes (number (d .declared)) k first (specNodes (d .content)) 0xFFFF 0xFFFF ++ m) (same (d .declared) (h .0))
+      ap₂ (λ (k : ℕ) (m : List ℕ). recordBytes (number (d .declared)) k first (specNodes (d .content)) 0xFFFF 0xFFFF ++ m) (same (d .declared) (h .0))
       (same-tags number (first + specNodes (d .content)) ds (h .1))
 
 -- what was mentioned keeps its place

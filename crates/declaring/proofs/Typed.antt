@@ -8,7 +8,7 @@ use lib.ListN.{length}
 use Rattle.expressions.specs.Expr.{nonterminal, anychar, Exp, atom, alt, nodesOf}
 use Rattle.expressions.specs.Grammar.{nonterminals}
 use Rattle.notation.specs.Tokens.{TagName}
-use Rattle.notation.specs.Limits.{depthOf, AllWithin, EachWithin, Within}
+use Rattle.notation.specs.Limits.{contentDepth, AllWithin, EachWithin, WithinLimits}
 use Rattle.encoding.specs.Distinct.{equal, has, added, distinct, placeOf, run-together}
 use Rattle.encoding.specs.Keeps.{AllNames}
 use Rattle.encoding.specs.Sound.{SoundTree, SoundContent, AllSound, SoundRules}
@@ -87,7 +87,7 @@ within-each all (d ∷ ds) f s =
         own = (tt, tt);
         inside = record {
           few-nodes = omega (arith, ap nodesOf (content-plain c), nodes-counted (numberOfName all) (d .content), f .0);
-          shallow = omega (arith, ap depthOf (content-plain c), depth-counted (numberOfName all) (d .content), s .0);
+          shallow = omega (arith, ap contentDepth (content-plain c), depth-counted (numberOfName all) (d .content), s .0);
           programs = subst AllWithin (sym (visits-none c)) (none-within (nodesOf c));
         };
       },
@@ -106,7 +106,7 @@ can-be-typed text ds f h = record {
   each = sound-each ds ds h (declared-sheets-keep text ds f h .names) (distinct-all (mentioned ds)) (distinct-all (declaredNames ds));
 }
 
-are-within : (text : List ℕ) (ds : List Declaration) → Family text ds → Holdable ds → Within (rulesOfDtd ds)
+are-within : (text : List ℕ) (ds : List Declaration) → Family text ds → Holdable ds → WithinLimits (rulesOfDtd ds)
 unfolding rulesOfDtd
 are-within text ds f h = record {
   few-productions = omega (arith, as-many ds ds, h .few-declarations);

@@ -14,7 +14,7 @@ use Rattle.encoding.specs.Encoded.{Room, sheetOf}
 use Rattle.stores.specs.Rows.{RowsIn}
 use Rattle.packing.specs.Packed.{sheetBytes}
 use Rattle.packing.specs.Packs.{Packs}
-use Rattle.records.specs.Records.{productionBytes}
+use Rattle.records.specs.Records.{recordBytes}
 use Rattle.binding.specs.Bound.{TagRows, SectionsFit}
 use Rattle.sealing.specs.declared.Outcome.{Outcome}
 use Rattle.sealing.specs.Sealed.{SealedIs}
@@ -94,7 +94,7 @@ pub record DeclaredBehind (ds : List Declaration) (d : Declaration) : Type 0 whe
   pub tags : declaredNames (ds ++ d ∷ []) ≡ declaredNames ds ++ d .declared ∷ []
   pub count : nodesTogether (ds ++ d ∷ []) ≡ nodesTogether ds + specNodes (d .content)
   pub productions : declaredProductions (ds ++ d ∷ [])
-      ≡ declaredProductions ds ++ productionBytes (numberOfName (ds ++ d ∷ []) (d .declared)) (tagOfName (ds ++ d ∷ []) (d .declared)) (nodesTogether ds) (specNodes (d .content)) 0xFFFF 0xFFFF
+      ≡ declaredProductions ds ++ recordBytes (numberOfName (ds ++ d ∷ []) (d .declared)) (tagOfName (ds ++ d ∷ []) (d .declared)) (nodesTogether ds) (specNodes (d .content)) 0xFFFF 0xFFFF
   pub nodes : declaredNodes (ds ++ d ∷ []) ≡ declaredNodes ds ++ nodeRecords (contentPreorder (specContent (numberOfName (ds ++ d ∷ [])) (d .content)))
 
 abbrev pub OneDeclarationMore : Type 0

@@ -2,7 +2,7 @@
 use mathlib.Core.List.{List, [], _∷_}
 use mathlib.Core.Option.{Option, none, some}
 use Rattle.expressions.specs.Expr.{Exp, atom, cat, alt, star, empty, Content, nothing, tree}
-use Rattle.notation.specs.Rules.{Tree, node, Form, Rule, Rules}
+use Rattle.notation.specs.Rules.{Tree, node, Form, TextRule, Rules}
 use Rattle.models.specs.Models.{Declaration}
 use Rattle.models.specs.Expressions.{specContent}
 use Rattle.models.specs.Sheets.{numberOfName}
@@ -20,7 +20,7 @@ plainContent nothing = none
 plainContent (tree e) = some (plainTree e)
 
 -- names are nonterminals in the order of their first mention; all are the declarations of the text
-abbrev pub declarationRule : List Declaration → Declaration → Rule
+abbrev pub declarationRule : List Declaration → Declaration → TextRule
 declarationRule all d = record {
   nonterminal = numberOfName all (d .declared);
   tag = d .declared;
@@ -28,7 +28,7 @@ declarationRule all d = record {
   inside = plainContent (specContent (numberOfName all) (d .content));
 }
 
-abbrev pub declarationRules : List Declaration → List Declaration → List Rule
+abbrev pub declarationRules : List Declaration → List Declaration → List TextRule
 declarationRules all [] = []
 declarationRules all (d ∷ ds) = declarationRule all d ∷ declarationRules all ds
 

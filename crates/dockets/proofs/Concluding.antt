@@ -16,7 +16,7 @@ use Rattle.models.specs.Family.{mentioned, nodesTogether, Holdable}
 use Rattle.models.specs.Answers.{TooMuchAt}
 use Rattle.models.specs.Sheets.{declaredNames}
 use Rattle.declarations.specs.declared.NodeRow.{NodeRow}
-use Rattle.declarations.specs.Nodes.{contentPreorder, Lays}
+use Rattle.declarations.specs.Nodes.{contentPreorder, LaysNodes}
 use Rattle.declaring.proofs.Sections.{one-declaration-more}
 use Rattle.declaring.proofs.Typed.{few-added, as-many-names}
 use Rattle.rosters.proofs.Enrols.{rows-few}
@@ -120,7 +120,7 @@ module _ (k : Docket) (at : ℕ) (row : NodeRow) (productions nodes : List ℕ) 
       entry = record {
         number-is = c .element .number-is (d .declared) refl ∙ ap (λ (l : Names). placeOf l (d .declared)) all-named;
         tag-is = c .element .tag-is (d .declared) refl ∙ ap (λ (l : Names). placeOf l (d .declared)) all-tagged;
-        laid = subst (λ (l : Names). Lays (contentPreorder (specContent (placeOf l) (d .content))) row) all-named (c .laid);
+        laid = subst (λ (l : Names). LaysNodes (contentPreorder (specContent (placeOf l) (d .content))) row) all-named (c .laid);
       }
 
   pub concluded-crowded : (b : Bool) → k .passed ≡ false → b ≡ crowdedBy k (row .length) → b ≡ true

@@ -13,7 +13,7 @@ use Rattle.models.specs.Family.{mentioned, Holdable}
 use Rattle.models.specs.Answers.{TooMuchAt}
 use Rattle.models.specs.Sheets.{declaredNames}
 use Rattle.declarations.specs.declared.NodeRow.{NodeRow}
-use Rattle.declarations.specs.Nodes.{contentPreorder, Lays}
+use Rattle.declarations.specs.Nodes.{contentPreorder, LaysNodes}
 use Rattle.entries.specs.Entries.{SectionRoom}
 use Rattle.dockets.specs.declared.Docket.{Docket}
 use Rattle.dockets.specs.Kept.{NamesHeld, ElementIs, DocketSmall, DeclarationsKept}
@@ -30,7 +30,7 @@ pub record Concluding (k : Docket) (long : ℕ) : Type 0 where
 pub record ConcludesWith (ds : List Declaration) (d : Declaration) (k : Docket) (row : NodeRow) (name-bytes name-ends tag-bytes tag-ends : List ℕ) (rows tag-rows : List (List ℕ)) : Type 0 where
   pub held : NamesHeld (mentioned (ds ++ d ∷ [])) (declaredNames (ds ++ d ∷ [])) k name-bytes name-ends tag-bytes tag-ends rows tag-rows
   pub element : ElementIs k rows tag-rows (d .declared ∷ [])
-  pub laid : Lays (contentPreorder (specContent (placeOf rows) (d .content))) row
+  pub laid : LaysNodes (contentPreorder (specContent (placeOf rows) (d .content))) row
 
 pub record ConcludedIs (k : Docket) (at : ℕ) (row : NodeRow) (productions nodes productions-after nodes-after : List ℕ) (r : Docket) : Type 0 where
   pub same-names : r .names ≡ k .names

@@ -24,7 +24,7 @@ use Rattle.paces.specs.Made.{HeldIs}
 use Rattle.drafts.specs.declared.Size.{Size}
 use Rattle.drafts.specs.declared.Draft.{Draft}
 use Rattle.drafts.specs.declared.Stepped.{Stepped}
-use Rattle.drafts.specs.Drafted.{stacked, sketchOf, SteppedIs, Sound, Ready, SizeIs}
+use Rattle.drafts.specs.Drafted.{stacked, sketchOf, SteppedIs, SoundDraft, SmallMove, SizeIs}
 
 -- how long a field that is an array of structs is: its relation speaks of the mapped list
 pub length-of-mapped : {X Y : Type 0} (f : X → Y) (l : List X) (n : ℕ) → length (map f l) ≡ n → length l ≡ n
@@ -95,12 +95,12 @@ emptied-more d h = ap (λ x. emptiedIn x (sketchOf d)) (one-less (d .around) (d 
 pub moved-as : (d : Draft) (m n : Move) (r : Stepped) → m ≡ n → SteppedIs (after-move (sketchOf d) n) r → SteppedIs (after-move (sketchOf d) m) r
 moved-as d m n r h s = ap (after-move (sketchOf d)) h ∙ s
 
-pub ready-opened : (m : Move) (p : Paren) → Ready m → m ≡ Move.Opened p → SmallParen tight p
-ready-opened m p h e = subst Ready e h
+pub ready-opened : (m : Move) (p : Paren) → SmallMove m → m ≡ Move.Opened p → SmallParen tight p
+ready-opened m p h e = subst SmallMove e h
 
-pub ready-next : (d : Draft) (m : Move) (n : ℕ) → Sound d → Ready m → m ≡ Move.Next n → (d .productions ≤ loose) × ((d .earlier ≤ loose) × (n ≤ loose))
+pub ready-next : (d : Draft) (m : Move) (n : ℕ) → SoundDraft d → SmallMove m → m ≡ Move.Next n → (d .productions ≤ loose) × ((d .earlier ≤ loose) × (n ≤ loose))
 ready-next d m n w h e =
-    let k : n ≤ tight = subst Ready e h in
+    let k : n ≤ tight = subst SmallMove e h in
     (omega (arith, w .small .productions), (omega (arith, w .small .earlier), omega arith))
 
 -- the size of what a point asks for

@@ -15,7 +15,7 @@ use Rattle.sketches.specs.declared.Move.{Move}
 use Rattle.sketches.specs.Figures.{figure, beside, bare, justOpened, lone, joinedIf, joinedTo, wholeIn, clash, frontedBy}
 use Rattle.sketches.specs.Moves.{insideOf, outsideOf, moveIf, unless, wanted, dotted, barred, shut, backedBy, behindOperand, finishing, choice, moveOf}
 use Rattle.paces.specs.Small.{tight, loose, SmallFigure, SmallBeside, SmallSurround, SmallParen, SmallPoint}
-use Rattle.drafts.specs.Drafted.{Ready}
+use Rattle.drafts.specs.Drafted.{SmallMove}
 
 joined-small : (t : Bool) (n d : ℕ) (e : Figure) (x : ℕ) → n ≤ 32 → d ≤ 32 → SmallFigure x e
     → (joinedIf t (record { there = t; nodes = n; depth = d }) e .nodes ≤ x + 33) × (joinedIf t (record { there = t; nodes = n; depth = d }) e .depth ≤ x + 33)
@@ -44,15 +44,15 @@ nothing-small = record { nodes = omega arith; depth = omega arith }
 lone-small : SmallFigure loose lone
 lone-small = record { nodes = omega arith; depth = omega arith }
 
-if-ready : (b : Bool) (m : Move) → Ready m → Ready (moveIf b m)
+if-ready : (b : Bool) (m : Move) → SmallMove m → SmallMove (moveIf b m)
 if-ready true m h = h
 if-ready false m h = tt
 
-unless-ready : (b : Bool) (m : Move) → Ready m → Ready (unless b m)
+unless-ready : (b : Bool) (m : Move) → SmallMove m → SmallMove (unless b m)
 unless-ready true m h = tt
 unless-ready false m h = h
 
-wanted-ready : (b : Bool) (p : Paren) (i : Inside) → SmallParen tight p → Ready (wanted b p i)
+wanted-ready : (b : Bool) (p : Paren) (i : Inside) → SmallParen tight p → SmallMove (wanted b p i)
 wanted-ready b p Inside.Leaf s = ((lone-small, s), tt)
 wanted-ready b p Inside.Star s = tt
 wanted-ready b p Inside.Dot s = tt
@@ -62,7 +62,7 @@ wanted-ready b p Inside.Close s = if-ready b Move.Emptied tt
 wanted-ready b p Inside.Brace s = if-ready b (Move.To (InFront (p .surround))) (s .surround, tt)
 wanted-ready b p Inside.Other s = tt
 
-operand-ready : (e : Figure) (p : Paren) (i : Inside) → SmallFigure tight e → SmallParen tight p → Ready (behindOperand e p i)
+operand-ready : (e : Figure) (p : Paren) (i : Inside) → SmallFigure tight e → SmallParen tight p → SmallMove (behindOperand e p i)
 operand-ready e p Inside.Leaf h s = tt
 operand-ready e p Inside.Star h s = ((record { nodes = omega arith; depth = omega arith }, s), tt)
 operand-ready e p Inside.Dot h s =
@@ -81,7 +81,7 @@ operand-ready e p Inside.Brace h s =
     (Move.To (Behind (figure (wholeIn p e .nodes) (wholeIn p e .depth) (p .before || wholeIn p e .first) true) (p .surround))) ((record { nodes = omega arith; depth = omega arith }, s .surround), tt)
 operand-ready e p Inside.Other h s = tt
 
-finishing-ready : (e : Figure) (i : Inside) → SmallFigure tight e → Ready (finishing e i)
+finishing-ready : (e : Figure) (i : Inside) → SmallFigure tight e → SmallMove (finishing e i)
 finishing-ready e Inside.Leaf h = tt
 finishing-ready e Inside.Star h = tt
 finishing-ready e Inside.Dot h = tt
@@ -91,7 +91,7 @@ finishing-ready e Inside.Close h = record { nodes = omega arith; depth = omega a
 finishing-ready e Inside.Brace h = tt
 finishing-ready e Inside.Other h = tt
 
-choice-ready : (o : Outside) (n t d p b : Move) → Ready n → Ready t → Ready d → Ready p → Ready b → Ready (choice o n t d p b)
+choice-ready : (o : Outside) (n t d p b : Move) → SmallMove n → SmallMove t → SmallMove d → SmallMove p → SmallMove b → SmallMove (choice o n t d p b)
 choice-ready Outside.Nonterminal n t d p b v w x y z = v
 choice-ready Outside.Name n t d p b v w x y z = w
 choice-ready Outside.Definition n t d p b v w x y z = x
@@ -106,7 +106,7 @@ opened-small = record {
   surround = record { nodes = omega arith; depth = omega arith; least = omega arith };
 }
 
-pub ready-move : (p : Point) (k : ℕ) → SmallPoint tight p → Ready (moveOf p k)
+pub ready-move : (p : Point) (k : ℕ) → SmallPoint tight p → SmallMove (moveOf p k)
 ready-move Beginning k h = choice-ready (outsideOf k) _ _ _ _ _ (tt, tt) tt tt tt tt
 ready-move FirstWord k h = choice-ready (outsideOf k) _ _ _ _ _ (tt, tt) tt (tt, tt) tt tt
 ready-move Named k h = choice-ready (outsideOf k) _ _ _ _ _ tt tt (tt, tt) tt tt

@@ -9,7 +9,7 @@ use lib.Dec.{ltb}
 use lib.ListN.{length}
 use borrow.Author.Tests.{ltb-true}
 use Rattle.notation.specs.Statements.{parentheses}
-use Rattle.programs.specs.Parsed.{visit}
+use Rattle.programs.specs.Parsed.{whichVisit}
 use Rattle.lexemes.specs.Kinds.{kinds}
 use Rattle.sketches.specs.declared.Figure.{Figure}
 use Rattle.sketches.specs.declared.Beside.{Beside}
@@ -24,7 +24,7 @@ use Rattle.paces.specs.Small.{tight, loose, Counted, SmallFigure, SmallBeside, 
 use Rattle.drafts.specs.declared.Draft.{Draft}
 use Rattle.drafts.specs.declared.Stepped.{Stepped}
 use Rattle.drafts.specs.declared.Place.{Place}
-use Rattle.drafts.specs.Drafted.{stacked, sketchOf, SteppedIs, Sound, Ready, SmallUncounted, StepIs, DraftIs, plainly, reading, PlaceIs}
+use Rattle.drafts.specs.Drafted.{stacked, sketchOf, SteppedIs, SoundDraft, SmallMove, SmallUncounted, DraftStepIs, DraftIs, plainly, reading, PointIs}
 use Rattle.drafts.proofs.Laws.{stacked-length}
 use Rattle.drafts.proofs.Small.{looser, ready-move}
 
@@ -131,7 +131,7 @@ emptied-led : (ps : List Paren) (k : Sketch) → k .earlier ≤ loose → Led (e
 emptied-led [] k m = there (sketched (Closed 0) [] (k .productions) (k .earlier)) (record { point = omega arith; around = tt; few = omega arith; earlier = m; tightens = λ n d. n })
 emptied-led (p ∷ ps) k m = nowhere
 
-pub led : (k : Sketch) (m : Move) → SmallSketch k → length (k .around) ≤ tight → Ready m → Led (after-move k m)
+pub led : (k : Sketch) (m : Move) → SmallSketch k → length (k .around) ≤ tight → SmallMove m → Led (after-move k m)
 led k Move.Refused h l r = nowhere
 led k (Move.To p) h l r = there (sketched p (k .around) (k .productions) (k .earlier)) (record { point = r .0; around = h .around; few = l; earlier = omega (arith, h .earlier); tightens = λ n d. point-small p (k .around) (r .0) (r .1) n d })
 led k (Move.Opened p) h l r = opened-led p k (ltb (length (k .around)) parentheses) (λ z. ltb-true (length (k .around)) parentheses z) h r
@@ -158,27 +158,27 @@ small-again k c h =
     record { point = c .tightens (omega (arith, x)) (omega (arith, y)); around = c .around; productions = omega (arith, a); earlier = omega (arith, b) }
 
 -- the step of a draft
-pub asks-move : (d : Draft) (kind : ℕ) → (kind < kinds) × Sound d → (kind < kinds) × SmallPoint tight (d .point)
+pub asks-move : (d : Draft) (kind : ℕ) → (kind < kinds) × SoundDraft d → (kind < kinds) × SmallPoint tight (d .point)
 asks-move d kind h = (h .0, h .1 .small .point)
 
-pub asks-after-move : (d : Draft) (kind : ℕ) (m : Move) → (kind < kinds) × Sound d → m ≡ moveOf (d .point) kind → Sound d × Ready m
-asks-after-move d kind m h e = (h .1, subst Ready (sym e) (ready-move (d .point) kind (h .1 .small .point)))
+pub asks-after-move : (d : Draft) (kind : ℕ) (m : Move) → (kind < kinds) × SoundDraft d → m ≡ moveOf (d .point) kind → SoundDraft d × SmallMove m
+asks-after-move d kind m h e = (h .1, subst SmallMove (sym e) (ready-move (d .point) kind (h .1 .small .point)))
 
 led-some : (o : Option Sketch) (k : Sketch) → Led o → o ≡ some k → Countable k
 led-some none k l e = let y : _≡_ {A = ℕ} 0 1 = cc in absurd (omega arith)
 led-some (some x) k (there y c) e = let z : y ≡ k = cc in subst Countable z c
 
-pub countable : (d : Draft) (kind : ℕ) (m : Move) (s : Stepped) → (kind < kinds) × Sound d → m ≡ moveOf (d .point) kind → SteppedIs (after-move (sketchOf d) m) s → s .taken ≡ true → Countable (sketchOf (s .draft))
+pub countable : (d : Draft) (kind : ℕ) (m : Move) (s : Stepped) → (kind < kinds) × SoundDraft d → m ≡ moveOf (d .point) kind → SteppedIs (after-move (sketchOf d) m) s → s .taken ≡ true → Countable (sketchOf (s .draft))
 countable d kind m s h e t y =
     led-some (after-move (sketchOf d) m) (sketchOf (s .draft))
     (led (sketchOf d) m (h .1 .small) (subst (λ n. n ≤ tight) (sym (stacked-length (d .around) (d .«open»))) (h .1 .few-open)) (asks-after-move d kind m h e .1))
     (t ∙ ap (λ b. sketchIf b (sketchOf (s .draft))) y)
 
-pub asks-fits : (d : Draft) (kind : ℕ) (m : Move) (s : Stepped) → (kind < kinds) × Sound d → m ≡ moveOf (d .point) kind → SteppedIs (after-move (sketchOf d) m) s → s .taken ≡ true → SmallPoint loose (s .draft .point) × (s .draft .earlier ≤ loose)
+pub asks-fits : (d : Draft) (kind : ℕ) (m : Move) (s : Stepped) → (kind < kinds) × SoundDraft d → m ≡ moveOf (d .point) kind → SteppedIs (after-move (sketchOf d) m) s → s .taken ≡ true → SmallPoint loose (s .draft .point) × (s .draft .earlier ≤ loose)
 asks-fits d kind m s h e t y = let c = countable d kind m s h e t y in (c .point, c .earlier)
 
-pub step-taken : (d : Draft) (kind : ℕ) (m : Move) (s : Stepped) (f : Bool) → (kind < kinds) × Sound d → m ≡ moveOf (d .point) kind → SteppedIs (after-move (sketchOf d) m) s → s .taken ≡ true → f ≡ sketchFits (sketchOf (s .draft)) → f ≡ true
-    → StepIs d kind s
+pub step-taken : (d : Draft) (kind : ℕ) (m : Move) (s : Stepped) (f : Bool) → (kind < kinds) × SoundDraft d → m ≡ moveOf (d .point) kind → SteppedIs (after-move (sketchOf d) m) s → s .taken ≡ true → f ≡ sketchFits (sketchOf (s .draft)) → f ≡ true
+    → DraftStepIs d kind s
 step-taken d kind m s f h e t y g z =
     let c = countable d kind m s h e t y in
     record {
@@ -186,25 +186,25 @@ step-taken d kind m s f h e t y g z =
       sound = record { few-open = subst (λ n. n ≤ tight) (stacked-length (s .draft .around) (s .draft .«open»)) (c .few); small = small-again (sketchOf (s .draft)) c (sym g ∙ z) };
     }
 
-pub step-unfit : (d : Draft) (kind : ℕ) (m : Move) (s : Stepped) (f : Bool) → (kind < kinds) × Sound d → m ≡ moveOf (d .point) kind → SteppedIs (after-move (sketchOf d) m) s → s .taken ≡ true → f ≡ sketchFits (sketchOf (s .draft)) → f ≡ false
-    → StepIs d kind (record { taken = false; draft = d })
+pub step-unfit : (d : Draft) (kind : ℕ) (m : Move) (s : Stepped) (f : Bool) → (kind < kinds) × SoundDraft d → m ≡ moveOf (d .point) kind → SteppedIs (after-move (sketchOf d) m) s → s .taken ≡ true → f ≡ sketchFits (sketchOf (s .draft)) → f ≡ false
+    → DraftStepIs d kind (record { taken = false; draft = d })
 step-unfit d kind m s f h e t y g z = record {
   same = ap (λ x. where-fit (after-move (sketchOf d) x)) (sym e) ∙ ap where-fit (t ∙ ap (λ b. sketchIf b (sketchOf (s .draft))) y) ∙ ap (λ b. sketchIf b (sketchOf (s .draft))) (sym g ∙ z);
   sound = h .1;
 }
 
-pub step-refused : (d : Draft) (kind : ℕ) (m : Move) (s : Stepped) → (kind < kinds) × Sound d → m ≡ moveOf (d .point) kind → SteppedIs (after-move (sketchOf d) m) s → s .taken ≡ false → StepIs d kind (record { taken = false; draft = d })
+pub step-refused : (d : Draft) (kind : ℕ) (m : Move) (s : Stepped) → (kind < kinds) × SoundDraft d → m ≡ moveOf (d .point) kind → SteppedIs (after-move (sketchOf d) m) s → s .taken ≡ false → DraftStepIs d kind (record { taken = false; draft = d })
 step-refused d kind m s h e t y = record {
   same = ap (λ x. where-fit (after-move (sketchOf d) x)) (sym e) ∙ ap where-fit (t ∙ ap (λ b. sketchIf b (sketchOf (s .draft))) y);
   sound = h .1;
 }
 
 -- the place of a point, and the point behind a program
-pub place-plain : (p q : Point) (e : Bool) (r : Place) → p ≡ q → r ≡ plainly p e → programAt q ≡ none → e ≡ textEnds q → q ≡ unbraced q → PlaceIs p r
-place-plain p q e r h i a b c = subst (PlaceIs p) (sym i) (subst (λ x. PlaceIs x (plainly x e)) (sym h) (record { program = a; ends = b; behind = c }))
+pub place-plain : (p q : Point) (e : Bool) (r : Place) → p ≡ q → r ≡ plainly p e → programAt q ≡ none → e ≡ textEnds q → q ≡ unbraced q → PointIs p r
+place-plain p q e r h i a b c = subst (PointIs p) (sym i) (subst (λ x. PointIs x (plainly x e)) (sym h) (record { program = a; ends = b; behind = c }))
 
-pub place-program : (p q z : Point) (b : Bool) (r : Place) → p ≡ q → r ≡ reading b z → programAt q ≡ some (visit b) → false ≡ textEnds q → z ≡ unbraced q → PlaceIs p r
-place-program p q z b r h i a e c = subst (PlaceIs p) (sym i) (subst (λ x. PlaceIs x (reading b z)) (sym h) (record { program = a; ends = e; behind = c }))
+pub place-program : (p q z : Point) (b : Bool) (r : Place) → p ≡ q → r ≡ reading b z → programAt q ≡ some (whichVisit b) → false ≡ textEnds q → z ≡ unbraced q → PointIs p r
+place-program p q z b r h i a e c = subst (PointIs p) (sym i) (subst (λ x. PointIs x (reading b z)) (sym h) (record { program = a; ends = e; behind = c }))
 
 unbraced-small : (p : Point) → SmallPoint tight p → SmallPoint tight (unbraced p)
 unbraced-small Beginning h = h
@@ -223,7 +223,7 @@ unbraced-small (Closed n) h = h
 unbraced-small (OwnBack n) h = h
 unbraced-small (Complete n) h = h
 
-pub unbraced-is : (d : Draft) (q : Point) → Sound d → q ≡ unbraced (d .point) → DraftIs (unbracedSketch (sketchOf d)) (record { point = q; around = d .around; «open» = d .«open»; productions = d .productions; earlier = d .earlier })
+pub unbraced-is : (d : Draft) (q : Point) → SoundDraft d → q ≡ unbraced (d .point) → DraftIs (unbracedSketch (sketchOf d)) (record { point = q; around = d .around; «open» = d .«open»; productions = d .productions; earlier = d .earlier })
 unbraced-is d q h e = record {
   same = ap (λ x. sketched x (stacked (d .around) (d .«open»)) (d .productions) (d .earlier)) e;
   sound = record { few-open = h .few-open; small = record { point = subst (SmallPoint tight) (sym e) (unbraced-small (d .point) (h .small .point)); around = h .small .around; productions = h .small .productions; earlier = h .small .earlier } };

@@ -6,7 +6,7 @@ use mathlib.Core.List.{List, [], _∷_}
 use Prim.Native.Nat.{ℕ, zero, suc, _≤_}
 use lib.ListN.{length, getD}
 use Rattle.programs.specs.Limits.{Visit}
-use Rattle.programs.specs.Parsed.{visit}
+use Rattle.programs.specs.Parsed.{whichVisit}
 use Rattle.sketches.specs.declared.Paren.{Paren}
 use Rattle.sketches.specs.declared.Point.{Point}
 use Rattle.sketches.specs.declared.Point.the-variants.{Beginning, FirstWord, Named, Defined, OwnFront, WantsTag, Tagged, Wants, InFront, After, Behind, Over, Closed, OwnBack, Complete}
@@ -29,7 +29,7 @@ sketchOf d = sketched (d .point) (stacked (d .around) (d .open)) (d .productions
 abbrev pub SteppedIs : Option Sketch → Stepped → Type 0
 SteppedIs o r = o ≡ sketchIf (r .taken) (sketchOf (r .draft))
 
-pub record Sound (d : Draft) : Type 0 where
+pub record SoundDraft (d : Draft) : Type 0 where
   pub few-open : d .open ≤ tight
   pub small : SmallSketch (sketchOf d)
 
@@ -52,29 +52,29 @@ SmallUncounted (Closed n) = Unit {0}
 SmallUncounted (OwnBack n) = Unit {0}
 SmallUncounted (Complete n) = Unit {0}
 
-abbrev pub Ready : Move → Type 0
-Ready Move.Refused = Unit {0}
-Ready (Move.To p) = SmallPoint loose p × SmallUncounted p
-Ready (Move.Opened p) = SmallParen tight p
-Ready (Move.Closed e) = SmallFigure loose e
-Ready Move.Emptied = Unit {0}
-Ready (Move.Next n) = n ≤ tight
+abbrev pub SmallMove : Move → Type 0
+SmallMove Move.Refused = Unit {0}
+SmallMove (Move.To p) = SmallPoint loose p × SmallUncounted p
+SmallMove (Move.Opened p) = SmallParen tight p
+SmallMove (Move.Closed e) = SmallFigure loose e
+SmallMove Move.Emptied = Unit {0}
+SmallMove (Move.Next n) = n ≤ tight
 
 pub record SizeIs (p : Point) (unclosed : ℕ) (nodes depth : ℕ) : Type 0 where
   pub nodes-are : (ps : List Paren) → length ps ≡ unclosed → nodes ≡ nodesThere p ps
   pub depth-is : (ps : List Paren) → length ps ≡ unclosed → depth ≡ depthThere p ps
 
 -- a token of a kind, outside programs; where it is not taken the draft stays small too
-pub record StepIs (d : Draft) (kind : ℕ) (r : Stepped) : Type 0 where
+pub record DraftStepIs (d : Draft) (kind : ℕ) (r : Stepped) : Type 0 where
   pub same : SteppedIs (stepSketch (sketchOf d) kind) r
-  pub sound : Sound (r .draft)
+  pub sound : SoundDraft (r .draft)
 
 pub record DraftIs (k : Sketch) (d : Draft) : Type 0 where
   pub same : sketchOf d ≡ k
-  pub sound : Sound d
+  pub sound : SoundDraft d
 
 abbrev pub programIf : Bool → Bool → Option Visit
-programIf true second = some (visit second)
+programIf true second = some (whichVisit second)
 programIf false second = none
 
 abbrev pub plainly : Point → Bool → Place
@@ -84,7 +84,7 @@ abbrev pub reading : Bool → Point → Place
 reading b p = record { reads = true; second = b; ends = false; behind = p }
 
 -- whether a program is being read, for which visit, whether a text may end, and the point behind the program
-pub record PlaceIs (p : Point) (r : Place) : Type 0 where
+pub record PointIs (p : Point) (r : Place) : Type 0 where
   pub program : programAt p ≡ programIf (r .reads) (r .second)
   pub ends : r .ends ≡ textEnds p
   pub behind : r .behind ≡ unbraced p

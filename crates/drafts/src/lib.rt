@@ -6,7 +6,7 @@ ghost use Rattle.sketches.specs.declared.Move.{Move};
 ghost use Rattle.sketches.specs.Moves.{after-move, sketchFits, sketchStart, unbracedSketch};
 ghost use Rattle.sketches.specs.Figures.{nodesWith, depthWith};
 ghost use Rattle.paces.specs.Small.{tight, loose, vast, SmallFigure, SmallSurround, SmallParen, SmallPoint};
-ghost use Rattle.drafts.specs.Drafted.{sketchOf, SteppedIs, Ready, Sound, SizeIs, StepIs, DraftIs, plainly, reading, PlaceIs};
+ghost use Rattle.drafts.specs.Drafted.{sketchOf, SteppedIs, SmallMove, SoundDraft, SizeIs, DraftStepIs, DraftIs, plainly, reading, PointIs};
 
 // A place in a text: the point, the pairs of parentheses around, outermost first, how many they are, and how many productions and nodes stand
 // before this production.
@@ -130,7 +130,7 @@ fn next(d: Draft, n: usize) -> Stepped
 
 // What a move makes of a draft.
 fn after_move(d: Draft, m: sketches::Move) -> Stepped
-    requires { ⌜ Sound d × Ready m ⌝ }
+    requires { ⌜ SoundDraft d × SmallMove m ⌝ }
     ensures { λ r. ⌜ SteppedIs (after-move (sketchOf d) m) r ⌝ }
 {
     match m {
@@ -251,8 +251,8 @@ pub fn fresh() -> Draft
 
 // A token of a kind, outside programs.
 pub fn step(d: Draft, kind: usize) -> Stepped
-    requires { ⌜ (kind < kinds) × Sound d ⌝ }
-    ensures { λ r. ⌜ StepIs d kind r ⌝ }
+    requires { ⌜ (kind < kinds) × SoundDraft d ⌝ }
+    ensures { λ r. ⌜ DraftStepIs d kind r ⌝ }
 {
     let p = d.point;
     let m = paces::moves::move_of(p, kind);
@@ -301,7 +301,7 @@ fn program(second: bool, behind: sketches::Point) -> Place
 }
 
 pub fn place_of(p: sketches::Point) -> Place
-    ensures { λ r. ⌜ PlaceIs p r ⌝ }
+    ensures { λ r. ⌜ PointIs p r ⌝ }
 {
     match p {
         sketches::Point::Beginning => plain(p, false),
@@ -332,7 +332,7 @@ pub fn place_of(p: sketches::Point) -> Place
 
 // Behind the program that was read.
 pub fn unbrace(d: Draft) -> Draft
-    requires { ⌜ Sound d ⌝ }
+    requires { ⌜ SoundDraft d ⌝ }
     ensures { λ r. ⌜ DraftIs (unbracedSketch (sketchOf d)) r ⌝ }
 {
     let around = d.around;

@@ -16,7 +16,7 @@ use Rattle.models.specs.Family.{Family, Holdable}
 use Rattle.models.specs.Answers.{declares, ReadModels, declared}
 use Rattle.models.specs.Reader.{outside, within, valueOfDtd}
 use Rattle.models.specs.Sheets.{declaredNames}
-use Rattle.judging.specs.Standing.{StandsAt}
+use Rattle.judging.specs.Standing.{StandsBehind}
 use Rattle.judging.proofs.Refused.{unfinished, all-declared}
 use Rattle.judging.proofs.Much.{too-much-in-all}
 use Rattle.declaring.specs.Sections.{declaredProductions, declaredNodes}
@@ -63,7 +63,7 @@ module _ (text area : List ℕ) (s : Scan) (nb ne tb te productions nodes : List
       pub settled-none : s .docket .tally .productions ≡ 0 → DeclaredAs text area 55 (length text) area
       settled-none n = on (there .ds) (there .stands) (bounds .1 .count-is)
         where
-          on : (ds : List Declaration) → StandsAt text (length text) (outside ds) → s .docket .tally .productions ≡ length ds → DeclaredAs text area 55 (length text) area
+          on : (ds : List Declaration) → StandsBehind text (length text) (outside ds) → s .docket .tally .productions ≡ length ds → DeclaredAs text area 55 (length text) area
           on [] st c = refused (unfinished text (outside []) st refl)
           on (d ∷ ds) st c = absurd (omega (arith, c, n))
 

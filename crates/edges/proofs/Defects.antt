@@ -11,9 +11,9 @@ use Rattle.sheet.specs.Tags.{tagRecord, TagAt}
 use Rattle.sheet.specs.Defect.{DefectIs, well-formed, a-tag, a-production}
 use Rattle.sheet.specs.Sheet.{Sheet}
 use Rattle.runs.specs.Visits.{no-programs}
-use Rattle.runs.specs.Examples.{Each, sheet-of, a}
+use Rattle.runs.specs.Examples.{Each, sheet-of, nameA}
 use Rattle.worked.proofs.Laid.{its-size, its-sections, Laid, laid-is-sheet}
-use Rattle.edges.specs.Edges.{b, oneProduction, no-such-tag, last-tag, of-sheets}
+use Rattle.edges.specs.Edges.{nameB, oneProduction, no-such-tag, last-tag, of-sheets}
 use Rattle.edges.proofs.Fits.{EdgeFits}
 use Rattle.edges.proofs.Counted.{no-sections, blank-tag}
 use Rattle.edges.proofs.OneRule.{letter-at, no-fields, no-node, empty-is, value-is, no-value, start-over, no-start, atom-grounded, atom-not-grounded}
@@ -21,26 +21,26 @@ use Rattle.edges.proofs.OneRule.{letter-at, no-fields, no-node, empty-i
 -- two tags are a, whatever the production's tag is
 module _ (t : ℕ) where
   abbrev twice : List ℕ
-  twice = oneProduction (tagRecord a ++ tagRecord a) 2 t
+  twice = oneProduction (tagRecord nameA ++ tagRecord nameA) 2 t
 
   twice-named : DefectIs twice 3
   twice-named =
       a-tag (its-size twice refl) (its-sections twice refl)
-      (λ h. let e : _≡_ {A = ℕ} 0 1 = h .different 0 1 a (omega arith) (omega arith) (letter-at twice 0 97 refl refl) (letter-at twice 1 97 refl refl) in omega (arith, e))
+      (λ h. let e : _≡_ {A = ℕ} 0 1 = h .different 0 1 nameA (omega arith) (omega arith) (letter-at twice 0 97 refl refl) (letter-at twice 1 97 refl refl) in omega (arith, e))
 
 -- production 0 has a tag that is none
 tag-is-none : DefectIs no-such-tag 4
 tag-is-none =
     a-production (its-size no-such-tag refl) (its-sections no-such-tag refl)
     (record {
-      named = λ t h. let e : 0 ≡ t = omega (arith, h) in (a, subst (λ (u : ℕ). TagAt no-such-tag u a) e (letter-at no-such-tag 0 97 refl refl));
+      named = λ t h. let e : 0 ≡ t = omega (arith, h) in (nameA, subst (λ (u : ℕ). TagAt no-such-tag u nameA) e (letter-at no-such-tag 0 97 refl refl));
       different = λ t u n h k x y. omega (arith, h, k);
     })
     (λ p. let h = p .each 0 (omega arith) .tag in omega (arith, h))
 
 -- the last of two tags
 abbrev of-b : Sheet
-of-b = sheet-of (a ∷ b ∷ []) (record { production = record { nonterm = 0; tagno = 1; content = nothing }; own = no-programs; of-nodes = [] } ∷ [])
+of-b = sheet-of (nameA ∷ nameB ∷ []) (record { production = record { nonterm = 0; tagno = 1; content = nothing }; own = no-programs; of-nodes = [] } ∷ [])
 
 laid : Laid last-tag of-b [] []
 laid = record {

@@ -13,7 +13,7 @@ use Rattle.sheet.specs.Sheet.{Rule, Sheet, grammarOf, IsSheet}
 use Rattle.faults.specs.Verdict.{of-sheet}
 use Rattle.faults.specs.Checked.{too-short, all-listed, well-formed}
 use Rattle.runs.specs.Visits.{no-programs}
-use Rattle.runs.specs.Examples.{Each, rule, sheet-of, child-of, a}
+use Rattle.runs.specs.Examples.{Each, rule, sheet-of, child-of, nameA}
 use Rattle.worked.specs.Worked.{fault}
 use Rattle.worked.proofs.Laid.{other, Laid, laid-is-sheet}
 use Rattle.edges.specs.Edges.{r, two-faults, three-faults, of-faults}
@@ -22,7 +22,7 @@ use Rattle.edges.proofs.OneRule.{letter-at, no-fields}
 
 -- the sheets: a's production once, and twice
 abbrev sheet-with : List Rule → Sheet
-sheet-with more = sheet-of (r ∷ a ∷ []) (rule 0 (tree (cat (star (child-of 1)) (child-of 1))) no-programs ∷ rule 1 nothing no-programs ∷ more)
+sheet-with more = sheet-of (r ∷ nameA ∷ []) (rule 0 (tree (cat (star (child-of 1)) (child-of 1))) no-programs ∷ rule 1 nothing no-programs ∷ more)
 
 abbrev a-again : List Rule
 a-again = rule 1 nothing no-programs ∷ []

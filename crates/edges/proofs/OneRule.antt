@@ -18,7 +18,7 @@ use Rattle.sheet.specs.Fields.{FieldsAre, Programs}
 use Rattle.sheet.specs.Grounded.{Produced}
 use Rattle.sheet.specs.Defect.{DefectIs, well-formed, a-production, a-tree, a-program, not-grounded}
 use Rattle.runs.specs.Visits.{no-programs}
-use Rattle.runs.specs.Examples.{program, first-only, child-of, a}
+use Rattle.runs.specs.Examples.{program, first-only, child-of, nameA}
 use Rattle.worked.proofs.Laid.{its-size, its-sections, other}
 use Rattle.edges.specs.Edges.{startsAt, oneNode, becomes}
 
@@ -35,9 +35,9 @@ only : (P : ℕ → Type 0) → P 0 → (q : ℕ) → q < 1 → P q
 only P p q h = let e : 0 ≡ q = omega (arith, h) in subst P e p
 
 module _ (s : List ℕ) where
-  one-tag : tagCount s ≡ 1 → tagBytes s 0 ≡ tagRecord a → Tags s
+  one-tag : tagCount s ≡ 1 → tagBytes s 0 ≡ tagRecord nameA → Tags s
   one-tag e b = record {
-    named = λ t h. only (λ (u : ℕ). (n : List ℕ) × TagAt s u n) (a, letter-at s 0 97 refl b) t (omega (arith, e, h));
+    named = λ t h. only (λ (u : ℕ). (n : List ℕ) × TagAt s u n) (nameA, letter-at s 0 97 refl b) t (omega (arith, e, h));
     different = λ t u n h k x y. omega (arith, e, h, k);
   }
 

@@ -23,7 +23,7 @@ use Rattle.faults.specs.declared.Checked.{Checked}
 use Rattle.output.specs.Escape.{startTag}
 use Rattle.runs.specs.Visits.{attributes, no-programs}
 use Rattle.runs.specs.Taken.{Passed}
-use Rattle.runs.specs.Examples.{rule, sheet-of, child-of, a, endless}
+use Rattle.runs.specs.Examples.{rule, sheet-of, child-of, nameA, endless}
 use Rattle.salvage.specs.Shape.{OfShape, HasRecords}
 use Rattle.salvage.specs.Shaped.{recordTags, shapeNumber}
 use Rattle.state.specs.Bounds.{mostSets}
@@ -33,7 +33,7 @@ use Rattle.state.specs.declared.Frame.{Frame}
 use Rattle.state.specs.declared.State.{State}
 use Rattle.converter.specs.Answered.{FitsSheet, AnsweredAs}
 use Rattle.converter.specs.Bytes.{BytesAnsweredAs}
-use Rattle.worked.specs.Worked.{fault, unused, word, productionBytes, nodeBytes, trailerBytes}
+use Rattle.worked.specs.Worked.{fault, unused, smallWord, productionBytes, nodeBytes, trailerBytes}
 
 -- a row: so many bytes, and the number that they have, whichever they are; so many bytes, which have not number 1; bytes and their number;
 -- the bytes of a sheet and its number where no list is lent; the same with a lent list, that list then, the number and the count of the faults;
@@ -80,8 +80,8 @@ EdgeHolds (has-shape a t u) = (n : ℕ) × OfShape a n (record { root-tag = t; r
 EdgeHolds (no-shape a n) = (HasRecords a → ⊥) × (shapeNumber (recordTags a) ≡ n)
 
 -- The tags' names, beside a.
-abbrev pub b : List ℕ
-b = 98 ∷ []
+abbrev pub nameB : List ℕ
+nameB = 98 ∷ []
 
 abbrev pub r : List ℕ
 r = 114 ∷ []
@@ -89,36 +89,36 @@ r = 114 ∷ []
 -- n tags, and one production, of nonterminal 0 and tag t, with no nodes and no programs
 abbrev pub oneProduction : List ℕ → ℕ → ℕ → List ℕ
 oneProduction tags n t =
-    tags ++ (0 ∷ t ∷ (word 0 ++ word 0 ++ unused ++ unused ++ word 0)) ++ trailerBytes n (16 * n) 1 (16 * n + 12) 0 (16 * n + 12) 0 (16 * n + 12)
+    tags ++ (0 ∷ t ∷ (smallWord 0 ++ smallWord 0 ++ unused ++ unused ++ smallWord 0)) ++ trailerBytes n (16 * n) 1 (16 * n + 12) 0 (16 * n + 12) 0 (16 * n + 12)
 
 -- the production's tag number is the count of the tags; and it is that of the last tag
 abbrev pub no-such-tag : List ℕ
-no-such-tag = oneProduction (tagRecord a) 1 1
+no-such-tag = oneProduction (tagRecord nameA) 1 1
 
 abbrev pub last-tag : List ℕ
-last-tag = oneProduction (tagRecord a ++ tagRecord b) 2 1
+last-tag = oneProduction (tagRecord nameA ++ tagRecord nameB) 2 1
 
 -- tag a, and one production of it and of nonterminal 0: k nodes, the field of its first visit, n bytes of programs; then the start and the mark
 abbrev pub oneRule : List ℕ → ℕ → List ℕ → List ℕ → ℕ → List ℕ → List ℕ
 oneRule nodes k field programs n ending =
-    tagRecord a ++ productionBytes 0 0 k field unused ++ nodes ++ programs
-    ++ (word 0 ++ word 1 ++ word 16 ++ word 1 ++ word 28 ++ word k ++ word (28 + 6 * k) ++ word n ++ word (28 + 6 * k + n) ++ word 0) ++ ending
+    tagRecord nameA ++ productionBytes 0 0 k field unused ++ nodes ++ programs
+    ++ (smallWord 0 ++ smallWord 1 ++ smallWord 16 ++ smallWord 1 ++ smallWord 28 ++ smallWord k ++ smallWord (28 + 6 * k) ++ smallWord n ++ smallWord (28 + 6 * k + n) ++ smallWord 0) ++ ending
 
 -- with the start n, and nothing else
 abbrev pub startsAt : ℕ → List ℕ
-startsAt n = oneRule [] 0 unused [] 0 (word n ++ 0x58 ∷ 0x53 ∷ [])
+startsAt n = oneRule [] 0 unused [] 0 (smallWord n ++ 0x58 ∷ 0x53 ∷ [])
 
 -- with other bytes for the mark
 abbrev pub markedBy : List ℕ → List ℕ
-markedBy mark = oneRule [] 0 unused [] 0 (word 0 ++ mark)
+markedBy mark = oneRule [] 0 unused [] 0 (smallWord 0 ++ mark)
 
 -- with one node, of a kind and an argument
 abbrev pub oneNode : ℕ → ℕ → List ℕ
-oneNode kind argument = oneRule (nodeBytes kind argument) 1 unused [] 0 (word 0 ++ 0x58 ∷ 0x53 ∷ [])
+oneNode kind argument = oneRule (nodeBytes kind argument) 1 unused [] 0 (smallWord 0 ++ 0x58 ∷ 0x53 ∷ [])
 
 -- with the program "attribute 0 becomes v"
 abbrev pub becomes : ℕ → List ℕ
-becomes v = oneRule [] 0 (word 0) (1 ∷ 0 ∷ v ∷ 0 ∷ []) 4 (word 0 ++ 0x58 ∷ 0x53 ∷ [])
+becomes v = oneRule [] 0 (smallWord 0) (1 ∷ 0 ∷ v ∷ 0 ∷ []) 4 (smallWord 0 ++ 0x58 ∷ 0x53 ∷ [])
 
 -- a number of two bytes, over 255 too
 abbrev pub twoBytes : ℕ → List ℕ
@@ -127,13 +127,13 @@ twoBytes n = (n % 256) ∷ (n / 256) ∷ []
 -- n tags, all of zeros, and one production, of tag 0
 abbrev pub blankTags : ℕ → List ℕ
 blankTags n =
-    replicate (16 * n) 0 ++ productionBytes 0 0 0 unused unused ++ word 0 ++ twoBytes n ++ twoBytes (16 * n) ++ word 1 ++ twoBytes (16 * n + 12) ++ word 0 ++ twoBytes (16 * n + 12) ++ word 0
-    ++ twoBytes (16 * n + 12) ++ word 0 ++ word 0 ++ 0x58 ∷ 0x53 ∷ []
+    replicate (16 * n) 0 ++ productionBytes 0 0 0 unused unused ++ smallWord 0 ++ twoBytes n ++ twoBytes (16 * n) ++ smallWord 1 ++ twoBytes (16 * n + 12) ++ smallWord 0 ++ twoBytes (16 * n + 12) ++ smallWord 0
+    ++ twoBytes (16 * n + 12) ++ smallWord 0 ++ smallWord 0 ++ 0x58 ∷ 0x53 ∷ []
 
 -- a*.a: tags r, a; production 0 is r with it, production 1 is a, empty; then more productions, n with those two
 abbrev pub starThenA : List ℕ → ℕ → List ℕ
 starThenA more n =
-    tagRecord r ++ tagRecord a ++ productionBytes 0 0 4 unused unused ++ productionBytes 1 4 0 unused unused ++ more
+    tagRecord r ++ tagRecord nameA ++ productionBytes 0 0 4 unused unused ++ productionBytes 1 4 0 unused unused ++ more
     ++ nodeBytes 3 0 ++ nodeBytes 5 0 ++ nodeBytes 1 1 ++ nodeBytes 1 1 ++ trailerBytes 2 32 n (32 + 12 * n) 4 (56 + 12 * n) 0 (56 + 12 * n)
 
 -- two S faults; and with production 1 once more, a T fault beside them
@@ -176,7 +176,7 @@ in-use n c k = record { values = replicate attributes 63; echo = false; count = 
 
 -- a*, of which the root is r, and a, empty; then more productions
 abbrev pub records : List Rule → Sheet
-records more = sheet-of (r ∷ a ∷ b ∷ []) (rule 0 (tree (star (child-of 1))) no-programs ∷ rule 1 nothing no-programs ∷ more)
+records more = sheet-of (r ∷ nameA ∷ nameB ∷ []) (rule 0 (tree (star (child-of 1))) no-programs ∷ rule 1 nothing no-programs ∷ more)
 
 -- the start's second production, whose tag is b
 abbrev pub second-start : Rule
@@ -197,7 +197,7 @@ of-sheets =
     -- 3: tags have names (1 and 64 of zeros have none), and are all different
     ∷ has-number (blankTags 1) 3
     ∷ has-number (blankTags 64) 3
-    ∷ has-number (oneProduction (tagRecord a ++ tagRecord a) 2 0) 3
+    ∷ has-number (oneProduction (tagRecord nameA ++ tagRecord nameA) 2 0) 3
     -- 4: a production's tag number is that of a tag, so below their count; the last one is
     ∷ has-number no-such-tag 4
     ∷ has-number last-tag 0
@@ -217,7 +217,7 @@ of-sheets =
     ∷ has-number (oneNode 1 1) 7
     ∷ has-number (oneNode 1 63) 7
     -- each number over the whole sheet, in number order: a tag and a production are not as above
-    ∷ has-number (oneProduction (tagRecord a ++ tagRecord a) 2 2) 3
+    ∷ has-number (oneProduction (tagRecord nameA ++ tagRecord nameA) 2 2) 3
     ∷ []
 
 -- 8 to 10: sheets with faults

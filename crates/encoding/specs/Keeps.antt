@@ -13,7 +13,7 @@ use Rattle.programs.specs.Limits.{IsProgram, Visit, first, second, allowed}
 use Rattle.sheet.specs.Fields.{Visits}
 use Rattle.sheet.specs.Sheet.{Rule, Sheet}
 use Rattle.notation.specs.Tokens.{TagName}
-use Rattle.notation.specs.Limits.{depthOf}
+use Rattle.notation.specs.Limits.{contentDepth}
 use Rattle.encoding.specs.Distinct.{AllDifferent}
 
 abbrev pub AllNames : List (List ℕ) → Type 0
@@ -36,7 +36,7 @@ pub record RuleKeeps (s : Sheet) (r : Rule) : Type 0 where
   pub tag : r .production .tagno < length (s .names)
   pub each-node : length (r .of-nodes) ≡ nodesOf (r .production .content)
   pub few-nodes : nodesOf (r .production .content) ≤ nodesAtMost
-  pub shallow : depthOf (r .production .content) ≤ deepestTree
+  pub shallow : contentDepth (r .production .content) ≤ deepestTree
   pub own : VisitsKeep s (r .own)
   pub nodes : AllKeep s (r .of-nodes)
 

@@ -2,16 +2,16 @@
 use mathlib.Core.List.{List, [], _∷_, _++_}
 use mathlib.Core.Option.{Option, none, some}
 use Prim.Native.Nat.{ℕ}
-use Rattle.notation.specs.Program.{Statement, become, copy, recall, reject, print-start, print-end, print-text, echo, branch, Program, done, step}
-use Rattle.notation.specs.Rules.{Visits, Tree, node, Form, atom, cat, alt, star, empty, Rule, Rules}
+use Rattle.notation.specs.Program.{TextStatement, become, copy, recall, reject, print-start, print-end, print-text, echo, branch, TextProgram, done, step}
+use Rattle.notation.specs.Rules.{TextVisits, Tree, node, Form, atom, cat, alt, star, empty, TextRule, Rules}
 
 pub data Mention : Type 0 where
   a-tag : List ℕ → Mention
   a-string : List ℕ → Mention
-  a-program : Program → Mention
+  a-program : TextProgram → Mention
 
 abbrev mutual
-  pub inStatement : Statement → List Mention
+  pub inStatement : TextStatement → List Mention
   inStatement (become a v) = []
   inStatement (copy a b) = []
   inStatement (recall a b) = []
@@ -22,12 +22,12 @@ abbrev mutual
   inStatement (echo on) = []
   inStatement (branch c l m) = inProgram l ++ inProgram m
 
-  pub inProgram : Program → List Mention
+  pub inProgram : TextProgram → List Mention
   inProgram done = []
   inProgram (step t p) = inStatement t ++ inProgram p
 
 -- a program stands where its braces do
-abbrev pub inBraces : Option Program → List Mention
+abbrev pub inBraces : Option TextProgram → List Mention
 inBraces none = []
 inBraces (some p) = inProgram p ++ a-program p ∷ []
 
@@ -47,28 +47,28 @@ abbrev pub inContent : Option Tree → List Mention
 inContent none = []
 inContent (some e) = inTree e
 
-abbrev pub inRule : Rule → List Mention
+abbrev pub inRule : TextRule → List Mention
 inRule r = inBraces (r .own .first-visit) ++ (a-tag (r .tag) ∷ (inContent (r .inside) ++ inBraces (r .own .second-visit)))
 
-abbrev pub inRules : List Rule → List Mention
+abbrev pub inRules : List TextRule → List Mention
 inRules [] = []
 inRules (r ∷ rs) = inRule r ++ inRules rs
 
 -- of one sort
-abbrev pub tagsIn : List Mention → List (List ℕ)
-tagsIn [] = []
-tagsIn (a-tag n ∷ ms) = n ∷ tagsIn ms
-tagsIn (a-string s ∷ ms) = tagsIn ms
-tagsIn (a-program p ∷ ms) = tagsIn ms
+abbrev pub tagsMentioned : List Mention → List (List ℕ)
+tagsMentioned [] = []
+tagsMentioned (a-tag n ∷ ms) = n ∷ tagsMentioned ms
+tagsMentioned (a-string s ∷ ms) = tagsMentioned ms
+tagsMentioned (a-program p ∷ ms) = tagsMentioned ms
 
-abbrev pub stringsIn : List Mention → List (List ℕ)
-stringsIn [] = []
-stringsIn (a-tag n ∷ ms) = stringsIn ms
-stringsIn (a-string s ∷ ms) = s ∷ stringsIn ms
-stringsIn (a-program p ∷ ms) = stringsIn ms
+abbrev pub stringsMentioned : List Mention → List (List ℕ)
+stringsMentioned [] = []
+stringsMentioned (a-tag n ∷ ms) = stringsMentioned ms
+stringsMentioned (a-string s ∷ ms) = s ∷ stringsMentioned ms
+stringsMentioned (a-program p ∷ ms) = stringsMentioned ms
 
-abbrev pub programsIn : List Mention → List Program
-programsIn [] = []
-programsIn (a-tag n ∷ ms) = programsIn ms
-programsIn (a-string s ∷ ms) = programsIn ms
-programsIn (a-program p ∷ ms) = p ∷ programsIn ms
+abbrev pub programsMentioned : List Mention → List TextProgram
+programsMentioned [] = []
+programsMentioned (a-tag n ∷ ms) = programsMentioned ms
+programsMentioned (a-string s ∷ ms) = programsMentioned ms
+programsMentioned (a-program p ∷ ms) = p ∷ programsMentioned ms

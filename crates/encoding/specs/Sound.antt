@@ -10,12 +10,12 @@ use Rattle.text.specs.Characters.{WholeCharacters}
 use Rattle.expressions.specs.Expr.{Atom, nonterminal, anychar}
 use Rattle.expressions.specs.Grammar.{nonterminals}
 use Rattle.programs.specs.Limits.{Attribute, Value, ConditionFits, Visit, first, second, isFirst, isSecond, conditionAllowed}
-use Rattle.notation.specs.Program.{Statement, become, copy, recall, reject, print-start, print-end, print-text, echo, branch, Program, done, step}
-use Rattle.notation.specs.Rules.{Tree, node, Form, atom, cat, alt, star, empty, Rule, Rules}
+use Rattle.notation.specs.Program.{TextStatement, become, copy, recall, reject, print-start, print-end, print-text, echo, branch, TextProgram, done, step}
+use Rattle.notation.specs.Rules.{Tree, node, Form, atom, cat, alt, star, empty, TextRule, Rules}
 use Rattle.notation.specs.Tokens.{TagName}
 
 abbrev mutual
-  pub SoundStatement : Visit → Statement → Type 0
+  pub SoundStatement : Visit → TextStatement → Type 0
   SoundStatement v (become a x) = Attribute a × Value x
   SoundStatement v (copy a b) = Attribute a × Attribute b
   SoundStatement v (recall a b) = (Attribute a × Attribute b) × (isSecond v ≡ true)
@@ -26,11 +26,11 @@ abbrev mutual
   SoundStatement v (echo on) = isFirst v ≡ true
   SoundStatement v (branch c l m) = (ConditionFits c × (conditionAllowed v c ≡ true)) × (Sound v l × Sound v m)
 
-  pub Sound : Visit → Program → Type 0
+  pub Sound : Visit → TextProgram → Type 0
   Sound v done = Unit {0}
   Sound v (step t p) = SoundStatement v t × Sound v p
 
-abbrev pub SoundIf : Visit → Option Program → Type 0
+abbrev pub SoundIf : Visit → Option TextProgram → Type 0
 SoundIf v none = Unit {0}
 SoundIf v (some p) = Sound v p
 
@@ -53,14 +53,14 @@ abbrev pub SoundContent : Option Tree → Type 0
 SoundContent none = Unit {0}
 SoundContent (some e) = SoundTree e
 
-pub record SoundRule (r : Rule) : Type 0 where
+pub record SoundRule (r : TextRule) : Type 0 where
   pub numbered : r .nonterminal < nonterminals
   pub named : TagName (r .tag)
   pub before : SoundIf first (r .own .first-visit)
   pub after : SoundIf second (r .own .second-visit)
   pub content : SoundContent (r .inside)
 
-abbrev pub AllSound : List Rule → Type 0
+abbrev pub AllSound : List TextRule → Type 0
 AllSound [] = Unit {0}
 AllSound (r ∷ rs) = SoundRule r × AllSound rs
 

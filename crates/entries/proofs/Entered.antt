@@ -9,14 +9,14 @@ use lib.Seq.{take-at, length-take-le}
 use Rattle.lent.specs.Put.{PutAs}
 use Rattle.lent.proofs.Laws.{put-all, put-length}
 use Rattle.expressions.specs.Expr.{Content, nothing, tree, nodesOf}
-use Rattle.records.specs.Records.{productionBytes, ProductionFits}
+use Rattle.records.specs.Records.{recordBytes, FitsRecord}
 use Rattle.models.specs.Models.{ContentSpec, Declaration}
 use Rattle.models.specs.Expressions.{specContent, specNodes}
 use Rattle.models.specs.Family.{nodesTogether, Holdable}
 use Rattle.models.specs.Sheets.{numberOfName, tagOfName}
 use Rattle.models.proofs.Counted.{nodes-counted}
 use Rattle.declarations.specs.declared.NodeRow.{NodeRow}
-use Rattle.declarations.specs.Nodes.{contentPreorder, Lays}
+use Rattle.declarations.specs.Nodes.{contentPreorder, LaysNodes}
 use Rattle.declarations.proofs.Laws.{two-bytes}
 use Rattle.declaring.specs.Sections.{declaredProductions, declaredNodes, nodeRecords}
 use Rattle.declaring.proofs.Sections.{one-declaration-more, sections-long}
@@ -36,14 +36,14 @@ content-bytes nothing = refl
 content-bytes (tree e) = two-bytes e
 
 -- two bytes for each node
-pub laid-count : (number : List ℕ → ℕ) (c : ContentSpec) (row : NodeRow) → Lays (contentPreorder (specContent number c)) row → row .length ≡ 2 * specNodes c
+pub laid-count : (number : List ℕ → ℕ) (c : ContentSpec) (row : NodeRow) → LaysNodes (contentPreorder (specContent number c)) row → row .length ≡ 2 * specNodes c
 laid-count number c row l = omega (arith, l .length-is, content-bytes (specContent number c), nodes-counted number c)
 
 module _ (old : Tally) (element tag : ℕ) (row : NodeRow) (productions nodes productions′ nodes′ : List ℕ) where
   abbrev count : ℕ
   count = row .length / 2
 
-  pub entry-fits : EntryFits old element tag row → ProductionFits element tag (old .nodes) count 0xFFFF 0xFFFF
+  pub entry-fits : EntryFits old element tag row → FitsRecord element tag (old .nodes) count 0xFFFF 0xFFFF
   entry-fits f = record {
     nonterminal-fits = omega (arith, f .element-small);
     tag-fits = omega (arith, f .tag-small);
@@ -53,7 +53,7 @@ module _ (old : Tally) (element tag : ℕ) (row : NodeRow) (productions nodes pr
     back-fits = omega arith;
   }
 
-  pub entered-as : (n m : ℕ) → PutAs true productions (12 * old .productions) (productionBytes element tag (old .nodes) count 0xFFFF 0xFFFF) productions′ n
+  pub entered-as : (n m : ℕ) → PutAs true productions (12 * old .productions) (recordBytes element tag (old .nodes) count 0xFFFF 0xFFFF) productions′ n
       → PutAs true nodes (6 * old .nodes) (nodeRecords (take (row .length) (row .bytes))) nodes′ m
       → EnteredIs old element tag row productions nodes productions′ nodes′ (record { productions = old .productions + 1; nodes = old .nodes + count })
   entered-as n m p q = record {
@@ -72,10 +72,10 @@ module _ (old : Tally) (element tag : ℕ) (row : NodeRow) (productions nodes pr
           let long = length-append ds (d ∷ []) in
           let c : Content = specContent (numberOfName all) (d .content) in
           let counted : count ≡ specNodes (d .content) = let z = laid-count (numberOfName all) (d .content) row (o .laid) in omega (arith, z) in
-          let new : List ℕ = productionBytes element tag (old .nodes) count 0xFFFF 0xFFFF in
-          let same : new ≡ productionBytes (numberOfName all (d .declared)) (tagOfName all (d .declared)) (nodesTogether ds) (specNodes (d .content)) 0xFFFF 0xFFFF =
-          ap₂ (λ (a b : ℕ). productionBytes a b (old .nodes) count 0xFFFF 0xFFFF) (o .number-is) (o .tag-is)
-          ∙ ap₂ (λ (a b : ℕ). productionBytes (numberOfName all (d .declared)) (tagOfName all (d .declared)) a b 0xFFFF 0xFFFF) (k .nodes-are) counted in
+          let new : List ℕ = recordBytes element tag (old .nodes) count 0xFFFF 0xFFFF in
+          let same : new ≡ recordBytes (numberOfName all (d .declared)) (tagOfName all (d .declared)) (nodesTogether ds) (specNodes (d .content)) 0xFFFF 0xFFFF =
+          ap₂ (λ (a b : ℕ). recordBytes a b (old .nodes) count 0xFFFF 0xFFFF) (o .number-is) (o .tag-is)
+          ∙ ap₂ (λ (a b : ℕ). recordBytes (numberOfName all (d .declared)) (tagOfName all (d .declared)) a b 0xFFFF 0xFFFF) (k .nodes-are) counted in
           let far : 12 * (old .productions + 1) ≡ 12 * old .productions + length new = omega arith in
           let pairs : List ℕ = take (row .length) (row .bytes) in
           let bytes : nodeRecords pairs ≡ nodeRecords (contentPreorder c) = ap nodeRecords (o .laid .bytes-are) in

@@ -9,7 +9,7 @@ use Rattle.models.specs.Expressions.{specContent}
 use Rattle.models.specs.Family.{nodesTogether, Holdable}
 use Rattle.models.specs.Sheets.{numberOfName, tagOfName}
 use Rattle.declarations.specs.declared.NodeRow.{NodeRow}
-use Rattle.declarations.specs.Nodes.{contentPreorder, Lays}
+use Rattle.declarations.specs.Nodes.{contentPreorder, LaysNodes}
 use Rattle.declaring.specs.Sections.{declaredProductions, declaredNodes}
 use Rattle.entries.specs.declared.Tally.{Tally}
 
@@ -29,7 +29,7 @@ pub record DeclarationsHeld (ds : List Declaration) (t : Tally) (productions nod
 pub record EntryOf (ds : List Declaration) (d : Declaration) (element tag : ℕ) (row : NodeRow) : Type 0 where
   pub number-is : element ≡ numberOfName (ds ++ d ∷ []) (d .declared)
   pub tag-is : tag ≡ tagOfName (ds ++ d ∷ []) (d .declared)
-  pub laid : Lays (contentPreorder (specContent (numberOfName (ds ++ d ∷ [])) (d .content))) row
+  pub laid : LaysNodes (contentPreorder (specContent (numberOfName (ds ++ d ∷ [])) (d .content))) row
 
 -- numbers that a record can hold
 pub record EntryFits (t : Tally) (element tag : ℕ) (row : NodeRow) : Type 0 where

@@ -21,7 +21,7 @@ use Rattle.extents.specs.declared.Layer.{Layer}
 use Rattle.extents.specs.declared.Layer.the-variants.{Among, Then, Else}
 use Rattle.extents.specs.declared.Around.{Around}
 use Rattle.extents.specs.declared.Closed.{Closed}
-use Rattle.extents.specs.Held.{ExtentIs, Sized, extentOf, sideOf, marginOf, layerOf, aroundOf, bareAround, bareMargin, layersAt, marginsAt, mostAround, mostMargins, isAmong, ClosedIs}
+use Rattle.extents.specs.Held.{ExtentIs, SmallExtent, extentOf, sideOf, marginOf, layerOf, aroundOf, bareAround, bareMargin, layersAt, marginsAt, mostAround, mostMargins, isAmong, ClosedIs}
 use Rattle.extents.proofs.Stacks.{top}
 
 -- how long a field that is an array of structs is: its relation speaks of the mapped list
@@ -31,14 +31,14 @@ length-of-structs f l n p = sym (length-map l f) ∙ p
 pub extent-same : {r : Extent} {e : outlines.Extent} → ExtentIs r e → extentOf r ≡ e
 extent-same h = ap₂ extent (h .bytes-are) (h .nested-is)
 
-sized : {n : ℕ} {e : Extent} → n ≤ 1000000 → ExtentUnder n (extentOf e) → Sized e
+sized : {n : ℕ} {e : Extent} → n ≤ 1000000 → ExtentUnder n (extentOf e) → SmallExtent e
 sized g h = record { few-bytes = omega arith; few-deep = omega arith }
 
-pub extent-sized : {e : Extent} → ExtentUnder 1000 (extentOf e) → Sized e
+pub extent-sized : {e : Extent} → ExtentUnder 1000 (extentOf e) → SmallExtent e
 extent-sized h = sized {n = 1000} (omega arith) h
 
 -- sides
-pub side-sized : (o : Side) (e : Extent) → o ≡ Of e → SideUnder 1000 (sideOf o) → Sized e
+pub side-sized : (o : Side) (e : Extent) → o ≡ Of e → SideUnder 1000 (sideOf o) → SmallExtent e
 side-sized o e q h = sized {n = 1000} (omega arith) (subst (λ x. SideUnder 1000 (sideOf x)) q h)
 
 pub paired-of : (o : Side) (e d r : Extent) → o ≡ Of e → ExtentIs r (paired (extentOf e) (extentOf d)) → ExtentIs r (pairedWith (sideOf o) (extentOf d))
@@ -48,13 +48,13 @@ pub paired-blank : (o : Side) (d : Extent) → o ≡ Blank → ExtentIs d (paire
 paired-blank o d q = subst (λ x. ExtentIs d (pairedWith (sideOf x) (extentOf d))) (sym q) (record { bytes-are = refl; nested-is = refl })
 
 -- layers
-pub among-sized : (l : Layer) (b : Extent) → l ≡ Among b → LayerUnder 1000 (layerOf l) → Sized b
+pub among-sized : (l : Layer) (b : Extent) → l ≡ Among b → LayerUnder 1000 (layerOf l) → SmallExtent b
 among-sized l b q h = sized {n = 1000} (omega arith) (subst (λ x. LayerUnder 1000 (layerOf x)) q h)
 
-pub then-sized : (l : Layer) (c : Extent) → l ≡ Then c → LayerUnder 1000 (layerOf l) → Sized c
+pub then-sized : (l : Layer) (c : Extent) → l ≡ Then c → LayerUnder 1000 (layerOf l) → SmallExtent c
 then-sized l c q h = sized {n = 1000} (omega arith) (subst (λ x. LayerUnder 1000 (layerOf x)) q h)
 
-pub else-sized : (l : Layer) (c d : Extent) → l ≡ Else c d → LayerUnder 1000 (layerOf l) → Sized c × Sized d
+pub else-sized : (l : Layer) (c d : Extent) → l ≡ Else c d → LayerUnder 1000 (layerOf l) → SmallExtent c × SmallExtent d
 else-sized l c d q h = let g = subst (λ x. LayerUnder 1000 (layerOf x)) q h in (sized {n = 1000} (omega arith) (g .0), sized {n = 1000} (omega arith) (g .1))
 
 pub wrapped-as : (l m : Layer) (p r : Extent) → l ≡ m → ExtentIs r (wrapped (layerOf m) (extentOf p)) → ExtentIs r (wrapped (layerOf l) (extentOf p))
@@ -70,7 +70,7 @@ pub record Going (xs : List Around) (n i : ℕ) (e : Extent) : Type 0 where
 pub going-start : (xs : List Around) (n : ℕ) (e : Extent) → LayersUnder 1000 (layersAt xs n) → ExtentUnder 300000 (extentOf e) → Going xs n n e
 going-start xs n e h g = record { at-most = omega arith; few-bytes = omega (arith, g .few-bytes); few-deep = omega (arith, g .few-deep); small = h }
 
-pub going-sized : {xs : List Around} {n i : ℕ} {e : Extent} → n ≤ mostAround → Going xs n i e → Sized e
+pub going-sized : {xs : List Around} {n i : ℕ} {e : Extent} → n ≤ mostAround → Going xs n i e → SmallExtent e
 going-sized m h = record { few-bytes = omega arith; few-deep = omega arith }
 
 cut : (xs : List Around) (i : ℕ) (z : Around) → 0 < i → i ≤ length xs → layersAt xs i ≡ aroundOf (getD xs (i - 1) z) ∷ layersAt xs (i - 1)

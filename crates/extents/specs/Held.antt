@@ -27,7 +27,7 @@ pub record ExtentIs (r : Extent) (e : outlines.Extent) : Type 0 where
   pub nested-is : r .nested ≡ e .nested
 
 -- so small that sums of a few are numbers of a machine
-pub record Sized (e : Extent) : Type 0 where
+pub record SmallExtent (e : Extent) : Type 0 where
   pub few-bytes : e .bytes ≤ 1000000
   pub few-deep : e .nested ≤ 1000000
 

@@ -2,13 +2,13 @@
 ghost use mathlib.Core.Path.{_≡_};
 ghost use mathlib.Core.Bool.{_&&_};
 ghost use Prim.Native.Nat.{_≤_, _<_};
-ghost use Rattle.programs.specs.Parsed.{visit};
+ghost use Rattle.programs.specs.Parsed.{whichVisit};
 ghost use Rattle.outlines.specs.Extents.{paired, inTurn, branching};
 ghost use Rattle.outlines.specs.Kinds.{isTarget, isOperand, isPlain, isShortItem, isLongItem};
 ghost use Rattle.outlines.specs.Conditions.{pairedWith, upToAnd, withMargins};
 ghost use Rattle.outlines.specs.Statements.{wrapped, wrappedIn};
 ghost use Rattle.outlines.specs.Shape.{ExtentUnder, LayerUnder, LayersUnder, SideUnder, MarginUnder, MarginsUnder};
-ghost use Rattle.extents.specs.Held.{ExtentIs, Sized, extentOf, sideOf, marginOf, layerOf, layersAt, marginsAt, mostAround, mostMargins, isAmong, ClosedIs};
+ghost use Rattle.extents.specs.Held.{ExtentIs, SmallExtent, extentOf, sideOf, marginOf, layerOf, layersAt, marginsAt, mostAround, mostMargins, isAmong, ClosedIs};
 use lexing::larger;
 
 // How many bytes a part has, and how deep if, not, and, or nest in it.
@@ -58,7 +58,7 @@ pub struct Closed {
 
 // Whether a kind is an attribute's that may be assigned.
 pub fn is_target(kind: usize, second: bool) -> bool
-    ensures { λ r. ⌜ r ≡ isTarget (visit second) kind ⌝ }
+    ensures { λ r. ⌜ r ≡ isTarget (whichVisit second) kind ⌝ }
 {
     if kind == 2 {
         return true;
@@ -74,7 +74,7 @@ pub fn is_target(kind: usize, second: bool) -> bool
 
 // Whether a kind is a value's or an attribute's that may be read.
 pub fn is_operand(kind: usize, second: bool) -> bool
-    ensures { λ r. ⌜ r ≡ isOperand (visit second) kind ⌝ }
+    ensures { λ r. ⌜ r ≡ isOperand (whichVisit second) kind ⌝ }
 {
     if kind == 1 {
         return true;
@@ -90,7 +90,7 @@ pub fn is_operand(kind: usize, second: bool) -> bool
 
 // Whether a kind is a statement by itself.
 pub fn is_plain(kind: usize, second: bool) -> bool
-    ensures { λ r. ⌜ r ≡ isPlain (visit second) kind ⌝ }
+    ensures { λ r. ⌜ r ≡ isPlain (whichVisit second) kind ⌝ }
 {
     if kind == 13 {
         return true;
@@ -133,8 +133,8 @@ pub fn both(a: bool, b: bool) -> bool
 
 // c and d, c or d.
 pub fn pair(c: Extent, d: Extent) -> Extent
-    requires { ⌜ Sized c ⌝ }
-    requires { ⌜ Sized d ⌝ }
+    requires { ⌜ SmallExtent c ⌝ }
+    requires { ⌜ SmallExtent d ⌝ }
     ensures { λ r. ⌜ ExtentIs r (paired (extentOf c) (extentOf d)) ⌝ }
 {
     Extent {
@@ -145,7 +145,7 @@ pub fn pair(c: Extent, d: Extent) -> Extent
 
 pub fn pair_with(o: Side, d: Extent) -> Extent
     requires { ⌜ SideUnder 1000 (sideOf o) ⌝ }
-    requires { ⌜ Sized d ⌝ }
+    requires { ⌜ SmallExtent d ⌝ }
     ensures { λ r. ⌜ ExtentIs r (pairedWith (sideOf o) (extentOf d)) ⌝ }
 {
     match o {
@@ -169,8 +169,8 @@ pub fn up_to_and(m: Margin, c: Extent) -> Extent
 }
 
 pub fn in_turn(p: Extent, q: Extent) -> Extent
-    requires { ⌜ Sized p ⌝ }
-    requires { ⌜ Sized q ⌝ }
+    requires { ⌜ SmallExtent p ⌝ }
+    requires { ⌜ SmallExtent q ⌝ }
     ensures { λ r. ⌜ ExtentIs r (inTurn (extentOf p) (extentOf q)) ⌝ }
 {
     Extent {
@@ -181,9 +181,9 @@ pub fn in_turn(p: Extent, q: Extent) -> Extent
 
 // if c then p else q.
 pub fn branch(c: Extent, p: Extent, q: Extent) -> Extent
-    requires { ⌜ Sized c ⌝ }
-    requires { ⌜ Sized p ⌝ }
-    requires { ⌜ Sized q ⌝ }
+    requires { ⌜ SmallExtent c ⌝ }
+    requires { ⌜ SmallExtent p ⌝ }
+    requires { ⌜ SmallExtent q ⌝ }
     ensures { λ r. ⌜ ExtentIs r (branching (extentOf c) (extentOf p) (extentOf q)) ⌝ }
 {
     let inner = larger(p.nested, q.nested);
@@ -196,7 +196,7 @@ pub fn branch(c: Extent, p: Extent, q: Extent) -> Extent
 // What lies at the place within its layer.
 pub fn wrap(l: Layer, p: Extent) -> Extent
     requires { ⌜ LayerUnder 1000 (layerOf l) ⌝ }
-    requires { ⌜ Sized p ⌝ }
+    requires { ⌜ SmallExtent p ⌝ }
     ensures { λ r. ⌜ ExtentIs r (wrapped (layerOf l) (extentOf p)) ⌝ }
 {
     match l {

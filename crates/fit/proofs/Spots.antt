@@ -22,7 +22,7 @@ use Rattle.runs.specs.Nodes.{one-of, inside-node, nodesAt}
 use Rattle.fit.specs.declared.Spot.{Spot}
 use Rattle.fit.specs.declared.Walked.{Walked}
 use Rattle.fit.specs.Fit.{atomIn, childOf}
-use Rattle.fit.specs.Tests.{childNumber, SpotOf, here, nowhere, LeafOf, AroundOf, WalkedAs}
+use Rattle.fit.specs.Tests.{childNumber, SpotOf, here, nowhere, AtomWalked, AroundOf, WalkedAs}
 
 leaf-spot : (b : Bool) (k : Atom) (i : ℕ) (r : Spot) → r .there ≡ b → r .«open» ≡ 1 → r .child ≡ childNumber (childOf (some k)) →
     SpotOf r (whenTrue b (i ∷ [])) (childOf (whenTrue b k))
@@ -38,7 +38,7 @@ module _ (s : List ℕ) (p at j : ℕ) where
   abbrev Finds : Spot → Exp → Type 0
   Finds r e = (i : ℕ) → SpotOf r (nodesAt e i j p) (childOf (atomIn e j p))
 
-  leaf-walked : (k : Atom) (r : Walked) (n : ℕ) → LeafOf (eqb p j) n (at + 1) (j + 1) r → n ≡ childNumber (childOf (some k)) → ((e : Exp) → TreeAt s at e → e ≡ atom k) →
+  leaf-walked : (k : Atom) (r : Walked) (n : ℕ) → AtomWalked (eqb p j) n (at + 1) (j + 1) r → n ≡ childNumber (childOf (some k)) → ((e : Exp) → TreeAt s at e → e ≡ atom k) →
       at < nodeCount s → WalkedAs s p at j r
   leaf-walked k r n q c only i =
       record {
@@ -49,13 +49,13 @@ module _ (s : List ℕ) (p at j : ℕ) where
         finds = λ e h. subst (Finds (r .spot)) (sym (only e h)) (λ m. leaf-spot (eqb p j) k m (r .spot) (q .there-is) (q .one-open) (q .child-is ∙ c));
       }
 
-  pub nonterminal-walked : (r : Walked) (n : ℕ) → LeafOf (eqb p j) n (at + 1) (j + 1) r → kindOf s at ≡ 1 → n ≡ argumentOf s at → at < nodeCount s → WalkedAs s p at j r
+  pub nonterminal-walked : (r : Walked) (n : ℕ) → AtomWalked (eqb p j) n (at + 1) (j + 1) r → kindOf s at ≡ 1 → n ≡ argumentOf s at → at < nodeCount s → WalkedAs s p at j r
   nonterminal-walked r n q k a i = leaf-walked (nonterminal (argumentOf s at)) r n q a (λ e h. by-kind-1 s at k e h .0) i
 
-  pub character-walked : (r : Walked) → LeafOf (eqb p j) 256 (at + 1) (j + 1) r → kindOf s at ≡ 2 → at < nodeCount s → WalkedAs s p at j r
+  pub character-walked : (r : Walked) → AtomWalked (eqb p j) 256 (at + 1) (j + 1) r → kindOf s at ≡ 2 → at < nodeCount s → WalkedAs s p at j r
   character-walked r q k i = leaf-walked anychar r 256 q refl (λ e h. by-kind-2 s at k e h .0) i
 
-  pub empty-walked : (r : Walked) → LeafOf false 256 (at + 1) j r → 5 < kindOf s at → at < nodeCount s → WalkedAs s p at j r
+  pub empty-walked : (r : Walked) → AtomWalked false 256 (at + 1) j r → 5 < kindOf s at → at < nodeCount s → WalkedAs s p at j r
   empty-walked r q k i =
       record {
         on = omega (arith, q .next-of);

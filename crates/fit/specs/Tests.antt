@@ -57,7 +57,7 @@ pub record FitTold (s : List ℕ) (z : State) (r : Bool) : Type 0 where
   pub tells : (g : List Production) → GrammarIs s g → Tells (Fit g (start s) z) r
 
 -- an atom, one node deep
-pub record LeafOf (there : Bool) (child next atom-past : ℕ) (r : Walked) : Type 0 where
+pub record AtomWalked (there : Bool) (child next atom-past : ℕ) (r : Walked) : Type 0 where
   pub there-is : r .spot .there ≡ there
   pub child-is : r .spot .child ≡ child
   pub one-open : r .spot .«open» ≡ 1

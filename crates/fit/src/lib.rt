@@ -15,7 +15,7 @@ ghost use Rattle.state.specs.Bounds.{mostSets};
 ghost use Rattle.state.specs.Bytes.{stateFrom};
 ghost use Rattle.state.specs.Meaning.{Every};
 ghost use Rattle.fit.specs.Fit.{SetFits, ClosingFits};
-ghost use Rattle.fit.specs.Tests.{LeafOf, AroundOf, WalkedAs, SpotIs, FrameTold, FramesTold, FitTold};
+ghost use Rattle.fit.specs.Tests.{AtomWalked, AroundOf, WalkedAs, SpotIs, FrameTold, FramesTold, FitTold};
 use layout::Layout;
 use layout::argument_of;
 use layout::first_node_of;
@@ -53,7 +53,7 @@ pub struct Fitted {
 
 // An atom, which may be the one that is looked for; or the empty node, which is none.
 fn leaf(there: bool, child: usize, next: usize, atom: usize) -> Walked
-    ensures { λ r. ⌜ LeafOf there child next atom r ⌝ }
+    ensures { λ r. ⌜ AtomWalked there child next atom r ⌝ }
 {
     let spot = Spot {
         there: there,

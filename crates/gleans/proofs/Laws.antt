@@ -12,7 +12,7 @@ use Rattle.programs.specs.Limits.{StatementFits, StatementsFit, Printable}
 use Rattle.programs.proofs.Reading.{byte-of, first-byte, starts-length}
 use Rattle.layout.specs.Layout.{byteAt, wordAt}
 use Rattle.sheet.specs.Sheet.{Sheet}
-use Rattle.encoding.specs.Mentions.{Mention, a-tag, a-string, a-program, inStatement, inProgram, stringsIn}
+use Rattle.encoding.specs.Mentions.{Mention, a-tag, a-string, a-program, inStatement, inProgram, stringsMentioned}
 use Rattle.naming.specs.ByName.{statementNamed, programNamed}
 use Rattle.visits.specs.Evaluated.{LiesAt}
 use Rattle.visits.proofs.Lying.{statement-of}
@@ -28,7 +28,7 @@ use Rattle.gleans.specs.Gleans.{StoredIf, KeptAs, StringIs, StatementStr
 use Rattle.gleans.specs.declared.Kept.{Kept}
 use Rattle.gleans.proofs.Stored.{rows-few, Parts, Any, kept-nothing, kept-as, kept-stop, kept-then, keptOf, row-kept}
 
-pub strings-append : (x y : List Mention) → stringsIn (x ++ y) ≡ stringsIn x ++ stringsIn y
+pub strings-append : (x y : List Mention) → stringsMentioned (x ++ y) ≡ stringsMentioned x ++ stringsMentioned y
 strings-append [] y = refl
 strings-append (a-tag n ∷ x) y = strings-append x y
 strings-append (a-string s ∷ x) y = ap (λ (l : List (List ℕ)). s ∷ l) (strings-append x y)
@@ -58,14 +58,14 @@ module _ (bytes ends : List ℕ) (count : ℕ) (h : HasRows bytes ends count) wh
       pub list-ends : getD s i 0 ≡ 0 → KeptAs (ListStrings s strings i) bytes ends count (record { ok = true; count = count }) bytes ends
       list-ends z = kept-nothing (ListStrings s strings i) bytes ends count h (λ m u. u .are ∙ go (u .sheet) (u .thing) (u .lies))
         where
-          go : (a : Sheet) (p : Program) → LiesAt programBytes s i p → stringsIn (inProgram (programNamed a p)) ≡ []
+          go : (a : Sheet) (p : Program) → LiesAt programBytes s i p → stringsMentioned (inProgram (programNamed a p)) ≡ []
           go a done st = refl
           go a (step t p) st = absurd (statement-of s i k z t (first-lies s i t p st))
 
       pub no-print : (getD s i 0 ≡ 7 → ⊥) → (getD s i 0 ≡ 10 → ⊥) → KeptAs (StatementStrings s strings i) bytes ends count (record { ok = true; count = count }) bytes ends
       no-print f7 f10 = kept-nothing (StatementStrings s strings i) bytes ends count h (λ m u. u .are ∙ go (u .sheet) (u .thing) (u .lies))
         where
-          go : (a : Sheet) (t : Statement) → LiesAt statementBytes s i t → stringsIn (inStatement (statementNamed a t)) ≡ []
+          go : (a : Sheet) (t : Statement) → LiesAt statementBytes s i t → stringsMentioned (inStatement (statementNamed a t)) ≡ []
           go a (become b v) st = refl
           go a (copy b c) st = refl
           go a (recall b c) st = refl
@@ -103,7 +103,7 @@ module _ (s strings : List ℕ) (i : ℕ) (h : i < length s) (bytes ends : List 
           let long : n ≡ v = nis ∙ byte-of s i w st 3 (omega arith) .1 in
           let same : o ≡ at = omega (arith, ois, low, high) in
           let fits : Printable strings at v = rw (z .2) at (T .fits) in
-          let due : m ≡ take v (drop at (T .sheet .strings)) ∷ [] = T .are ∙ ap (λ (u : Statement). stringsIn (inStatement (statementNamed (T .sheet) u))) (z .2) in
+          let due : m ≡ take v (drop at (T .sheet .strings)) ∷ [] = T .are ∙ ap (λ (u : Statement). stringsMentioned (inStatement (statementNamed (T .sheet) u))) (z .2) in
           rw (same, long) (record { inside = fits .inside; is = rw (T .strings-are) at due })
 
   -- ---- a list: its first statement, and the rest
@@ -111,12 +111,12 @@ module _ (s strings : List ℕ) (i : ℕ) (h : i < length s) (bytes ends : List 
     pub list-stops : r .ok ≡ false → KeptAs (ListStrings s strings i) bytes ends count r b e
     list-stops z = kept-stop (ListStrings s strings i) bytes ends count (StatementStrings s strings i) r b e K z (λ m u. go m (u .sheet) (u .strings-are) (u .thing) (u .lies) (u .fits) (u .are))
       where
-        go : (m : List (List ℕ)) (a : Sheet) → a .strings ≡ strings → (p : Program) → LiesAt programBytes s i p → StatementsFit (length (a .names)) strings p → m ≡ stringsIn (inProgram (programNamed a p))
+        go : (m : List (List ℕ)) (a : Sheet) → a .strings ≡ strings → (p : Program) → LiesAt programBytes s i p → StatementsFit (length (a .names)) strings p → m ≡ stringsMentioned (inProgram (programNamed a p))
             → Parts (StatementStrings s strings i) Any m
         go m a src done st fits w = absurd (not-done s i h k st)
         go m a src (step t p) st fits w = record {
-          front = stringsIn (inStatement (statementNamed a t));
-          back = stringsIn (inProgram (programNamed a p));
+          front = stringsMentioned (inStatement (statementNamed a t));
+          back = stringsMentioned (inProgram (programNamed a p));
           front-due = record { sheet = a; strings-are = src; thing = t; lies = first-lies s i t p st; fits = fits .0; are = refl };
           back-due = tt;
           is = w ∙ strings-append (inStatement (statementNamed a t)) (inProgram (programNamed a p));
@@ -125,12 +125,12 @@ module _ (s strings : List ℕ) (i : ℕ) (h : i < length s) (bytes ends : List 
     pub list-goes : r .ok ≡ true → (n : ℕ) → EndsAt statementBytes 1 s i n → (q : Kept) (b′ e′ : List ℕ) → KeptAs (ListStrings s strings n) b e (r .count) q b′ e′ → KeptAs (ListStrings s strings i) bytes ends count q b′ e′
     list-goes z n N q b′ e′ Q = kept-then (ListStrings s strings i) bytes ends count (StatementStrings s strings i) r b e K (ListStrings s strings n) q b′ e′ z Q (λ m u. go m (u .sheet) (u .strings-are) (u .thing) (u .lies) (u .fits) (u .are))
       where
-        go : (m : List (List ℕ)) (a : Sheet) → a .strings ≡ strings → (p : Program) → LiesAt programBytes s i p → StatementsFit (length (a .names)) strings p → m ≡ stringsIn (inProgram (programNamed a p))
+        go : (m : List (List ℕ)) (a : Sheet) → a .strings ≡ strings → (p : Program) → LiesAt programBytes s i p → StatementsFit (length (a .names)) strings p → m ≡ stringsMentioned (inProgram (programNamed a p))
             → Parts (StatementStrings s strings i) (ListStrings s strings n) m
         go m a src done st fits w = absurd (not-done s i h k st)
         go m a src (step t p) st fits w = record {
-          front = stringsIn (inStatement (statementNamed a t));
-          back = stringsIn (inProgram (programNamed a p));
+          front = stringsMentioned (inStatement (statementNamed a t));
+          back = stringsMentioned (inProgram (programNamed a p));
           front-due = record { sheet = a; strings-are = src; thing = t; lies = first-lies s i t p st; fits = fits .0; are = refl };
           back-due = record { sheet = a; strings-are = src; thing = p; lies = rest-lies s i t p st n (N .exact t); fits = fits .1; are = refl };
           is = w ∙ strings-append (inStatement (statementNamed a t)) (inProgram (programNamed a p));
@@ -150,11 +150,11 @@ module _ (s strings : List ℕ) (i : ℕ) (h : i < length s) (bytes ends : List 
             let f : StatementFits (length (a .names)) strings (branch (w .0) l q) = rw (w .3) at (u .fits) in
             let lie = branch-lies s i (w .0) l q (rw (w .3) at (u .lies)) c (c + length (programBytes l)) (C .exact (w .0)) (λ x. refl) in
             record {
-              front = stringsIn (inProgram (programNamed a l));
-              back = stringsIn (inProgram (programNamed a q));
+              front = stringsMentioned (inProgram (programNamed a l));
+              back = stringsMentioned (inProgram (programNamed a q));
               front-due = record { sheet = a; strings-are = u .strings-are; thing = l; lies = lie .first-lies; fits = f .1; are = refl };
               back-due = tt;
-              is = u .are ∙ ap (λ (x : Statement). stringsIn (inStatement (statementNamed a x))) (w .3) ∙ strings-append (inProgram (programNamed a l)) (inProgram (programNamed a q));
+              is = u .are ∙ ap (λ (x : Statement). stringsMentioned (inStatement (statementNamed a x))) (w .3) ∙ strings-append (inProgram (programNamed a l)) (inProgram (programNamed a q));
             }
 
     pub if-goes : r .ok ≡ true → (n : ℕ) → EndsAt programBytes 0 s c n → (q : Kept) (b′ e′ : List ℕ) → KeptAs (ListStrings s strings n) b e (r .count) q b′ e′ → KeptAs (StatementStrings s strings i) bytes ends count q b′ e′
@@ -169,11 +169,11 @@ module _ (s strings : List ℕ) (i : ℕ) (h : i < length s) (bytes ends : List 
             let f : StatementFits (length (a .names)) strings (branch (w .0) l p) = rw (w .3) at (u .fits) in
             let lie = branch-lies s i (w .0) l p (rw (w .3) at (u .lies)) c n (C .exact (w .0)) (N .exact l) in
             record {
-              front = stringsIn (inProgram (programNamed a l));
-              back = stringsIn (inProgram (programNamed a p));
+              front = stringsMentioned (inProgram (programNamed a l));
+              back = stringsMentioned (inProgram (programNamed a p));
               front-due = record { sheet = a; strings-are = u .strings-are; thing = l; lies = lie .first-lies; fits = f .1; are = refl };
               back-due = record { sheet = a; strings-are = u .strings-are; thing = p; lies = lie .second-lies; fits = f .2; are = refl };
-              is = u .are ∙ ap (λ (x : Statement). stringsIn (inStatement (statementNamed a x))) (w .3) ∙ strings-append (inProgram (programNamed a l)) (inProgram (programNamed a p));
+              is = u .are ∙ ap (λ (x : Statement). stringsMentioned (inStatement (statementNamed a x))) (w .3) ∙ strings-append (inProgram (programNamed a l)) (inProgram (programNamed a p));
             }
 
 -- ---- rows that are all different and have few bytes are few: no more than one is empty

@@ -8,7 +8,7 @@ use lib.ListN.{length, take, drop}
 use Rattle.programs.specs.Program.{statementBytes, programBytes}
 use Rattle.programs.specs.Limits.{StatementFits, StatementsFit}
 use Rattle.sheet.specs.Sheet.{Sheet}
-use Rattle.encoding.specs.Mentions.{Mention, inStatement, inProgram, stringsIn}
+use Rattle.encoding.specs.Mentions.{Mention, inStatement, inProgram, stringsMentioned}
 use Rattle.encoding.specs.Distinct.{distinct}
 use Rattle.naming.specs.ByName.{statementNamed, programNamed}
 use Rattle.visits.specs.Evaluated.{LiesAt}
@@ -40,7 +40,7 @@ pub record StringsAt {T : Type 0} (bytes : T → List ℕ) (Fits : ℕ → List 
   pub thing : T
   pub lies : LiesAt bytes s i thing
   pub fits : Fits (length (sheet .names)) strings thing
-  pub are : m ≡ stringsIn (mentions sheet thing)
+  pub are : m ≡ stringsMentioned (mentions sheet thing)
 
 abbrev pub StatementStrings : List ℕ → List ℕ → ℕ → List (List ℕ) → Type 0
 StatementStrings = StringsAt statementBytes StatementFits (λ a t. inStatement (statementNamed a t))

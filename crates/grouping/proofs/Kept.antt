@@ -3,7 +3,7 @@
 -- Assumes nothing.
 use mathlib.Core.Path.{_≡_, refl}
 use Rattle.expressions.specs.Expr.{Exp, cat, alt, star}
-use Rattle.grouping.specs.Regrouped.{Which, concatenations-and-unions, Step, concatenation, union, left-of-cat, right-of-cat, left-of-alt, right-of-alt, under-star, Regrouped, as-it-is, step, back, then}
+use Rattle.grouping.specs.Regrouped.{Which, concatenations-and-unions, RegroupedOnce, concatenation, union, left-of-cat, right-of-cat, left-of-alt, right-of-alt, under-star, Regrouped, as-it-is, step, back, then}
 
 pub record Keeps (w : Which) (R : Exp → Exp → Type 0) : Type 0 where
   pub still : (e : Exp) → R e e
@@ -16,7 +16,7 @@ pub record Keeps (w : Which) (R : Exp → Exp → Type 0) : Type 0 where
   pub of-alt : w ≡ concatenations-and-unions → (a b c : Exp) → R (alt (alt a b) c) (alt a (alt b c))
 
 module _ (R : Exp → Exp → Type 0) where
-  kept-by-step : (w : Which) → Keeps w R → (e e′ : Exp) → Step w e e′ → R e e′
+  kept-by-step : (w : Which) → Keeps w R → (e e′ : Exp) → RegroupedOnce w e e′ → R e e′
   kept-by-step w k e e′ (concatenation a b c) = k .of-cat a b c
   kept-by-step w k e e′ (union a b c) = k .of-alt refl a b c
   kept-by-step w k e e′ (left-of-cat {l = l} {l′ = l′} r s) = k .in-cat l l′ r r (kept-by-step w k l l′ s) (k .still r)

@@ -5,14 +5,14 @@ use mathlib.Core.List.{List, [], _∷_, _++_, append-assoc}
 use Prim.Native.Nat.{ℕ, suc}
 use native.Mathlib.Omega.{arith}
 use Rattle.expressions.specs.Expr.{Exp, atom, nonterminal, cat, nodes}
-use Rattle.grouping.specs.Regrouped.{concatenations, concatenations-and-unions, Step, concatenation, left-of-cat, Regrouped, as-it-is, step, then}
-use Rattle.grouping.specs.Laws.{inOrder, AtomsStay}
+use Rattle.grouping.specs.Regrouped.{concatenations, concatenations-and-unions, RegroupedOnce, concatenation, left-of-cat, Regrouped, as-it-is, step, then}
+use Rattle.grouping.specs.Laws.{atomsInOrder, AtomsStay}
 use Rattle.grouping.specs.Thirteen.{row, ThirteenInARow}
 use Rattle.grouping.proofs.Kept.{kept}
 
 pub atoms-stay : AtomsStay
 atoms-stay e e′ r =
-    kept (λ e e′. (inOrder e ≡ inOrder e′) × (nodes e ≡ nodes e′)) concatenations-and-unions
+    kept (λ e e′. (atomsInOrder e ≡ atomsInOrder e′) × (nodes e ≡ nodes e′)) concatenations-and-unions
     (record {
       still = λ e. (refl, refl);
       turned = λ e e′ h. (sym (h .0), sym (h .1));
@@ -20,12 +20,12 @@ atoms-stay e e′ r =
       in-cat = λ l l′ r r′ h k. (ap₂ _++_ (h .0) (k .0), omega (arith, h .1, k .1));
       in-alt = λ l l′ r r′ h k. (ap₂ _++_ (h .0) (k .0), omega (arith, h .1, k .1));
       in-star = λ e e′ h. (h .0, ap suc (h .1));
-      of-cat = λ a b c. (append-assoc (inOrder a) (inOrder b) (inOrder c), omega arith);
-      of-alt = λ u a b c. (append-assoc (inOrder a) (inOrder b) (inOrder c), omega arith);
+      of-cat = λ a b c. (append-assoc (atomsInOrder a) (atomsInOrder b) (atomsInOrder c), omega arith);
+      of-alt = λ u a b c. (append-assoc (atomsInOrder a) (atomsInOrder b) (atomsInOrder c), omega arith);
     })
     e e′ r
 
-row-step : {e e′ : Exp} → Step concatenations e e′ → (ns : List ℕ) → Step concatenations (row e ns) (row e′ ns)
+row-step : {e e′ : Exp} → RegroupedOnce concatenations e e′ → (ns : List ℕ) → RegroupedOnce concatenations (row e ns) (row e′ ns)
 row-step s [] = s
 row-step s (n ∷ ns) = row-step (left-of-cat (atom (nonterminal n)) s) ns
 

@@ -8,7 +8,7 @@ use native.Mathlib.Omega.{arith}
 use Rattle.expressions.specs.Expr.{Exp, Content}
 use Rattle.expressions.specs.Grammar.{Production}
 use Rattle.runs.specs.Events.{Event}
-use Rattle.runs.specs.Parse.{Element, Children, Parse, Parses, yield, yieldC, yieldP, yieldPs, size, sizeC, sizeP, sizePs, depth, depthC, depthP, depthPs}
+use Rattle.runs.specs.Parse.{Element, Children, Parse, Parses, yield, yieldC, yieldP, yieldPs, size, sizeC, sizeP, sizePs, elementDepth, depthC, depthP, depthPs}
 use Rattle.runs.specs.Spells.{Mark, marks, marksC, marksP, marksPs}
 
 pub record Shape : Type 0 where
@@ -26,7 +26,7 @@ around x = record { nodes = suc (x .nodes); deep = x .deep; events = x .events; 
 
 module _ {g : List Production} where
   abbrev pub shape : {n : ℕ} → Element g n → Shape
-  shape t = record { nodes = size t; deep = depth t; events = yield t; flags = λ b. marks t b }
+  shape t = record { nodes = size t; deep = elementDepth t; events = yield t; flags = λ b. marks t b }
 
   abbrev pub shapeC : {c : Content} → Children g c → Shape
   shapeC t = record { nodes = sizeC t; deep = depthC t; events = yieldC t; flags = λ b. marksC t b }

@@ -10,7 +10,7 @@ use Rattle.tokens.specs.Tokens.{start, end, empty, Tok, tag, ref, numeric, line
 use Rattle.tokens.proofs.Streams.{flat-one}
 use Rattle.sheet.specs.Sheet.{Sheet}
 use Rattle.runs.specs.Visits.{grammar, Env, fresh}
-use Rattle.runs.specs.Parse.{Element, yield, size, depth}
+use Rattle.runs.specs.Parse.{Element, yield, size, elementDepth}
 use Rattle.runs.specs.Machine.{Configuration, most}
 use Rattle.runs.specs.Taken.{Passed, closed-with}
 use Rattle.runs.specs.Spells.{Token, start-token, end-token, empty-token, marks, Spelled, through}
@@ -70,7 +70,7 @@ module _ (a b : Sheet) (r : RegroupedGrammar concatenations (grammar a) (grammar
   bare ts v x =
       let t = moved (into-stripped (b .rules) r) e (x .root) in
       let c = eval-comes b (t .0) fresh in
-      let d : depth (t .0) ≤ most = subst (λ (k : ℕ). k ≤ most) (ap (λ (s : Shape). s .deep) (t .1)) (x .fits) in
+      let d : elementDepth (t .0) ≤ most = subst (λ (k : ℕ). k ≤ most) (ap (λ (s : Shape). s .deep) (t .1)) (x .fits) in
       let m : marks (x .root) true ≡ marks (t .0) true = ap (λ (s : Shape). s .flags true) (t .1) in
       record {
         comes-to = c .0;

@@ -18,16 +18,16 @@ use Rattle.calls.specs.Accepted.{Accepted}
 use Rattle.grouping.specs.Regrouped.{concatenations, concatenations-and-unions, Regrouped, RegroupedGrammar}
 
 -- an expression's atoms, from left to right
-abbrev pub inOrder : Exp → List Atom
-inOrder (atom k) = k ∷ []
-inOrder (cat l r) = inOrder l ++ inOrder r
-inOrder (alt l r) = inOrder l ++ inOrder r
-inOrder (star e) = inOrder e
-inOrder empty = []
+abbrev pub atomsInOrder : Exp → List Atom
+atomsInOrder (atom k) = k ∷ []
+atomsInOrder (cat l r) = atomsInOrder l ++ atomsInOrder r
+atomsInOrder (alt l r) = atomsInOrder l ++ atomsInOrder r
+atomsInOrder (star e) = atomsInOrder e
+atomsInOrder empty = []
 
 -- their order stays, and so does the number of nodes
 abbrev pub AtomsStay : Type 0
-AtomsStay = (e e′ : Exp) → Regrouped concatenations-and-unions e e′ → (inOrder e ≡ inOrder e′) × (nodes e ≡ nodes e′)
+AtomsStay = (e e′ : Exp) → Regrouped concatenations-and-unions e e′ → (atomsInOrder e ≡ atomsInOrder e′) × (nodes e ≡ nodes e′)
 
 -- of an expression, whatever the tags of the nonterminals: a fault at a place before a symbol is one under both groupings
 abbrev pub FaultsStay : Type 0

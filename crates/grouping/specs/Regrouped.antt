@@ -11,19 +11,19 @@ pub data Which : Type 0 where
   concatenations-and-unions : Which
 
 -- one step, in any surroundings
-pub data Step : Which → Exp → Exp → Type 0 where
-  concatenation : {w : Which} (a b c : Exp) → Step w (cat (cat a b) c) (cat a (cat b c))
-  union : (a b c : Exp) → Step concatenations-and-unions (alt (alt a b) c) (alt a (alt b c))
-  left-of-cat : {w : Which} {l l′ : Exp} (r : Exp) → Step w l l′ → Step w (cat l r) (cat l′ r)
-  right-of-cat : {w : Which} (l : Exp) {r r′ : Exp} → Step w r r′ → Step w (cat l r) (cat l r′)
-  left-of-alt : {w : Which} {l l′ : Exp} (r : Exp) → Step w l l′ → Step w (alt l r) (alt l′ r)
-  right-of-alt : {w : Which} (l : Exp) {r r′ : Exp} → Step w r r′ → Step w (alt l r) (alt l r′)
-  under-star : {w : Which} {e e′ : Exp} → Step w e e′ → Step w (star e) (star e′)
+pub data RegroupedOnce : Which → Exp → Exp → Type 0 where
+  concatenation : {w : Which} (a b c : Exp) → RegroupedOnce w (cat (cat a b) c) (cat a (cat b c))
+  union : (a b c : Exp) → RegroupedOnce concatenations-and-unions (alt (alt a b) c) (alt a (alt b c))
+  left-of-cat : {w : Which} {l l′ : Exp} (r : Exp) → RegroupedOnce w l l′ → RegroupedOnce w (cat l r) (cat l′ r)
+  right-of-cat : {w : Which} (l : Exp) {r r′ : Exp} → RegroupedOnce w r r′ → RegroupedOnce w (cat l r) (cat l r′)
+  left-of-alt : {w : Which} {l l′ : Exp} (r : Exp) → RegroupedOnce w l l′ → RegroupedOnce w (alt l r) (alt l′ r)
+  right-of-alt : {w : Which} (l : Exp) {r r′ : Exp} → RegroupedOnce w r r′ → RegroupedOnce w (alt l r) (alt l r′)
+  under-star : {w : Which} {e e′ : Exp} → RegroupedOnce w e e′ → RegroupedOnce w (star e) (star e′)
 
 -- any number of steps, one after another, each forth or back
 pub data Regrouped (w : Which) : Exp → Exp → Type 0 where
   as-it-is : {e : Exp} → Regrouped w e e
-  step : {e e′ : Exp} → Step w e e′ → Regrouped w e e′
+  step : {e e′ : Exp} → RegroupedOnce w e e′ → Regrouped w e e′
   back : {e e′ : Exp} → Regrouped w e e′ → Regrouped w e′ e
   then : {e e′ e″ : Exp} → Regrouped w e e′ → Regrouped w e′ e″ → Regrouped w e e″
 

@@ -28,7 +28,7 @@ use Rattle.rescued.specs.Fits.{SalvageFits, ModeFits}
 use Rattle.rescued.proofs.Alone.{root-alone}
 use Rattle.turns.specs.declared.Stand.{Stand}
 use Rattle.turns.specs.declared.Given.{Given}
-use Rattle.turns.specs.Stands.{betweenIn, insideIn, skippingIn, modeOf, Stands, holds-between, holds-inside, holds-skipping, ReadyOn}
+use Rattle.turns.specs.Stands.{betweenIn, insideIn, skippingIn, modeOf, RunStands, holds-between, holds-inside, holds-skipping, ReadyOn}
 use Rattle.holding.specs.Told.{ReturnsAs, StandAs, is-between, is-inside, is-skipping}
 use Rattle.strides.proofs.Basics.{alone, stands-alone}
 use Rattle.handback.specs.Begun.{BegunAs, StandBegins}
@@ -41,7 +41,7 @@ module _ {s : List ℕ} {a : Sheet} (G : IsSheet s a) (b : List ℕ) (F : FitsSh
   means-here : meaningOf (full h stack) ≡ meaningOf (stateFrom b)
   means-here = ap meaningOf e ∙ meaning-tidied (stateFrom b) shaped-here
 
-  stands-here : stateFrom b .closed ≡ notClosed → Stands a h stack
+  stands-here : stateFrom b .closed ≡ notClosed → RunStands a h stack
   stands-here o =
       let c : h .count ≡ stateFrom b .count = ap (λ (z : State). z .count) e in
       record {

@@ -27,7 +27,7 @@ use Rattle.converter.specs.Inner.{closedLive, leftLive}
 use Rattle.rescue.specs.Held.{Mode, between, inside, skipping, waitingIn}
 use Rattle.rescued.specs.Bytes.{returnBytes, tailBytes, noReturn, modeBytes, areaAfter}
 use Rattle.turns.specs.declared.Stand.{Stand}
-use Rattle.turns.specs.Stands.{modeBy, modeOf, Stands, HoldsIn, holds-between, holds-inside, holds-skipping}
+use Rattle.turns.specs.Stands.{modeBy, modeOf, RunStands, HoldsIn, holds-between, holds-inside, holds-skipping}
 use Rattle.resting.specs.Laid.{runBytes, ownBytes, returnsOf, StandPut, put-between, put-inside, put-skipping}
 use Rattle.strides.proofs.Basics.{alone, stands-alone}
 use Rattle.handback.specs.Left.{StateLeft, AreaLeft}
@@ -56,17 +56,17 @@ same-closing n h e = by (leavesOpen n)
     by false = refl
 
 -- ---- the run's own bytes, and what returns
-run-is : {a : Sheet} (n : ℕ) (h : Live) (b : List ℕ) → Stands a h (drop headWidth (take stateWidth b)) →
+run-is : {a : Sheet} (n : ℕ) (h : Live) (b : List ℕ) → RunStands a h (drop headWidth (take stateWidth b)) →
     runBytes (leftLive n h) b ≡ bytesOf (stateFor (meaningOf (full h (drop headWidth (take stateWidth b)))) (closingByte (closingOf (leavesOpen n) n)))
 run-is n h b S =
     let st : List ℕ = drop headWidth (take stateWidth b) in
     ap bytesOf (tidied-for (full (leftLive n h) st) (same-shape n h st (S .shaped)) ∙ ap₂ stateFor (same-run n h st) (same-closing n h (S .is-open)))
 
-returns-is : {a : Sheet} (z : Live) → z .depth ≡ 1 → Stands a z [] → returnsOf z ≡ returnBytes (meaningOf (full z []))
+returns-is : {a : Sheet} (z : Live) → z .depth ≡ 1 → RunStands a z [] → returnsOf z ≡ returnBytes (meaningOf (full z []))
 unfolding returnBytes
 returns-is {a} z one S =
     let st : List ℕ = drop headWidth (replicate stateWidth 0) in
-    let S′ : Stands a z st = stands-alone z [] st (omega arith) S in
+    let S′ : RunStands a z st = stands-alone z [] st (omega arith) S in
     let e : tidied (full z st) ≡ stateFor (meaningOf (full z [])) notClosed =
     tidied-for (full z st) (S′ .shaped) ∙ ap₂ stateFor (ap meaningOf (alone z [] st (omega arith))) (S .is-open) in
     ap (λ (y : State). take rootedAt (bytesOf y) ++ take frameWidth (drop headWidth (bytesOf y))) e

@@ -13,13 +13,13 @@ use Rattle.live.specs.Live.{full}
 use Rattle.converter.specs.Inner.{leftLive}
 use Rattle.rescued.specs.Bytes.{modeBytes, areaAfter}
 use Rattle.turns.specs.declared.Stand.{Stand}
-use Rattle.turns.specs.Stands.{modeOf, Stands, HoldsIn}
+use Rattle.turns.specs.Stands.{modeOf, RunStands, HoldsIn}
 use Rattle.resting.specs.Laid.{StandPut}
 
 -- the bytes that are laid down for a stand, closed by the number where it closes, are the one row in which its mode is handed back
 abbrev pub StateLeft : Type 0
 StateLeft =
-    (a : Sheet) (past : ℕ) (t : Stand) (n passed : ℕ) (b b′ area : List ℕ) → Stands a (t .live) (drop headWidth (take stateWidth b)) → HoldsIn a past t (t .mode) → t .waits ≤ length area →
+    (a : Sheet) (past : ℕ) (t : Stand) (n passed : ℕ) (b b′ area : List ℕ) → RunStands a (t .live) (drop headWidth (take stateWidth b)) → HoldsIn a past t (t .mode) → t .waits ≤ length area →
     StandPut t (leftLive n (t .live)) passed b b′ → b′ ≡ modeBytes (closingOf (leavesOpen n) n) passed (modeOf t (drop headWidth (take stateWidth b)) area)
 
 -- the area, cleared from what waits up to where anything waited, is as the meaning leaves it

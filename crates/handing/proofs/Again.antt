@@ -33,7 +33,7 @@ use Rattle.converter.specs.Answered.{FitsSheet, closingIn, closingByte}
 use Rattle.rescued.specs.Bytes.{modeAt, passedAt, firstAt, refusedAt, waitingAt, returningBytes, returningIn, modeFrom, salvageIn, returnBytes, tailBytes, noReturn, modeBytes, areaAfter}
 use Rattle.rescued.specs.Fits.{ModeFits, SalvageFits}
 use Rattle.rescued.proofs.Alone.{root-alone}
-use Rattle.handing.specs.Promises.{ReadsBack}
+use Rattle.handing.specs.Promises.{StateReadsBack}
 use Rattle.handing.proofs.Canonical.{Good, state-for}
 use Rattle.handing.proofs.Bytes.{wide-of, state-again}
 use Rattle.handing.proofs.Tail.{mode-back, passed-back, first-back, refused-back, waiting-back, returns-back}
@@ -151,7 +151,7 @@ module _ {s : List ℕ} {a : Sheet} (i : IsSheet s a) where
         (passed-back y (f .wide) 1 p q 0 (length v) (returnBytes z) l) (ap closingIn (f .closes) ∙ closing-back o call i g)
 
 -- so it is of every call that runs
-pub reads-back : ReadsBack
+pub reads-back : StateReadsBack
 reads-back s part ended l l′ r w short =
     let i = w .is-sheet in
     let b = l .state in

@@ -31,7 +31,7 @@ use Rattle.salvage.proofs.Some.{two-open, one-open, leaves-one, start-leaves}
 use Rattle.salvaging.specs.declared.Resumed.{Resumed}
 use Rattle.salvaging.specs.declared.Resumed.the-variants.{Here, Waits, Nowhere}
 use Rattle.rescue.specs.Held.{Mode, between, inside, skipping, controlOf, Rescued}
-use Rattle.rescue.specs.Step.{Setting, Step, on, stop, stay, inStream, lastByte, drops, closes, breaks, recordToken, otherToken, tokenStep, numberStep, skipStep, skipTo, reported, StepIs, at-token, at-none, at-bytes}
+use Rattle.rescue.specs.Step.{Setting, Step, on, stop, stay, inStream, lastByte, dropsAt, closesAt, breaksAt, recordToken, otherToken, tokenStep, numberStep, skipStep, skipTo, reported, StepIs, at-token, at-none, at-bytes}
 use Rattle.rescue.specs.Call.{Rescues, goes, halts}
 use Rattle.rescue.proofs.Some.{fine-step}
 use Rattle.handing.proofs.Modes.{HoldsAt, holds-began, kept-step}
@@ -113,10 +113,10 @@ module _ {s : List ℕ} (c : Setting) (i : IsSheet s (c .sheet)) (n : ℕ) (shap
         by true = g
         by false = (h, inl refl)
 
-    deep-breaks : (z : Configuration) (f j : ℕ) → Known j → rootOnly (z .control) ≡ true → DeepBy (breaks c at m z f j)
+    deep-breaks : (z : Configuration) (f j : ℕ) → Known j → rootOnly (z .control) ≡ true → DeepBy (breaksAt c at m z f j)
     deep-breaks z f j k r = by (leavesOpen j) (damaged j)
       where
-        by : (o d : Bool) → DeepBy (cond o (stay j at m) (cond d (drops c at m z f j) (closes c at m z f j)))
+        by : (o d : Bool) → DeepBy (cond o (stay j at m) (cond d (dropsAt c at m z f j) (closesAt c at m z f j)))
         by true d = (h, k)
         by false true = tt
         by false false = (root-one (z .control) r, k)

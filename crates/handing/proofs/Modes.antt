@@ -32,7 +32,7 @@ use Rattle.salvaging.specs.declared.Resumed.{Resumed}
 use Rattle.salvaging.specs.declared.Resumed.the-variants.{Here, Waits, Nowhere}
 use Rattle.salvaging.specs.Resumed.{ResumedIs}
 use Rattle.rescue.specs.Held.{Mode, between, inside, skipping, controlOf, Rescued}
-use Rattle.rescue.specs.Step.{Setting, Step, on, stop, stay, inStream, pastFirst, lastByte, drops, closes, breaks, recordToken, otherToken, tokenStep, numberStep, skipStep, skipTo, reported, StepIs, at-token, at-none, at-bytes}
+use Rattle.rescue.specs.Step.{Setting, Step, on, stop, stay, inStream, pastFirst, lastByte, dropsAt, closesAt, breaksAt, recordToken, otherToken, tokenStep, numberStep, skipStep, skipTo, reported, StepIs, at-token, at-none, at-bytes}
 use Rattle.rescue.specs.Call.{Rescues, goes, halts}
 use Rattle.rescue.specs.Parts.{Began}
 use Rattle.rescue.proofs.Some.{fine-step, past-own, past-begun}
@@ -100,10 +100,10 @@ module _ {s : List ℕ} (c : Setting) (i : IsSheet s (c .sheet)) where
         by true = g
         by false = (holds-later (c .before + at) (c .before + p) m (omega (arith, l)) h, omega arith)
 
-    kept-breaks : (z : Configuration) (f n : ℕ) → n < 255 → Good i z → rootOnly (z .control) ≡ true → f < c .before + pastFirst c f at → KeptBy (breaks c at m z f n)
+    kept-breaks : (z : Configuration) (f n : ℕ) → n < 255 → Good i z → rootOnly (z .control) ≡ true → f < c .before + pastFirst c f at → KeptBy (breaksAt c at m z f n)
     kept-breaks z f n b g r p = by (leavesOpen n) (damaged n) refl
       where
-        by : (o d : Bool) → damaged n ≡ d → KeptBy (cond o (stay n at m) (cond d (drops c at m z f n) (closes c at m z f n)))
+        by : (o d : Bool) → damaged n ≡ d → KeptBy (cond o (stay n at m) (cond d (dropsAt c at m z f n) (closesAt c at m z f n)))
         by true d e = (h, b)
         by false true e = (g, r, e, p)
         by false false e = (g, b)

@@ -22,7 +22,7 @@ use Rattle.converter.specs.Promises.{InTable}
 use Rattle.converter.proofs.Replies.{given-number}
 use Rattle.rescued.specs.declared.SalvageCounts.{SalvageCounts}
 use Rattle.rescued.specs.Bytes.{modeAt, passedAt, entryWidth, modeFrom, salvageIn}
-use Rattle.rescued.specs.Salvaged.{Lent, GivenBack, sheet-fails, no-records, unfit, closed, Ran, as-given, runs}
+use Rattle.rescued.specs.Salvaged.{Lent, SalvageGivenBack, sheet-fails, no-records, unfit, closed, SalvageRan, as-given, runs}
 use Rattle.handing.specs.Promises.{SalvageNumbers}
 use Rattle.handing.proofs.Modes.{HoldsAt}
 use Rattle.handing.proofs.Deep.{Known, run-known}
@@ -43,13 +43,13 @@ known-in n (inl e) = by (eqb n 16) refl (eqb n 17) refl e
     by false p true q h = inr (inr (inl (eqb-true n 17 q)))
     by false p false q h = absurd (let y : _≡_ {A = ℕ} 0 1 = cc in omega arith)
 
-given-in : {s part : List ℕ} {l : Lent} {n : ℕ} → GivenBack s part l n → InTable n ⊎ (n ≡ 34)
+given-in : {s part : List ℕ} {l : Lent} {n : ℕ} → SalvageGivenBack s part l n → InTable n ⊎ (n ≡ 34)
 given-in (sheet-fails h v) = inl (inl (verdict-most v))
 given-in (no-records a i ok e) = inr refl
 given-in (unfit a x i ok e u) = inl (inr (inr (inr (omega arith, omega arith))))
 given-in {l = l} (closed a x i ok e f n c) = inl (given-number (converter.closed a i ok (stateFrom (l .state)) refl (f .run) n c))
 
-ran-in : {s part : List ℕ} {ended : Bool} {l l′ : Lent} {r : SalvageCounts} → Ran s part ended l l′ r → InTable (r .number)
+ran-in : {s part : List ℕ} {ended : Bool} {l l′ : Lent} {r : SalvageCounts} → SalvageRan s part ended l l′ r → InTable (r .number)
 ran-in {s} {part} {ended} {l} w =
     let i = w .is-sheet in
     let b = l .state in

@@ -18,7 +18,7 @@ use Rattle.state.specs.Bounds.{stateWidth}
 use Rattle.state.specs.Bytes.{bytesOf}
 use Rattle.state.specs.Changes.{freshState}
 use Rattle.rescued.specs.Bytes.{salvageWidth, entryWidth, salvageIn, salvageBytes}
-use Rattle.rescued.specs.Salvaged.{Lent, Ran}
+use Rattle.rescued.specs.Salvaged.{Lent, SalvageRan}
 
 -- one call that runs on a part, with so much room and so many entries, from the bytes b of the state and m of the area, which it leaves as b′ and m′; it answers x
 pub record SalvageCall (s part : List ℕ) (more : Bool) (room spare : ℕ) (b m b′ m′ : List ℕ) (x : Rescued) : Type 0 where
@@ -26,7 +26,7 @@ pub record SalvageCall (s part : List ℕ) (more : Bool) (room spare : ℕ) (b m
   pub lent : Lent
   pub left : Lent
   pub counts : SalvageCounts
-  pub ran : Ran s part ended lent left counts
+  pub ran : SalvageRan s part ended lent left counts
   pub told : not ended ≡ more
   pub state : lent .state ≡ b
   pub area : lent .area ≡ m

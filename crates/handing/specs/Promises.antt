@@ -12,17 +12,17 @@ use Rattle.converter.specs.Promises.{InTable}
 use Rattle.rescued.specs.declared.SalvageCounts.{SalvageCounts}
 use Rattle.rescued.specs.Bytes.{salvageIn, salvageBytes}
 use Rattle.rescued.specs.Fits.{mostBytes, SalvageFits}
-use Rattle.rescued.specs.Salvaged.{Lent, Ran, SalvagedAs}
+use Rattle.rescued.specs.Salvaged.{Lent, SalvageRan, SalvagedAs}
 
 -- the bytes of the state, with those of the area, that a call leaves read back as what its answer hands back; the area is one that memory holds
-abbrev pub ReadsBack : Type 0
-ReadsBack =
-    (s part : List ℕ) (ended : Bool) (l l′ : Lent) (r : SalvageCounts) (w : Ran s part ended l l′ r) → length (l .area) < 2 ^ 64 → salvageIn (l′ .state) (l′ .area) ≡ w .answer .held
+abbrev pub StateReadsBack : Type 0
+StateReadsBack =
+    (s part : List ℕ) (ended : Bool) (l l′ : Lent) (r : SalvageCounts) (w : SalvageRan s part ended l l′ r) → length (l .area) < 2 ^ 64 → salvageIn (l′ .state) (l′ .area) ≡ w .answer .held
 
 -- and fit again, whatever part comes next, as long as the stream is no longer than a stream may be: so no call on what a call has handed back is 29
 abbrev pub FitsAgain : Type 0
 FitsAgain =
-    (s part : List ℕ) (ended : Bool) (l l′ : Lent) (r : SalvageCounts) (w : Ran s part ended l l′ r) → length (l .area) < 2 ^ 64 → (next : ℕ) → w .answer .held .passed + next ≤ mostBytes →
+    (s part : List ℕ) (ended : Bool) (l l′ : Lent) (r : SalvageCounts) (w : SalvageRan s part ended l l′ r) → length (l .area) < 2 ^ 64 → (next : ℕ) → w .answer .held .passed + next ≤ mostBytes →
     SalvageFits (w .sheet) (l′ .state) (length (l .area)) next
 
 -- a fresh state fits every sheet

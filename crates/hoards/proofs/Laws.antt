@@ -10,7 +10,7 @@ use native.Mathlib.Numerals.{add-one}
 use lib.ListN.{length, length-append}
 use Rattle.limits.specs.Limits.{mostStringBytes}
 use Rattle.tells.specs.Tells.{Tells, holds, fails}
-use Rattle.programs.specs.Program.{Program as SheetProgram}
+use Rattle.programs.specs.Program.{Program}
 use Rattle.programs.specs.Limits.{Visit, first, second}
 use Rattle.programs.specs.Section.{FieldIs, no-program, names}
 use Rattle.layout.specs.Layout.{productionCount, nodeCount}
@@ -18,11 +18,11 @@ use Rattle.layout.specs.LaidOut.{LaidOut}
 use Rattle.layout.specs.Records.{firstProgramOf, secondProgramOf, firstProgramOfNode, secondProgramOfNode}
 use Rattle.layout.specs.declared.Layout.{Layout}
 use Rattle.sheet.specs.Sheet.{Sheet}
-use Rattle.notation.specs.Program.{Program}
-use Rattle.notation.specs.Rules.{Visits, Rule, Rules}
+use Rattle.notation.specs.Program.{TextProgram}
+use Rattle.notation.specs.Rules.{TextVisits, TextRule, Rules}
 use Rattle.encoding.specs.Distinct.{distinct, run-together}
-use Rattle.encoding.specs.Mentions.{inRules, stringsIn}
-use Rattle.encoding.specs.Encoded.{stringsOf}
+use Rattle.encoding.specs.Mentions.{inRules, stringsMentioned}
+use Rattle.encoding.specs.Encoded.{stringsStored}
 use Rattle.packing.specs.Packs.{Packs}
 use Rattle.naming.specs.ByName.{optionNamed, ByName}
 use Rattle.stores.specs.Rows.{RowsIn, HasRows}
@@ -36,7 +36,7 @@ use Rattle.gleans.specs.declared.Kept.{Kept}
 use Rattle.gleans.proofs.Stored.{more-too-many, kept-nothing, kept-as, kept-stop, kept-then}
 use Rattle.lines.specs.Lines.{RulesNamed}
 use Rattle.lines.proofs.Named.{rules-named}
-use Rattle.hoards.specs.Hoards.{stringsOfOne, stringsOfBoth, stringsOfEach, FieldStrings, BothStrings, EachNamed, EachStrings, FitsIs}
+use Rattle.hoards.specs.Hoards.{stringsOfOne, stringsOfBoth, stringsOfEach, FieldStrings, BothStrings, EachVisitNamed, EachStrings, FitsIs}
 use Rattle.hoards.proofs.Same.{as-long, too-long}
 use Rattle.hoards.proofs.Members.{owns, inner, rules-strings, owns-named, inner-named}
 
@@ -66,7 +66,7 @@ module _ (s : List ℕ) (field : ℕ) (b e : List ℕ) (n : ℕ) where
   pub no-field : field ≡ 65535 → HasRows b e n → KeptAs (FieldStrings s field) b e n (record { ok = true; count = n }) b e
   no-field k R = kept-nothing (FieldStrings s field) b e n R (λ xs u. u .are ∙ ap stringsOfOne (u .names .named) ∙ none-there (u .sheet) (u .names .program) (u .names .is))
     where
-      none-there : {ps : List SheetProgram} {v : Visit} (a : Sheet) (m : Option SheetProgram) → FieldIs ps v field m → stringsOfOne (optionNamed a m) ≡ []
+      none-there : {ps : List Program} {v : Visit} (a : Sheet) (m : Option Program) → FieldIs ps v field m → stringsOfOne (optionNamed a m) ≡ []
       none-there a none f = refl
       none-there a (some q) (names g q₁ S w) = absurd (g k)
 
@@ -74,7 +74,7 @@ module _ (s : List ℕ) (field : ℕ) (b e : List ℕ) (n : ℕ) where
     pub past-section : l .programs < field → HasRows b e n → KeptAs (FieldStrings s field) b e n (record { ok = true; count = n }) b e
     past-section far R = kept-nothing (FieldStrings s field) b e n R (λ xs u. absurd (go (u .sheet) (u .packs) (u .visit) (u .names .program) (u .names .is)))
       where
-        go : (a : Sheet) (z : Packs s a) (v : Visit) (o : Option SheetProgram) → FieldIs (z .programs .programs) v field o → ⊥
+        go : (a : Sheet) (z : Packs s a) (v : Visit) (o : Option Program) → FieldIs (z .programs .programs) v field o → ⊥
         go a z v none (no-program k) = f k
         go a z v (some p) (names k p₁ S w) = omega (arith, far, section-length s l L, it-starts-inside (length (a .names)) (strings-of s l L) (section-of s l L) (z .programs .programs) (filled s l L a z) field p S)
 
@@ -83,7 +83,7 @@ module _ (s : List ℕ) (field : ℕ) (b e : List ℕ) (n : ℕ) where
         kept-as (FieldStrings s field) b e n (ListStrings (section-of s l L) (strings-of s l L) field) r b′ e′
         (λ xs u. go xs (u .sheet) (u .packs) (u .visit) (u .names .program) (u .names .is) (u .are ∙ ap stringsOfOne (u .names .named))) K
       where
-        go : (xs : List (List ℕ)) (a : Sheet) (z : Packs s a) (v : Visit) (o : Option SheetProgram) → FieldIs (z .programs .programs) v field o → xs ≡ stringsOfOne (optionNamed a o) → ListStrings (section-of s l L) (strings-of s l L) field xs
+        go : (xs : List (List ℕ)) (a : Sheet) (z : Packs s a) (v : Visit) (o : Option Program) → FieldIs (z .programs .programs) v field o → xs ≡ stringsOfOne (optionNamed a o) → ListStrings (section-of s l L) (strings-of s l L) field xs
         go xs a z v none (no-program k) q = absurd (f k)
         go xs a z v (some p) (names k p₁ S w) q =
             record {
@@ -116,8 +116,8 @@ module _ (s : List ℕ) (one two : ℕ) (b e : List ℕ) (n : ℕ) (b₁ e₁ : 
 -- ---- record after record: those from k on are left
 module _ (s : List ℕ) (one two : ℕ → ℕ) (many : ℕ) (b e : List ℕ) (n : ℕ) where
   pub record Left (k m : ℕ) (b₁ e₁ : List ℕ) (a : Sheet) (z : Packs s a) (all : List (List ℕ)) : Type 0 where
-    pub programs : List Visits
-    pub named : EachNamed s a z one two k many programs
+    pub programs : List TextVisits
+    pub named : EachVisitNamed s a z one two k many programs
     pub so-far : List (List ℕ)
     pub are : so-far ++ stringsOfEach programs ≡ all
     pub held : RowsIn b₁ e₁ m (distinct so-far)
@@ -133,7 +133,7 @@ module _ (s : List ℕ) (one two : ℕ → ℕ) (many : ℕ) (b e : List ℕ) (n
       record { as-many-bytes = refl; as-many-ends = refl; rows = R; left = λ xs u l h. record { programs = u .programs; named = u .names; so-far = l; are = ap (λ (z : List (List ℕ)). l ++ z) (sym (u .are)); held = h } }
 
   module _ (k m : ℕ) (b₁ e₁ : List ℕ) (low : k < many) (L : EachLeft k m b₁ e₁) (f g : ℕ) (ef : f ≡ one k) (eg : g ≡ two k) (b₂ e₂ : List ℕ) (r : Kept) (K : KeptAs (BothStrings s f g) b₁ e₁ m r b₂ e₂) where
-    here : (a : Sheet) (z : Packs s a) (v : Visits) → BothNamed s a z (one k) (two k) v → BothStrings s f g (stringsOfBoth v)
+    here : (a : Sheet) (z : Packs s a) (v : TextVisits) → BothNamed s a z (one k) (two k) v → BothStrings s f g (stringsOfBoth v)
     here a z v h =
         record {
           sheet = a;
@@ -152,12 +152,12 @@ module _ (s : List ℕ) (one two : ℕ → ℕ) (many : ℕ) (b e : List ℕ) (n
           left = λ xs u l h. let w = L .left xs u l h in on (u .sheet) (u .packs) (l ++ xs) (w .programs) (w .named) (w .so-far) (w .are) (w .held);
         }
       where
-        on : (a : Sheet) (z : Packs s a) (all : List (List ℕ)) (vs : List Visits) → EachNamed s a z one two k many vs → (c : List (List ℕ)) → c ++ stringsOfEach vs ≡ all → RowsIn b₁ e₁ m (distinct c) → Left (k + 1) (r .count) b₂ e₂ a z all
+        on : (a : Sheet) (z : Packs s a) (all : List (List ℕ)) (vs : List TextVisits) → EachVisitNamed s a z one two k many vs → (c : List (List ℕ)) → c ++ stringsOfEach vs ≡ all → RowsIn b₁ e₁ m (distinct c) → Left (k + 1) (r .count) b₂ e₂ a z all
         on a z all [] d c q R = absurd (omega (arith, d, low))
         on a z all (v ∷ vs) d c q R =
             record {
               programs = vs;
-              named = subst (λ (x : ℕ). EachNamed s a z one two x many vs) (sym (add-one k)) (d .1);
+              named = subst (λ (x : ℕ). EachVisitNamed s a z one two x many vs) (sym (add-one k)) (d .1);
               so-far = c ++ stringsOfBoth v;
               are = append-assoc c (stringsOfBoth v) (stringsOfEach vs) ∙ q;
               held = all-held (r .ok) (r .count) (c ++ stringsOfBoth v) b₂ e₂ ok (K .right (stringsOfBoth v) (here a z v (d .0)) c R);
@@ -172,7 +172,7 @@ module _ (s : List ℕ) (one two : ℕ → ℕ) (many : ℕ) (b e : List ℕ) (n
           right = λ xs u l h. let w = L .left xs u l h in on (u .sheet) (u .packs) (l ++ xs) (w .programs) (w .named) (w .so-far) (w .are) (w .held);
         }
       where
-        on : (a : Sheet) (z : Packs s a) (all : List (List ℕ)) (vs : List Visits) → EachNamed s a z one two k many vs → (c : List (List ℕ)) → c ++ stringsOfEach vs ≡ all → RowsIn b₁ e₁ m (distinct c) → StoredIf (r .ok) (distinct all) b₂ e₂ (r .count)
+        on : (a : Sheet) (z : Packs s a) (all : List (List ℕ)) (vs : List TextVisits) → EachVisitNamed s a z one two k many vs → (c : List (List ℕ)) → c ++ stringsOfEach vs ≡ all → RowsIn b₁ e₁ m (distinct c) → StoredIf (r .ok) (distinct all) b₂ e₂ (r .count)
         on a z all [] d c q R = absurd (omega (arith, d, low))
         on a z all (v ∷ vs) d c q R =
             same-held (r .ok) (r .count) b₂ e₂ (append-assoc c (stringsOfBoth v) (stringsOfEach vs) ∙ q) (more-held b₂ e₂ (r .count) (c ++ stringsOfBoth v) (stringsOfEach vs) (r .ok) ok (K .right (stringsOfBoth v) (here a z v (d .0)) c R))
@@ -186,11 +186,11 @@ module _ (s : List ℕ) (one two : ℕ → ℕ) (many : ℕ) (b e : List ℕ) (n
         right = λ xs u l h. let w = L .left xs u l h in on (u .sheet) (u .packs) (l ++ xs) (w .programs) (w .named) (w .so-far) (w .are) (w .held);
       }
     where
-      past : (a : Sheet) (z : Packs s a) (j : ℕ) (vs : List Visits) → EachNamed s a z one two j many vs → j + length vs ≡ many
+      past : (a : Sheet) (z : Packs s a) (j : ℕ) (vs : List TextVisits) → EachVisitNamed s a z one two j many vs → j + length vs ≡ many
       past a z j [] d = omega (arith, d)
       past a z j (v ∷ vs) d = omega (arith, past a z (suc j) vs (d .1))
 
-      on : (a : Sheet) (z : Packs s a) (all : List (List ℕ)) (vs : List Visits) → EachNamed s a z one two k many vs → (c : List (List ℕ)) → c ++ stringsOfEach vs ≡ all → RowsIn b₁ e₁ m (distinct c) → RowsIn b₁ e₁ m (distinct all)
+      on : (a : Sheet) (z : Packs s a) (all : List (List ℕ)) (vs : List TextVisits) → EachVisitNamed s a z one two k many vs → (c : List (List ℕ)) → c ++ stringsOfEach vs ≡ all → RowsIn b₁ e₁ m (distinct c) → RowsIn b₁ e₁ m (distinct all)
       on a z all [] d c q N = subst (λ (x : List (List ℕ)). RowsIn b₁ e₁ m (distinct x)) (sym (append-nil c) ∙ q) N
       on a z all (v ∷ vs) d c q N = absurd (omega (arith, high, past a z k (v ∷ vs) d))
 
@@ -207,8 +207,8 @@ module _ (s b e b₁ e₁ : List ℕ) (r₁ : Kept) (bytes : length b ≡ mostSt
     named : RulesNamed s a z 0 (x .productions)
     named = rules-named s a z 0 (a .rules) (x .productions) (z .rules-are) (h .rules-are)
 
-    as-many : length (run-together (stringsOf x)) ≡ length (run-together (distinct (outer ++ within)))
-    as-many = as-long (stringsIn (inRules (x .productions))) (outer ++ within) (rules-strings (x .productions))
+    as-many : length (run-together (stringsStored x)) ≡ length (run-together (distinct (outer ++ within)))
+    as-many = as-long (stringsMentioned (inRules (x .productions))) (outer ++ within) (rules-strings (x .productions))
 
     first-held : StoredIf (r₁ .ok) (distinct outer) b₁ e₁ (r₁ .count)
     first-held = K .right outer (record { sheet = a; packs = z; programs = owns (x .productions); names = owns-named s a z 0 (x .productions) named; are = refl }) [] (empty-store b e)
@@ -217,7 +217,7 @@ module _ (s b e b₁ e₁ : List ℕ) (r₁ : Kept) (bytes : length b ≡ mostSt
     over l b′ e′ u v (inl k) = omega (arith, u, k)
     over l b′ e′ u v (inr k) = too-long l mostStringBytes (omega (arith, v, k))
 
-    told : (ok : Bool) (n : ℕ) (b′ e′ : List ℕ) → length b′ ≡ mostStringBytes → length e′ ≡ mostStringBytes + 1 → StoredIf ok (distinct (outer ++ within)) b′ e′ n → Tells (length (run-together (stringsOf x)) ≤ mostStringBytes) ok
+    told : (ok : Bool) (n : ℕ) (b′ e′ : List ℕ) → length b′ ≡ mostStringBytes → length e′ ≡ mostStringBytes + 1 → StoredIf ok (distinct (outer ++ within)) b′ e′ n → Tells (length (run-together (stringsStored x)) ≤ mostStringBytes) ok
     told true n b′ e′ u v R = holds (omega (arith, as-many, u, ap length (R .bytes-are), length-append (run-together (distinct (outer ++ within))) (R .free-bytes)))
     told false n b′ e′ u v R = fails (λ y. omega (arith, y, as-many, over (outer ++ within) b′ e′ u v R))
 

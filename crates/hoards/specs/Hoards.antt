@@ -9,24 +9,24 @@ use Rattle.limits.specs.Limits.{mostStringBytes}
 use Rattle.tells.specs.Tells.{Tells}
 use Rattle.programs.specs.Limits.{Visit}
 use Rattle.sheet.specs.Sheet.{Sheet}
-use Rattle.notation.specs.Program.{Program}
-use Rattle.notation.specs.Rules.{Visits, Rules}
+use Rattle.notation.specs.Program.{TextProgram}
+use Rattle.notation.specs.Rules.{TextVisits, Rules}
 use Rattle.encoding.specs.Distinct.{run-together}
-use Rattle.encoding.specs.Mentions.{inProgram, stringsIn}
-use Rattle.encoding.specs.Encoded.{stringsOf}
+use Rattle.encoding.specs.Mentions.{inProgram, stringsMentioned}
+use Rattle.encoding.specs.Encoded.{stringsStored}
 use Rattle.packing.specs.Packs.{Packs}
 use Rattle.naming.specs.ByName.{ByName}
 use Rattle.asides.specs.Asides.{FieldNamed, BothNamed}
 
 -- the strings of a program, of both programs of a record, and of all records
-abbrev pub stringsOfOne : Option Program → List (List ℕ)
+abbrev pub stringsOfOne : Option TextProgram → List (List ℕ)
 stringsOfOne none = []
-stringsOfOne (some p) = stringsIn (inProgram p)
+stringsOfOne (some p) = stringsMentioned (inProgram p)
 
-abbrev pub stringsOfBoth : Visits → List (List ℕ)
+abbrev pub stringsOfBoth : TextVisits → List (List ℕ)
 stringsOfBoth v = stringsOfOne (v .first-visit) ++ stringsOfOne (v .second-visit)
 
-abbrev pub stringsOfEach : List Visits → List (List ℕ)
+abbrev pub stringsOfEach : List TextVisits → List (List ℕ)
 stringsOfEach [] = []
 stringsOfEach (v ∷ vs) = stringsOfBoth v ++ stringsOfEach vs
 
@@ -35,7 +35,7 @@ pub record FieldStrings (s : List ℕ) (field : ℕ) (xs : List (List ℕ)) : Ty
   pub sheet : Sheet
   pub packs : Packs s sheet
   pub visit : Visit
-  pub program : Option Program
+  pub program : Option TextProgram
   pub names : FieldNamed s sheet packs visit field program
   pub are : xs ≡ stringsOfOne program
 
@@ -43,22 +43,22 @@ pub record FieldStrings (s : List ℕ) (field : ℕ) (xs : List (List ℕ)) : Ty
 pub record BothStrings (s : List ℕ) (one two : ℕ) (xs : List (List ℕ)) : Type 0 where
   pub sheet : Sheet
   pub packs : Packs s sheet
-  pub programs : Visits
+  pub programs : TextVisits
   pub names : BothNamed s sheet packs one two programs
   pub are : xs ≡ stringsOfBoth programs
 
 -- those of the fields of the records from k on, up to `many`
-abbrev pub EachNamed : (s : List ℕ) (a : Sheet) → Packs s a → (ℕ → ℕ) → (ℕ → ℕ) → ℕ → ℕ → List Visits → Type 0
-EachNamed s a z one two k many [] = k ≡ many
-EachNamed s a z one two k many (v ∷ vs) = BothNamed s a z (one k) (two k) v × EachNamed s a z one two (suc k) many vs
+abbrev pub EachVisitNamed : (s : List ℕ) (a : Sheet) → Packs s a → (ℕ → ℕ) → (ℕ → ℕ) → ℕ → ℕ → List TextVisits → Type 0
+EachVisitNamed s a z one two k many [] = k ≡ many
+EachVisitNamed s a z one two k many (v ∷ vs) = BothNamed s a z (one k) (two k) v × EachVisitNamed s a z one two (suc k) many vs
 
 pub record EachStrings (s : List ℕ) (one two : ℕ → ℕ) (many : ℕ) (xs : List (List ℕ)) : Type 0 where
   pub sheet : Sheet
   pub packs : Packs s sheet
-  pub programs : List Visits
-  pub names : EachNamed s sheet packs one two 0 many programs
+  pub programs : List TextVisits
+  pub names : EachVisitNamed s sheet packs one two 0 many programs
   pub are : xs ≡ stringsOfEach programs
 
 -- whether the different strings that the sheet's rules print have room in a sheet
 abbrev pub FitsIs : List ℕ → Bool → Type 0
-FitsIs s r = (a : Sheet) → Packs s a → (x : Rules) → ByName a x → Tells (length (run-together (stringsOf x)) ≤ mostStringBytes) r
+FitsIs s r = (a : Sheet) → Packs s a → (x : Rules) → ByName a x → Tells (length (run-together (stringsStored x)) ≤ mostStringBytes) r

@@ -12,7 +12,7 @@ use Rattle.output.specs.Escape.{render}
 use Rattle.runs.specs.Visits.{Env}
 use Rattle.calls.specs.Call.{Result}
 use Rattle.calls.specs.Accepted.{Accepted}
-use Rattle.calls.specs.Parts.{Feeds, Each, FedAccepted}
+use Rattle.calls.specs.Parts.{Feeds, EachCall, FedAccepted}
 use Rattle.state.specs.Bounds.{stateWidth}
 use Rattle.state.specs.Bytes.{stateFrom}
 use Rattle.converter.specs.Answered.{heldOf}
@@ -49,7 +49,7 @@ abbrev pub HostConverts : List ℕ → Sheet → Type 0
 HostConverts s a =
     (lent area : List ℕ) (w : ℕ) → StartedAs lent area w → 0 < w → (whole : List ℕ) (room : ℕ) (x : Result) (v : ℕ) →
     (d : Feeds (RunCall s) false whole room (take stateWidth area) x v) → (e : Env) → Accepted a whole e → length (render (e .out)) ≤ room →
-    FedAccepted whole e x v × Each (RunAsLent s) d
+    FedAccepted whole e x v × EachCall (RunAsLent s) d
 
 -- of every number: what the calls answer together is what trees say; of each call as many bytes are written as its output has, and every byte of the memory lent to it past them is as
 -- lent

@@ -11,7 +11,7 @@ use lib.ListN.{replicate, length-take}
 use Rattle.strokes.specs.Strokes.{Inks, inks, Stroke, idle, writes, uses, writtenOn, operandOn, inked, operandCode, plainStroke, wordStroke, signStroke, strokeOf, itemBytes}
 use Rattle.strokes.proofs.Lists.{at-either-end}
 use Rattle.pages.proofs.Texts.{written-twice, none-written}
-use Rattle.pages.specs.Pages.{textOf, stackOf}
+use Rattle.pages.specs.Pages.{pageText, stackOf}
 use Rattle.inks.specs.declared.Ink.{Ink}
 use Rattle.inks.specs.Held.{inksIn, Trim, InkIs}
 
@@ -70,20 +70,20 @@ operand-as i b k n e f h g =
     ink-as (ap₂ (λ x y. operandOn (i .mode) x y (inksIn i)) e f ∙ ap (λ z. inked z (inksIn i)) u) g
 
 module _ (i : Ink) (c n : ℕ) {r : Ink} where
-  pub operand-target : i .mode ≡ 0 → InkIs (inks (textOf (i .page)) 0 n (stackOf (i .marks)) (stackOf (i .ors)) (stackOf (i .ands))) r → InkIs (operandOn (i .mode) c n (inksIn i)) r
+  pub operand-target : i .mode ≡ 0 → InkIs (inks (pageText (i .page)) 0 n (stackOf (i .marks)) (stackOf (i .ors)) (stackOf (i .ands))) r → InkIs (operandOn (i .mode) c n (inksIn i)) r
   operand-target e h = subst (λ m. InkIs (operandOn m c n (inksIn i)) r) (sym e) h
 
   module _ {xs : List ℕ} (m : ℕ) (h : InkIs (inks xs m (i .target) (stackOf (i .marks)) (stackOf (i .ors)) (stackOf (i .ands))) r) where
-    pub operand-assigned : i .mode ≡ 1 → m ≡ 0 → xs ≡ writtenOn (textOf (i .page)) ((c + 1) ∷ i .target ∷ n ∷ []) → InkIs (operandOn (i .mode) c n (inksIn i)) r
+    pub operand-assigned : i .mode ≡ 1 → m ≡ 0 → xs ≡ writtenOn (pageText (i .page)) ((c + 1) ∷ i .target ∷ n ∷ []) → InkIs (operandOn (i .mode) c n (inksIn i)) r
     operand-assigned e f g =
         subst (λ z. InkIs (operandOn z c n (inksIn i)) r) (sym e)
-        (ink-as (ap₂ (λ z y. inks z y (i .target) (stackOf (i .marks)) (stackOf (i .ors)) (stackOf (i .ands))) (g ∙ ap (λ z. writtenOn (textOf (i .page)) (z ∷ i .target ∷ n ∷ [])) (add-one c)) f) h)
+        (ink-as (ap₂ (λ z y. inks z y (i .target) (stackOf (i .marks)) (stackOf (i .ors)) (stackOf (i .ands))) (g ∙ ap (λ z. writtenOn (pageText (i .page)) (z ∷ i .target ∷ n ∷ [])) (add-one c)) f) h)
 
-    pub operand-first : i .mode ≡ 2 → m ≡ 3 → xs ≡ writtenOn (textOf (i .page)) (0 ∷ c ∷ n ∷ []) → InkIs (operandOn (i .mode) c n (inksIn i)) r
+    pub operand-first : i .mode ≡ 2 → m ≡ 3 → xs ≡ writtenOn (pageText (i .page)) (0 ∷ c ∷ n ∷ []) → InkIs (operandOn (i .mode) c n (inksIn i)) r
     operand-first e f g =
         subst (λ z. InkIs (operandOn z c n (inksIn i)) r) (sym e) (ink-as (ap₂ (λ z y. inks z y (i .target) (stackOf (i .marks)) (stackOf (i .ors)) (stackOf (i .ands))) g f) h)
 
-    pub operand-second : (i .mode ≡ 0 → ⊥) → (i .mode ≡ 1 → ⊥) → (i .mode ≡ 2 → ⊥) → m ≡ 2 → xs ≡ writtenOn (textOf (i .page)) (c ∷ n ∷ []) → InkIs (operandOn (i .mode) c n (inksIn i)) r
+    pub operand-second : (i .mode ≡ 0 → ⊥) → (i .mode ≡ 1 → ⊥) → (i .mode ≡ 2 → ⊥) → m ≡ 2 → xs ≡ writtenOn (pageText (i .page)) (c ∷ n ∷ []) → InkIs (operandOn (i .mode) c n (inksIn i)) r
     operand-second e f g d k =
         ink-as
         (ap₂ (λ z y. inks z y (i .target) (stackOf (i .marks)) (stackOf (i .ors)) (stackOf (i .ands))) k d
@@ -114,7 +114,7 @@ module _ (k : ℕ) where
     is-sign h g f = rw (le-ltb k 5 h, le-ltb k 15 g, le-ltb k 20 f)
 
 -- items
-pub item-as : (i : Ink) (bs : List ℕ) {us xs : List ℕ} {r : Ink} → bs ≡ us → xs ≡ writtenOn (textOf (i .page)) bs
+pub item-as : (i : Ink) (bs : List ℕ) {us xs : List ℕ} {r : Ink} → bs ≡ us → xs ≡ writtenOn (pageText (i .page)) bs
     → InkIs (inks xs (i .mode) (i .target) (stackOf (i .marks)) (stackOf (i .ors)) (stackOf (i .ands))) r → InkIs (inked (writes us) (inksIn i)) r
 item-as i bs e f h = stroke-as i (ap writes e) (paged-as i (i .mode) f h)
 
@@ -135,7 +135,7 @@ module _ (k place len : ℕ) {b : ℕ} (e : b ≡ place % 256) where
 pub nothing-written : (i : Ink) (bs : List ℕ) → [] ≡ bs → Trim i → InkIs (inked (writes bs) (inksIn i)) i
 nothing-written i bs e h =
     stroke-as i (ap writes e)
-    (paged-as i (i .mode) (none-written (textOf (i .page)) (omega (arith, length-take (i .page .len) (i .page .bytes), h .short))) (record { trim = h; same = refl }))
+    (paged-as i (i .mode) (none-written (pageText (i .page)) (omega (arith, length-take (i .page .len) (i .page .bytes), h .short))) (record { trim = h; same = refl }))
 
 -- the closing 0s, and that of the list
 pub sealed-as : (xs : List ℕ) {ys zs : List ℕ} (n m : ℕ) → ys ≡ writtenOn xs (replicate n 0) → zs ≡ writtenOn ys (0 ∷ []) → n ≡ m → zs ≡ writtenOn xs (replicate (suc m) 0)

@@ -3,11 +3,11 @@ use mathlib.Core.Path.{_≡_}
 use Prim.Native.Nat.{_≤_}
 use Rattle.limits.specs.Limits.{longestProgram}
 use Rattle.strokes.specs.Strokes.{Inks, inks, mostStacked}
-use Rattle.pages.specs.Pages.{textOf, stackOf}
+use Rattle.pages.specs.Pages.{pageText, stackOf}
 use Rattle.inks.specs.declared.Ink.{Ink}
 
 abbrev pub inksIn : Ink → Inks
-inksIn i = inks (textOf (i .page)) (i .mode) (i .target) (stackOf (i .marks)) (stackOf (i .ors)) (stackOf (i .ands))
+inksIn i = inks (pageText (i .page)) (i .mode) (i .target) (stackOf (i .marks)) (stackOf (i .ors)) (stackOf (i .ands))
 
 -- no more bytes and no higher stacks than there is room for
 pub record Trim (i : Ink) : Type 0 where

@@ -3,8 +3,8 @@ ghost use mathlib.Core.Path.{_≡_};
 ghost use mathlib.Core.List.{[], _∷_};
 ghost use Prim.Native.Nat.{_≤_};
 ghost use Rattle.limits.specs.Limits.{longestProgram};
-ghost use Rattle.strokes.specs.Strokes.{inks, mostStacked, operandOn, inked, writes, tests, elses, ends, separates, conjoins, disjoins, opens, closes, blank, operandCode, plainStroke, wordStroke, signStroke, strokeOf, itemBytes, sealedBytes};
-ghost use Rattle.pages.specs.Pages.{textOf, stackOf, PageIs};
+ghost use Rattle.strokes.specs.Strokes.{inks, mostStacked, operandOn, inked, writes, tests, elses, ends, separates, conjoins, disjoins, opens, closes, noInk, operandCode, plainStroke, wordStroke, signStroke, strokeOf, itemBytes, sealedBytes};
+ghost use Rattle.pages.specs.Pages.{pageText, stackOf, PageIs};
 ghost use Rattle.inks.specs.Held.{inksIn, Trim, InkIs};
 use pages::Page;
 use pages::Stack;
@@ -39,7 +39,7 @@ fn operand_code(kind: usize, second: bool) -> u8
 
 impl Ink {
     pub fn fresh() -> Ink
-        ensures { λ r. ⌜ InkIs blank r ⌝ }
+        ensures { λ r. ⌜ InkIs noInk r ⌝ }
     {
         let page = Page::fresh();
         let bare = Stack::fresh();
@@ -58,7 +58,7 @@ impl Ink {
     fn paged(self, page: Page, mode: usize) -> Ink
         requires { ⌜ Trim self ⌝ }
         requires { ⌜ page .len ≤ longestProgram ⌝ }
-        ensures { λ r. ⌜ InkIs (inks (textOf page) mode (self .target) (stackOf (self .marks)) (stackOf (self .ors)) (stackOf (self .ands))) r ⌝ }
+        ensures { λ r. ⌜ InkIs (inks (pageText page) mode (self .target) (stackOf (self .marks)) (stackOf (self .ors)) (stackOf (self .ands))) r ⌝ }
     {
         let marks = self.marks;
         let ors = self.ors;
@@ -78,7 +78,7 @@ impl Ink {
         requires { ⌜ Trim self ⌝ }
         requires { ⌜ page .len ≤ longestProgram ⌝ }
         requires { ⌜ marks .count ≤ mostStacked ⌝ }
-        ensures { λ r. ⌜ InkIs (inks (textOf page) mode (self .target) (stackOf marks) (stackOf (self .ors)) (stackOf (self .ands))) r ⌝ }
+        ensures { λ r. ⌜ InkIs (inks (pageText page) mode (self .target) (stackOf marks) (stackOf (self .ors)) (stackOf (self .ands))) r ⌝ }
     {
         let ors = self.ors;
         let ands = self.ands;
@@ -98,7 +98,7 @@ impl Ink {
         requires { ⌜ page .len ≤ longestProgram ⌝ }
         requires { ⌜ ors .count ≤ mostStacked ⌝ }
         requires { ⌜ ands .count ≤ mostStacked ⌝ }
-        ensures { λ r. ⌜ InkIs (inks (textOf page) mode (self .target) (stackOf (self .marks)) (stackOf ors) (stackOf ands)) r ⌝ }
+        ensures { λ r. ⌜ InkIs (inks (pageText page) mode (self .target) (stackOf (self .marks)) (stackOf ors) (stackOf ands)) r ⌝ }
     {
         let marks = self.marks;
         Ink {
@@ -114,7 +114,7 @@ impl Ink {
     // An attribute that is assigned.
     fn targeted(self, n: u8) -> Ink
         requires { ⌜ Trim self ⌝ }
-        ensures { λ r. ⌜ InkIs (inks (textOf (self .page)) 0 n (stackOf (self .marks)) (stackOf (self .ors)) (stackOf (self .ands))) r ⌝ }
+        ensures { λ r. ⌜ InkIs (inks (pageText (self .page)) 0 n (stackOf (self .marks)) (stackOf (self .ors)) (stackOf (self .ands))) r ⌝ }
     {
         let page = self.page;
         let marks = self.marks;

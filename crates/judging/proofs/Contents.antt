@@ -23,7 +23,7 @@ use Rattle.models.proofs.Walk.{declarations-walk}
 use Rattle.models.proofs.Held.{EmptyText}
 use Rattle.models.proofs.Shortest.{ProgressHeld, held, not-empty}
 use Rattle.models.proofs.Told.{value-of, reads-dtds}
-use Rattle.judging.specs.Standing.{StandsAt, ContentMayBegin}
+use Rattle.judging.specs.Standing.{StandsBehind, ContentMayBegin}
 use Rattle.judging.specs.Promises.{WhereContentBegins}
 
 abbrev go : DtdProgress → List ℕ → Option DtdProgress
@@ -117,7 +117,7 @@ wanted-or-not (within ds (after n x l ls)) row h = inr tt
 wanted-or-not (within ds (group-closed n x)) row h = inr tt
 wanted-or-not (within ds (ended n c)) row h = inr tt
 
-module _ (text : List ℕ) (k : ℕ) (s : DtdProgress) (at : StandsAt text k s) where
+module _ (text : List ℕ) (k : ℕ) (s : DtdProgress) (at : StandsBehind text k s) where
   wanted? : WantsContent s ⊎ NotOver (go s (emptyWord ++ 62 ∷ []))
   wanted? = wanted-or-not s (take k text) (held 31 s (take k text) (at .walked))
 

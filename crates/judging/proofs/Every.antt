@@ -24,7 +24,7 @@ use Rattle.models.specs.Answers.{WordAt, EndsWith, AnyAt, EntityWordAt, EntityA
 use Rattle.models.specs.Reader.{DtdProgress, outside, within, stepDeclarations, valueOfDtd, finishedDtd}
 use Rattle.models.specs.Promises.{DtdFits}
 use Rattle.models.proofs.Told.{few?, shallow?}
-use Rattle.judging.specs.Standing.{StandsAt, ContentMayBegin}
+use Rattle.judging.specs.Standing.{StandsBehind, ContentMayBegin}
 use Rattle.judging.specs.Promises.{EveryText}
 use Rattle.judging.proofs.Words.{alone, parted, goes-on}
 use Rattle.judging.proofs.Parentheses.{openAround, never, one-state}
@@ -110,7 +110,7 @@ abbrev Answered : List ℕ → Type 0
 Answered text = (a : ModelsTold) × ReadModels text a
 
 module _ (text : List ℕ) where
-  at-end : (s : DtdProgress) → StandsAt text (length text) s → Room text s → Answered text
+  at-end : (s : DtdProgress) → StandsBehind text (length text) s → Room text s → Answered text
   at-end s at room = on (cases (valueOfDtd s)) room
     where
       on : (valueOfDtd s ≡ none) ⊎ ((ds : List Declaration) × (valueOfDtd s ≡ some ds)) → Room text s → Answered text
@@ -118,9 +118,9 @@ module _ (text : List ℕ) where
       on (inr (ds, e)) (inl h) = (declares ds, all-declared text s ds at e (holds-so-far s ds e h))
       on (inr (ds, e)) (inr (j, t)) = (refuses 56 j, too-much-in-all text j s ds t at e)
 
-  module _ (rest : List ℕ) (k b : ℕ) (s : DtdProgress) (at : StandsAt text k s) (here : drop k text ≡ b ∷ rest) where
+  module _ (rest : List ℕ) (k b : ℕ) (s : DtdProgress) (at : StandsBehind text k s) (here : drop k text ≡ b ∷ rest) where
     -- the room behind the byte
-    room-on : (s′ : DtdProgress) → stepDeclarations parentheses s b ≡ some s′ → StandsAt text (suc k) s′ → Room text s → Room text s′
+    room-on : (s′ : DtdProgress) → stepDeclarations parentheses s b ≡ some s′ → StandsBehind text (suc k) s′ → Room text s → Room text s′
     room-on s′ e at′ (inr t) = inr t
     room-on s′ e at′ (inl h) = on (adds parentheses b s s′ e)
       where
@@ -132,13 +132,13 @@ module _ (text : List ℕ) where
             holds (yes i) = inl (subst (λ z. Holdable (soFar z)) (sym g) i)
             holds (no i) =
                 let step : stepDeclarations parentheses (within ds q) b ≡ some (outside (ds ++ d ∷ [])) = ap (λ z. stepDeclarations parentheses z b) (sym f) ∙ e ∙ ap some g in
-                inr (k, too-much-there text rest k b ds q d (subst (StandsAt text k) f at) (subst (λ z. Holdable (soFar z)) f h) here step (subst (λ z. StandsAt text (suc k) z) g at′ .fits) i)
+                inr (k, too-much-there text rest k b ds q d (subst (StandsBehind text k) f at) (subst (λ z. Holdable (soFar z)) f h) here step (subst (λ z. StandsBehind text (suc k) z) g at′ .fits) i)
 
     refused : stepDeclarations (suc (openAround s)) s b ≡ none → Answered text
     refused e = let n = number text k (content? text k s at) in (refuses (n .0) k, refused-by-grammar text rest k b (n .0) s at here (never s b e) (n .1))
 
     -- what the byte leads to, by how many parentheses it takes
-    led : (p : ℕ) (s′ : DtdProgress) → stepDeclarations p s b ≡ some s′ → Room text s → ((z : DtdProgress) → StandsAt text (suc k) z → Room text z → Answered text) → Answered text
+    led : (p : ℕ) (s′ : DtdProgress) → stepDeclarations p s b ≡ some s′ → Room text s → ((z : DtdProgress) → StandsBehind text (suc k) z → Room text z → Answered text) → Answered text
     led p s′ e room onward = on (few? (finishedDtd s′)) (shallow? (finishedDtd s′)) (cases (stepDeclarations parentheses s b))
       where
         on : Dec (EachFewNodes (finishedDtd s′)) → Dec (Shallow (finishedDtd s′)) → (stepDeclarations parentheses s b ≡ none) ⊎ ((z : DtdProgress) × (stepDeclarations parentheses s b ≡ some z)) → Answered text
@@ -150,17 +150,17 @@ module _ (text : List ℕ) where
             let at′ = one-byte-on text rest k b s z at here c (subst (λ y. DtdFits (finishedDtd y)) same (record { few = f; shallow = g })) in
             onward z at′ (room-on z c at′ room)
 
-    answered-from : Room text s → ((z : DtdProgress) → StandsAt text (suc k) z → Room text z → Answered text) → Answered text
+    answered-from : Room text s → ((z : DtdProgress) → StandsBehind text (suc k) z → Room text z → Answered text) → Answered text
     answered-from room onward = on (cases (stepDeclarations (suc (openAround s)) s b))
       where
         on : (stepDeclarations (suc (openAround s)) s b ≡ none) ⊎ ((z : DtdProgress) × (stepDeclarations (suc (openAround s)) s b ≡ some z)) → Answered text
         on (inl e) = refused e
         on (inr (z, e)) = led (suc (openAround s)) z e room onward
 
-  answered : (rest : List ℕ) (k : ℕ) (s : DtdProgress) → StandsAt text k s → drop k text ≡ rest → Room text s → Answered text
+  answered : (rest : List ℕ) (k : ℕ) (s : DtdProgress) → StandsBehind text k s → drop k text ≡ rest → Room text s → Answered text
   answered [] k s at here room =
       let e : k ≡ length text = omega (arith, at .reached, length-drop k text, ap length here) in
-      at-end s (subst (λ j. StandsAt text j s) e at) room
+      at-end s (subst (λ j. StandsBehind text j s) e at) room
   answered (b ∷ rest) k s at here room = answered-from rest k b s at here room (λ z at′ r. answered rest (suc k) z at′ behind r)
     where
       behind : drop (suc k) text ≡ rest

@@ -17,7 +17,7 @@ use Rattle.models.specs.Reader.{DtdProgress, outside, stepDeclarations, valueOf
 use Rattle.models.specs.Promises.{DtdFits}
 use Rattle.models.proofs.OneAnswer.{starts-any, starts-entity, starts-attlist}
 use Rattle.models.proofs.Told.{finished-value, reads-dtds}
-use Rattle.judging.specs.Standing.{StandsAt}
+use Rattle.judging.specs.Standing.{StandsBehind}
 use Rattle.judging.specs.Promises.{StandsFirst, OneByteOn, ByGrammar, ByNodes, ByDepth, Unfinished, AllDeclared}
 use Rattle.judging.proofs.Parentheses.{one-state}
 use Rattle.judging.proofs.Goes.{not-the-end, one-more, by-grammar, by-few-nodes, goes-by-grammar, goes-with-few-nodes, goes-so-far, refused-there}
@@ -57,7 +57,7 @@ refused-by-depth text rest k b p s s′ at here e few h =
     deep (inr n) z f g = none≢some n f
 
 -- all of the text
-pub whole : (text : List ℕ) (s : DtdProgress) → StandsAt text (length text) s → walk (stepDeclarations parentheses) (outside []) text ≡ some s
+pub whole : (text : List ℕ) (s : DtdProgress) → StandsBehind text (length text) s → walk (stepDeclarations parentheses) (outside []) text ≡ some s
 whole text s at = ap (walk (stepDeclarations parentheses) (outside [])) (sym (take-length text)) ∙ at .walked
 
 nothing-there : (text : List ℕ) (c : ℕ) (r : List ℕ) → drop (length text) text ≡ c ∷ r → ⊥
@@ -79,7 +79,7 @@ unfinished text s at e =
         none≢some e (ap valueOfDtd (sym state) ∙ c .told)
 
 -- a text that is read to its end is of the family
-pub all-of-family : (text : List ℕ) (s : DtdProgress) (ds : List Declaration) → StandsAt text (length text) s → valueOfDtd s ≡ some ds → Family text ds
+pub all-of-family : (text : List ℕ) (s : DtdProgress) (ds : List Declaration) → StandsBehind text (length text) s → valueOfDtd s ≡ some ds → Family text ds
 all-of-family text s ds at e =
     let same = finished-value s ds e in
     let f : DtdFits ds = subst DtdFits same (at .fits) in

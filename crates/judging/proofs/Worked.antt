@@ -11,7 +11,7 @@ use Rattle.models.specs.Models.{called, sequence, at-least-one, children}
 use Rattle.models.specs.Answers.{AnyAt, EntityAt, AttlistAt, Stands, any, entity, attlist, other}
 use Rattle.models.specs.Reader.{commas, opening, contents, inside, mixed-closed, in-name, wants, group-closed, ended, outside, within}
 use Rattle.models.proofs.OneAnswer.{starts-any, starts-entity, starts-attlist}
-use Rattle.judging.specs.Standing.{StandsAt}
+use Rattle.judging.specs.Standing.{StandsBehind}
 use Rattle.judging.specs.Worked.{anyText, anythingText, entityText, referenceText, attlistText, doubledText, thirteenText, mingledText, unstarredText, ToldOfTexts}
 use Rattle.judging.proofs.Words.{parted, goes-on}
 use Rattle.judging.proofs.Refused.{stands-first, refused-by-grammar, refused-by-nodes, refused-by-depth, unfinished}
@@ -32,31 +32,31 @@ plain-byte text rest k b here a n p m = other no-any no-entity no-attlist
     no-attlist : AttlistAt text k → ⊥
     no-attlist x = let t = starts-attlist text k x in a (head-eq-of-cons-eq (sym here ∙ t .1))
 
-before-any : StandsAt anyText 12 (within [] (contents (97 ∷ [])))
+before-any : StandsBehind anyText 12 (within [] (contents (97 ∷ [])))
 before-any = record { reached = omega arith; walked = refl; fits = record { few = (omega arith, tt); shallow = (omega arith, tt) } }
 
-before-anything : StandsAt anythingText 12 (within [] (contents (97 ∷ [])))
+before-anything : StandsBehind anythingText 12 (within [] (contents (97 ∷ [])))
 before-anything = record { reached = omega arith; walked = refl; fits = record { few = (omega arith, tt); shallow = (omega arith, tt) } }
 
-in-entity : StandsAt entityText 3 (within [] (opening (76 ∷ 69 ∷ 77 ∷ 69 ∷ 78 ∷ 84 ∷ [])))
+in-entity : StandsBehind entityText 3 (within [] (opening (76 ∷ 69 ∷ 77 ∷ 69 ∷ 78 ∷ 84 ∷ [])))
 in-entity = record { reached = omega arith; walked = refl; fits = record { few = (omega arith, tt); shallow = (omega arith, tt) } }
 
-in-reference : StandsAt referenceText 13 (within [] (inside (97 ∷ [])))
+in-reference : StandsBehind referenceText 13 (within [] (inside (97 ∷ [])))
 in-reference = record { reached = omega arith; walked = refl; fits = record { few = (omega arith, tt); shallow = (omega arith, tt) } }
 
-in-attlist : StandsAt attlistText 2 (within [] (opening (69 ∷ 76 ∷ 69 ∷ 77 ∷ 69 ∷ 78 ∷ 84 ∷ [])))
+in-attlist : StandsBehind attlistText 2 (within [] (opening (69 ∷ 76 ∷ 69 ∷ 77 ∷ 69 ∷ 78 ∷ 84 ∷ [])))
 in-attlist = record { reached = omega arith; walked = refl; fits = record { few = (omega arith, tt); shallow = (omega arith, tt) } }
 
-in-doubled : StandsAt doubledText 24 (within [] (group-closed (97 ∷ []) (at-least-one (at-least-one (at-least-one (called (98 ∷ [])))))))
+in-doubled : StandsBehind doubledText 24 (within [] (group-closed (97 ∷ []) (at-least-one (at-least-one (at-least-one (called (98 ∷ [])))))))
 in-doubled = record { reached = omega arith; walked = refl; fits = record { few = (omega arith, tt); shallow = (omega arith, tt) } }
 
-in-thirteen : StandsAt thirteenText 36 (within [] (in-name (97 ∷ []) (109 ∷ []) (commas (sequence (sequence (sequence (sequence (sequence (sequence (sequence (sequence (sequence (sequence (called (98 ∷ [])) (called (99 ∷ []))) (called (100 ∷ []))) (called (101 ∷ []))) (called (102 ∷ []))) (called (103 ∷ []))) (called (104 ∷ []))) (called (105 ∷ []))) (called (106 ∷ []))) (called (107 ∷ []))) (called (108 ∷ [])))) []))
+in-thirteen : StandsBehind thirteenText 36 (within [] (in-name (97 ∷ []) (109 ∷ []) (commas (sequence (sequence (sequence (sequence (sequence (sequence (sequence (sequence (sequence (sequence (called (98 ∷ [])) (called (99 ∷ []))) (called (100 ∷ []))) (called (101 ∷ []))) (called (102 ∷ []))) (called (103 ∷ []))) (called (104 ∷ []))) (called (105 ∷ []))) (called (106 ∷ []))) (called (107 ∷ []))) (called (108 ∷ [])))) []))
 in-thirteen = record { reached = omega arith; walked = refl; fits = record { few = (omega arith, tt); shallow = (omega arith, tt) } }
 
-in-mingled : StandsAt mingledText 16 (within [] (in-name (97 ∷ []) (99 ∷ []) (commas (called (98 ∷ []))) []))
+in-mingled : StandsBehind mingledText 16 (within [] (in-name (97 ∷ []) (99 ∷ []) (commas (called (98 ∷ []))) []))
 in-mingled = record { reached = omega arith; walked = refl; fits = record { few = (omega arith, tt); shallow = (omega arith, tt) } }
 
-in-unstarred : StandsAt unstarredText 23 (within [] (mixed-closed (97 ∷ []) ((98 ∷ []) ∷ [])))
+in-unstarred : StandsBehind unstarredText 23 (within [] (mixed-closed (97 ∷ []) ((98 ∷ []) ∷ [])))
 in-unstarred = record { reached = omega arith; walked = refl; fits = record { few = (omega arith, tt); shallow = (omega arith, tt) } }
 
 -- ANY goes on with a name's byte

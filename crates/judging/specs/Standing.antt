@@ -17,7 +17,7 @@ use Rattle.models.specs.Reader.{DtdProgress, outside, stepDeclarations, finishe
 use Rattle.models.specs.Promises.{DtdFits}
 
 -- s is where it stands behind the first k bytes, and the shortest continuation from there keeps the limits of each model
-pub record StandsAt (text : List ℕ) (k : ℕ) (s : DtdProgress) : Type 0 where
+pub record StandsBehind (text : List ℕ) (k : ℕ) (s : DtdProgress) : Type 0 where
   pub reached : k ≤ length text
   pub walked : walk (stepDeclarations parentheses) (outside []) (take k text) ≡ some s
   pub fits : DtdFits (finishedDtd s)

@@ -9,7 +9,7 @@ use Rattle.models.specs.Expressions.{modelExpression, modelNodes, modelDepth}
 use Rattle.models.specs.Reader.{LeftOf, fresh, commas, bars, behindLeft, aroundModel, shortName}
 use Rattle.models.proofs.Counted.{counted, depth-counted}
 use Rattle.declarations.specs.declared.NodeRow.{NodeRow}
-use Rattle.declarations.specs.Nodes.{roomForNodes, mostBytes, LeftShown}
+use Rattle.declarations.specs.Nodes.{roomForNodes, mostNodeBytes, LeftShown}
 use Rattle.declarations.proofs.Laws.{two-bytes, no-deeper}
 use Rattle.extents.specs.Held.{lastFirst}
 use Rattle.extents.proofs.Stacks.{top}
@@ -43,7 +43,7 @@ module _ (p : Level) (s : ModelSize) where
 
   module _ (left : ModelSize) (some : p .kind ≡ 0 → ⊥) (a : RowSize (p .nodes) left) where
     -- it is too large for none within its limits
-    pub behind-far : (deeper more most : ℕ) → deeper ≡ max (left .deep) (s .deep) → more ≡ max (left .nodes) (s .nodes) → most ≡ max more deeper → mostBytes < most → BehindSize p s s
+    pub behind-far : (deeper more most : ℕ) → deeper ≡ max (left .deep) (s .deep) → more ≡ max (left .nodes) (s .nodes) → most ≡ max more deeper → mostNodeBytes < most → BehindSize p s s
     behind-far deeper more most d m e far = record { is = go }
       where
         over : (x y : Model) → SizeOf y left → SizeOf x s → modelNodes y + modelNodes x + 1 ≤ roomForNodes → ⊥

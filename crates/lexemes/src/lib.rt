@@ -3,7 +3,7 @@ ghost use mathlib.Core.List.{[], _++_};
 ghost use Prim.Native.Nat.{_-_, _≤_, _<_};
 ghost use lib.ListN.{length, take, drop};
 ghost use Rattle.lexing.specs.Reads.{ReadIs, stopsAt, OneSpelling};
-ghost use Rattle.lexemes.specs.Kinds.{kinds, OfKind, TriedIs, Only, Lexed};
+ghost use Rattle.lexemes.specs.Kinds.{kinds, OfKind, TriedIs, MayIf, Lexed};
 
 // A token of the kinds 0 to 9: those with a number, a name or characters.
 fn varied(x: &[u8], k: usize) -> lexing::Tried
@@ -63,7 +63,7 @@ fn sign(x: &[u8], k: usize) -> lexing::Tried
 // A token of a kind, if it may stand here.
 fn of_kind(x: &[u8], k: usize, may: bool) -> lexing::Tried
     requires { ⌜ k < kinds ⌝ }
-    ensures { λ r. ⌜ TriedIs (Only may (OfKind k)) (now (x .entry)) r ⌝ }
+    ensures { λ r. ⌜ TriedIs (MayIf may (OfKind k)) (now (x .entry)) r ⌝ }
 {
     if may {
         if k < 10 {

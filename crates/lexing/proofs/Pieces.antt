@@ -21,7 +21,7 @@ use Rattle.notation.specs.Tokens.{in-quotes, all-in-quotes, StringOf}
 use Rattle.notation.proofs.Rows.{splits, utf8-some}
 use Rattle.notation.proofs.Strings.{unescaped, Form, by-escape, as-itself, form, escaped-one, no-quote}
 use Rattle.lexing.specs.declared.Tried.{Tried}
-use Rattle.lexing.specs.Reads.{Stops, nothing, Spelt, Starts, Halts, ReadIs, whole, halts, CharSpelling, widthOf, escapeByte, PieceSpelling, StringSpelling}
+use Rattle.lexing.specs.Reads.{Stops, nothing, Spelt, BeginsSpelling, Halts, ReadIs, whole, halts, CharSpelling, widthOf, escapeByte, PieceSpelling, StringSpelling}
 use Rattle.lexing.proofs.Spellings.{part, part-is, last-taken}
 
 any-stops : (y : List ℕ) → Stops nothing y
@@ -51,7 +51,7 @@ character-found y j c n (h, (v, e), l) = whole {n = n} {k = n} (record {
   stops = any-stops (v ++ drop j y);
 })
 
-begun-char : (y : List ℕ) (j : ℕ) → DecodedIs (take j y) Begun → Starts CharSpelling (take j y)
+begun-char : (y : List ℕ) (j : ℕ) → DecodedIs (take j y) Begun → BeginsSpelling CharSpelling (take j y)
 begun-char y j (c, h, (v, e, n)) = record { spelling = utf8 c; number = length (utf8 c); rest = v; is = record { character = c; is-char = h; spelled = refl; long = refl }; are = e }
 
 pub character-bad : (y : List ℕ) (j : ℕ) → j ≤ length y → DecodedIs (take j y) Begun → DecodedIs (take (j + 1) y) Bad → ReadIs CharSpelling nothing y (Tried.Stuck j)
@@ -200,7 +200,7 @@ module _ (L : List ℕ → ℕ → Type 0) (a : ℕ) (g : List ℕ) (some : (w :
       on [] l e = absurd (omega arith)
       on (b ∷ w) l e = (w, ap (λ z. z ∷ w) (sym (head-eq-of-cons-eq e)))
 
-  led-start : (k : ℕ) → (s : Starts L (take (suc k) (a ∷ g))) → Led L a (s .spelling) (s .number)
+  led-start : (k : ℕ) → (s : BeginsSpelling L (take (suc k) (a ∷ g))) → Led L a (s .spelling) (s .number)
   led-start k s = (s .is, (take k g ++ s .rest, s .are))
 
   none-led : ((w : List ℕ) (n : ℕ) → Led L a w n → ⊥) → ReadIs L nothing (a ∷ g) (Tried.Stuck 0)
@@ -214,7 +214,7 @@ module _ (L : List ℕ → ℕ → Type 0) (a : ℕ) (g : List ℕ) (some : (w :
 -- two sorts that have the same spellings with that first byte
 module _ (L M : List ℕ → ℕ → Type 0) (a : ℕ) (g : List ℕ) (some-l : (w : List ℕ) (n : ℕ) → L w n → 1 ≤ length w) (some-m : (w : List ℕ) (n : ℕ) → M w n → 1 ≤ length w)
     (to : (w : List ℕ) (n : ℕ) → Led L a w n → M w n) (back : (w : List ℕ) (n : ℕ) → Led M a w n → L w n) where
-  begun-agree : (k : ℕ) → (1 ≤ k → Starts L (take k (a ∷ g))) → 1 ≤ k → Starts M (take k (a ∷ g))
+  begun-agree : (k : ℕ) → (1 ≤ k → BeginsSpelling L (take k (a ∷ g))) → 1 ≤ k → BeginsSpelling M (take k (a ∷ g))
   begun-agree zero f i = absurd (omega arith)
   begun-agree (suc k) f i = let s = f i in record { spelling = s .spelling; number = s .number; rest = s .rest; is = to (s .spelling) (s .number) (led-start L a g some-l k s); are = s .are }
 
@@ -314,7 +314,7 @@ pub escape-no-room : (room : ℕ) (y : List ℕ) → 1 ≤ length y → room ≡
 escape-no-room room [] l e = absurd (omega arith)
 escape-no-room room (a ∷ g) l e = none-led (PieceSpelling room) a g (piece-some room) (λ w m h. omega (arith, h .0 .fits, utf8-some (h .0 .character)))
 
-escape-begun : (room : ℕ) (y : List ℕ) → 1 ≤ room → 1 ≤ length y → getD y 0 0 ≡ 92 → Starts (PieceSpelling room) (take 1 y)
+escape-begun : (room : ℕ) (y : List ℕ) → 1 ≤ room → 1 ≤ length y → getD y 0 0 ≡ 92 → BeginsSpelling (PieceSpelling room) (take 1 y)
 escape-begun room [] r l e = absurd (omega arith)
 escape-begun room (a ∷ g) r l e =
     let z = escape-of 34 refl in
@@ -486,7 +486,7 @@ module _ (x : List ℕ) (i n : ℕ) (l : i ≤ length x) (small : n ≤ 255) (f 
             let r = room-left (s .is .characters) d es (s .is .are-string) e in
             h .no-whole (length (utf8 d)) (length (in-quotes d)) (record { spelling = in-quotes d; rest = all-in-quotes es ++ 34 ∷ s .rest; is = record { character = d; is-char = r .0; fits = r .1; spelled = refl; long = refl }; are = j; long = refl; stops = any-stops (all-in-quotes es ++ 34 ∷ s .rest) })
 
-    string-no-further : i + k < length x → Starts StringSpelling (take (suc (i + k)) x) → ⊥
+    string-no-further : i + k < length x → BeginsSpelling StringSpelling (take (suc (i + k)) x) → ⊥
     string-no-further m s = on (split-strings (f .characters) (s .is .characters) [] (take (suc k) (drop i x) ++ s .rest) same)
       where
         front : take (suc (i + k)) x ≡ 34 ∷ (all-in-quotes (f .characters) ++ take (suc k) (drop i x))
@@ -525,10 +525,10 @@ module _ (x : List ℕ) (i n : ℕ) (l : i ≤ length x) (small : n ≤ 255) (f 
             })
             cut (inr (z, a, b)) = h .no-further inside (record { spelling = in-quotes d; number = length (utf8 d); rest = z; is = spelled; are = a })
 
-    string-begun : Starts StringSpelling (take (i + k) x)
+    string-begun : BeginsSpelling StringSpelling (take (i + k) x)
     string-begun = on k (h .begun) (taken-to k)
       where
-        on : (q : ℕ) → (1 ≤ q → Starts (PieceSpelling (255 - n)) (take q (drop i x))) → take (i + k) x ≡ 34 ∷ (all-in-quotes (f .characters) ++ take q (drop i x)) → Starts StringSpelling (take (i + k) x)
+        on : (q : ℕ) → (1 ≤ q → BeginsSpelling (PieceSpelling (255 - n)) (take q (drop i x))) → take (i + k) x ≡ 34 ∷ (all-in-quotes (f .characters) ++ take q (drop i x)) → BeginsSpelling StringSpelling (take (i + k) x)
         on zero b e = record {
           spelling = 34 ∷ (all-in-quotes (f .characters) ++ 34 ∷ []);
           number = n;

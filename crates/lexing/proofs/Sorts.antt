@@ -16,7 +16,7 @@ use Rattle.text.proofs.NameLaws.{name-all}
 use Rattle.notation.specs.Tokens.{decimal, TagName}
 use Rattle.notation.proofs.Rows.{getD-front, all-snoc}
 use Rattle.lexing.specs.declared.Tried.{Tried}
-use Rattle.lexing.specs.Reads.{Common, Stops, stopsAt, nothing, Spelt, Starts, Halts, ReadIs, whole, halts, OneSpelling, Numbered, NameRun, NameSpelling, TagSpelling}
+use Rattle.lexing.specs.Reads.{Common, Stops, stopsAt, nothing, Spelt, BeginsSpelling, Halts, ReadIs, whole, halts, OneSpelling, NumberBehind, NameRun, NameSpelling, TagSpelling}
 use Rattle.lexing.proofs.Spellings.{part, part-is, all-of, last-taken}
 
 clash : {A : Type 0} → _≡_ {A = Bool} true false → A
@@ -32,7 +32,7 @@ unfolding decimal
 two-digits n h = rw (le-ltb n 10 h) refl
 
 -- some of the bytes that begin a spelling begin it
-starts-less : (L : List ℕ → ℕ → Type 0) (x : List ℕ) (p q : ℕ) → p ≤ q → Starts L (take q x) → Starts L (take p x)
+starts-less : (L : List ℕ → ℕ → Type 0) (x : List ℕ) (p q : ℕ) → p ≤ q → BeginsSpelling L (take q x) → BeginsSpelling L (take p x)
 starts-less L x p q h s = record {
   spelling = s .spelling;
   number = s .number;
@@ -43,13 +43,13 @@ starts-less L x p q h s = record {
 
 -- two sorts: the longer beginning counts
 module _ (L M N : List ℕ → ℕ → Type 0) (j : ℕ → Bool) (x : List ℕ) (split : (w : List ℕ) (n : ℕ) → N w n → L w n ⊎ M w n) (left : (w : List ℕ) (n : ℕ) → L w n → N w n) (right : (w : List ℕ) (n : ℕ) → M w n → N w n) where
-  starts-as : (A B : List ℕ → ℕ → Type 0) → ((w : List ℕ) (n : ℕ) → A w n → B w n) → (y : List ℕ) → Starts A y → Starts B y
+  starts-as : (A B : List ℕ → ℕ → Type 0) → ((w : List ℕ) (n : ℕ) → A w n → B w n) → (y : List ℕ) → BeginsSpelling A y → BeginsSpelling B y
   starts-as A B f y s = record { spelling = s .spelling; number = s .number; rest = s .rest; is = f (s .spelling) (s .number) (s .is); are = s .are }
 
-  starts-split : (y : List ℕ) → Starts N y → Starts L y ⊎ Starts M y
+  starts-split : (y : List ℕ) → BeginsSpelling N y → BeginsSpelling L y ⊎ BeginsSpelling M y
   starts-split y s = on (split (s .spelling) (s .number) (s .is))
     where
-      on : L (s .spelling) (s .number) ⊎ M (s .spelling) (s .number) → Starts L y ⊎ Starts M y
+      on : L (s .spelling) (s .number) ⊎ M (s .spelling) (s .number) → BeginsSpelling L y ⊎ BeginsSpelling M y
       on (inl h) = inl (record { spelling = s .spelling; number = s .number; rest = s .rest; is = h; are = s .are })
       on (inr h) = inr (record { spelling = s .spelling; number = s .number; rest = s .rest; is = h; are = s .are })
 
@@ -63,7 +63,7 @@ module _ (L M N : List ℕ → ℕ → Type 0) (j : ℕ → Bool) (x : List ℕ)
   pub halts-union : (p q : ℕ) → Halts L j x p → Halts M j x q → Halts N j x (max p q)
   halts-union p q a b = on (decLe p q)
     where
-      further : (k : ℕ) → p ≤ k → q ≤ k → k < length x → Starts L (take (suc k) x) ⊎ Starts M (take (suc k) x) → ⊥
+      further : (k : ℕ) → p ≤ k → q ≤ k → k < length x → BeginsSpelling L (take (suc k) x) ⊎ BeginsSpelling M (take (suc k) x) → ⊥
       further k lp lq i (inl s) = a .no-further (omega arith) (starts-less L x (suc p) (suc k) (omega arith) s)
       further k lp lq i (inr s) = b .no-further (omega arith) (starts-less M x (suc q) (suc k) (omega arith) s)
 
@@ -82,7 +82,7 @@ module _ (L M N : List ℕ → ℕ → Type 0) (j : ℕ → Bool) (x : List ℕ)
       })
 
 -- numbers, one after the other
-pub numbers-none : (a x : List ℕ) → Halts (Numbered a 0) (stopsAt true) x 0
+pub numbers-none : (a x : List ℕ) → Halts (NumberBehind a 0) (stopsAt true) x 0
 numbers-none a x = record {
   reached = omega arith;
   begun = λ i. absurd (omega arith);
@@ -90,26 +90,26 @@ numbers-none a x = record {
   no-whole = λ n k s. absurd (omega (arith, s .is .below));
 }
 
-pub numbers-more : (a x : List ℕ) (n p q : ℕ) → Halts (Numbered a n) (stopsAt true) x p → ReadIs (OneSpelling (a ++ decimal n) n) (stopsAt true) x (Tried.Stuck q) → Halts (Numbered a (n + 1)) (stopsAt true) x (max p q)
-numbers-more a x n p q h (halts k) = halts-union (Numbered a n) (OneSpelling (a ++ decimal n) n) (Numbered a (n + 1)) (stopsAt true) x split
+pub numbers-more : (a x : List ℕ) (n p q : ℕ) → Halts (NumberBehind a n) (stopsAt true) x p → ReadIs (OneSpelling (a ++ decimal n) n) (stopsAt true) x (Tried.Stuck q) → Halts (NumberBehind a (n + 1)) (stopsAt true) x (max p q)
+numbers-more a x n p q h (halts k) = halts-union (NumberBehind a n) (OneSpelling (a ++ decimal n) n) (NumberBehind a (n + 1)) (stopsAt true) x split
     (λ w m i. record { below = omega (arith, i .below); spelled = i .spelled })
     (λ w m i. record { below = omega (arith, i .numbered); spelled = i .spelled ∙ ap (λ z. a ++ decimal z) (sym (i .numbered)) })
     p q h k
   where
-    split : (w : List ℕ) (m : ℕ) → Numbered a (n + 1) w m → Numbered a n w m ⊎ OneSpelling (a ++ decimal n) n w m
+    split : (w : List ℕ) (m : ℕ) → NumberBehind a (n + 1) w m → NumberBehind a n w m ⊎ OneSpelling (a ++ decimal n) n w m
     split w m i = on (ℕ-discrete m n)
       where
-        on : Dec (m ≡ n) → Numbered a n w m ⊎ OneSpelling (a ++ decimal n) n w m
+        on : Dec (m ≡ n) → NumberBehind a n w m ⊎ OneSpelling (a ++ decimal n) n w m
         on (yes e) = inr (record { spelled = i .spelled ∙ ap (λ z. a ++ decimal z) e; numbered = e })
         on (no e) = inl (record { below = omega (arith, i .below); spelled = i .spelled })
 
-pub number-found : (a x : List ℕ) (n count m k : ℕ) → n < count → ReadIs (OneSpelling (a ++ decimal n) n) (stopsAt true) x (Tried.Whole m k) → ReadIs (Numbered a count) (stopsAt true) x (Tried.Whole m k)
+pub number-found : (a x : List ℕ) (n count m k : ℕ) → n < count → ReadIs (OneSpelling (a ++ decimal n) n) (stopsAt true) x (Tried.Whole m k) → ReadIs (NumberBehind a count) (stopsAt true) x (Tried.Whole m k)
 number-found a x n count m k l (whole s) =
     let i = s .is in
     whole {n = m} {k = k} (record { spelling = s .spelling; rest = s .rest; is = record { below = omega (arith, i .numbered); spelled = i .spelled ∙ ap (λ z. a ++ decimal z) (sym (i .numbered)) }; are = s .are; long = s .long; stops = s .stops })
 
-pub numbers-done : (a x : List ℕ) (n count p : ℕ) → n ≡ count → Halts (Numbered a n) (stopsAt true) x p → ReadIs (Numbered a count) (stopsAt true) x (Tried.Stuck p)
-numbers-done a x n count p e h = halts (subst (λ z. Halts (Numbered a z) (stopsAt true) x p) e h)
+pub numbers-done : (a x : List ℕ) (n count p : ℕ) → n ≡ count → Halts (NumberBehind a n) (stopsAt true) x p → ReadIs (NumberBehind a count) (stopsAt true) x (Tried.Stuck p)
+numbers-done a x n count p e h = halts (subst (λ z. Halts (NumberBehind a z) (stopsAt true) x p) e h)
 
 -- an answer by its equation
 pub read-as : (L : List ℕ → ℕ → Type 0) (j : ℕ → Bool) (x : List ℕ) (r v : Tried) → r ≡ v → ReadIs L j x r → ReadIs L j x v

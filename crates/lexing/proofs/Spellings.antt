@@ -9,7 +9,7 @@ use lib.Seq.{take-append-le, take-append-add, getD-append-add, getD-drop, drop-d
 use Rattle.notation.specs.Spelled.{wordByte}
 use Rattle.notation.proofs.Rows.{getD-front}
 use Rattle.lexing.specs.declared.Tried.{Tried}
-use Rattle.lexing.specs.Reads.{Common, Stops, stopsAt, Spelt, Starts, Halts, ReadIs, whole, halts, OneSpelling}
+use Rattle.lexing.specs.Reads.{Common, Stops, stopsAt, Spelt, BeginsSpelling, Halts, ReadIs, whole, halts, OneSpelling}
 
 -- the loop of what is common
 pub same-more : (x w : List ℕ) (i : ℕ) → take i x ≡ take i w → i < length x → i < length w → getD x i 0 ≡ getD w i 0 → take (i + 1) x ≡ take (i + 1) w

@@ -3,26 +3,26 @@ use mathlib.Core.Path.{_≡_}
 use mathlib.Core.List.{List, _++_}
 use Prim.Native.Nat.{ℕ, suc, _≤_, _<_}
 use lib.ListN.{length, take}
-use Rattle.notation.specs.Tokens.{Token, bytesOf}
+use Rattle.notation.specs.Tokens.{TextToken, tokenBytes}
 use Rattle.notation.specs.Spelled.{MayFollow}
 
 -- a token that may stand there, and what follows it may do so
-pub record Whole (May : Token → Type 0) (x : List ℕ) (t : Token) : Type 0 where
+pub record WholeToken (May : TextToken → Type 0) (x : List ℕ) (t : TextToken) : Type 0 where
   pub may : May t
   pub rest : List ℕ
-  pub are : x ≡ bytesOf t ++ rest
+  pub are : x ≡ tokenBytes t ++ rest
   pub follows : MayFollow t rest
 
 -- some token that may stand there begins so
-pub record Begins (May : Token → Type 0) (w : List ℕ) : Type 0 where
-  pub token : Token
+pub record BeginsToken (May : TextToken → Type 0) (w : List ℕ) : Type 0 where
+  pub token : TextToken
   pub may : May token
   pub rest : List ℕ
-  pub are : bytesOf token ≡ w ++ rest
+  pub are : tokenBytes token ≡ w ++ rest
 
 -- there is no such token, and the first k bytes begin one, but no more of them
-pub record Stuck (May : Token → Type 0) (x : List ℕ) (k : ℕ) : Type 0 where
+pub record Stuck (May : TextToken → Type 0) (x : List ℕ) (k : ℕ) : Type 0 where
   pub reached : k ≤ length x
-  pub begun : 1 ≤ k → Begins May (take k x)
-  pub no-further : k < length x → Begins May (take (suc k) x) → ⊥
-  pub no-token : (t : Token) → Whole May x t → ⊥
+  pub begun : 1 ≤ k → BeginsToken May (take k x)
+  pub no-further : k < length x → BeginsToken May (take (suc k) x) → ⊥
+  pub no-token : (t : TextToken) → WholeToken May x t → ⊥

@@ -42,7 +42,7 @@ pub record Spelt (L : List ℕ → ℕ → Type 0) (joins : ℕ → Bool) (x : L
   pub stops : Stops joins rest
 
 -- some spelling begins so
-pub record Starts (L : List ℕ → ℕ → Type 0) (x : List ℕ) : Type 0 where
+pub record BeginsSpelling (L : List ℕ → ℕ → Type 0) (x : List ℕ) : Type 0 where
   pub spelling : List ℕ
   pub number : ℕ
   pub rest : List ℕ
@@ -51,8 +51,8 @@ pub record Starts (L : List ℕ → ℕ → Type 0) (x : List ℕ) : Type 0 wher
 
 pub record Halts (L : List ℕ → ℕ → Type 0) (joins : ℕ → Bool) (x : List ℕ) (k : ℕ) : Type 0 where
   pub reached : k ≤ length x
-  pub begun : 1 ≤ k → Starts L (take k x)
-  pub no-further : k < length x → Starts L (take (suc k) x) → ⊥
+  pub begun : 1 ≤ k → BeginsSpelling L (take k x)
+  pub no-further : k < length x → BeginsSpelling L (take (suc k) x) → ⊥
   pub no-whole : (n m : ℕ) → Spelt L joins x n m → ⊥
 
 pub data ReadIs (L : List ℕ → ℕ → Type 0) (joins : ℕ → Bool) (x : List ℕ) : Tried → Type 0 where
@@ -65,7 +65,7 @@ pub record OneSpelling (w : List ℕ) (n : ℕ) (v : List ℕ) (m : ℕ) : Type 
   pub numbered : m ≡ n
 
 -- bytes and then a number under a bound
-pub record Numbered (a : List ℕ) (count : ℕ) (v : List ℕ) (n : ℕ) : Type 0 where
+pub record NumberBehind (a : List ℕ) (count : ℕ) (v : List ℕ) (n : ℕ) : Type 0 where
   pub below : n < count
   pub spelled : v ≡ a ++ decimal n
 

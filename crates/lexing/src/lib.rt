@@ -7,7 +7,7 @@ ghost use lib.ListN.{length, getD};
 ghost use Rattle.text.specs.Names.{nameByte};
 ghost use Rattle.notation.specs.Tokens.{decimal};
 ghost use Rattle.notation.specs.Spelled.{wordByte};
-ghost use Rattle.lexing.specs.Reads.{Common, ReadIs, stopsAt, nothing, OneSpelling, Numbered, NameRun, NameSpelling, TagSpelling, CharSpelling, widthOf, escapeByte, PieceSpelling, StringSpelling};
+ghost use Rattle.lexing.specs.Reads.{Common, ReadIs, stopsAt, nothing, OneSpelling, NumberBehind, NameRun, NameSpelling, TagSpelling, CharSpelling, widthOf, escapeByte, PieceSpelling, StringSpelling};
 
 pub enum Tried {
     // One of the sort, its number, and how many bytes it takes.
@@ -92,7 +92,7 @@ fn one_number(x: &[u8], a: &[u8], n: usize) -> Tried
 // What is spelled a and then a number under `count`.
 pub fn numbered(x: &[u8], a: &[u8], count: usize) -> Tried
     requires { ⌜ count ≤ 100 ⌝ }
-    ensures { λ r. ⌜ ReadIs (Numbered (now (a .entry)) count) (stopsAt true) (now (x .entry)) r ⌝ }
+    ensures { λ r. ⌜ ReadIs (NumberBehind (now (a .entry)) count) (stopsAt true) (now (x .entry)) r ⌝ }
 {
     let mut best = 0;
     let mut n = 0;

@@ -15,13 +15,13 @@ use Rattle.programs.specs.Limits.{Visit, first, second}
 use Rattle.layout.specs.Layout.{productionCount, start}
 use Rattle.layout.specs.Records.{nonterminalOf, tagNumberOf, firstNodeOf, nodeCountOf, firstProgramOf, secondProgramOf}
 use Rattle.sheet.specs.Sheet.{Sheet}
-use Rattle.notation.specs.Program.{Program}
-use Rattle.notation.specs.Rules.{Tree, node, expression, Rule, Rules}
-use Rattle.notation.specs.Tokens.{nonterminal, bytesOf}
+use Rattle.notation.specs.Program.{TextProgram}
+use Rattle.notation.specs.Rules.{Tree, node, expression, TextRule, Rules}
+use Rattle.notation.specs.Tokens.{nonterminal, tokenBytes}
 use Rattle.packing.specs.Packs.{Packs}
 use Rattle.printed.specs.Expressions.{contentText}
 use Rattle.printed.specs.Text.{ruleText, linesOf, textOf}
-use Rattle.visits.specs.Written.{Pen, Written, NameAt}
+use Rattle.visits.specs.Written.{Pen, Written, TagNameAt}
 use Rattle.visits.proofs.Printing.{nothing-due, just, record-inside, name-length, name-is}
 use Rattle.clauses.proofs.Laws.{decimal-short}
 use Rattle.asides.specs.Asides.{asideText, mostOfAnAside, FieldNamed, FieldText}
@@ -32,15 +32,15 @@ use Rattle.lines.specs.Lines.{InsideNamed, RuleNamed, RulesNamed, headOf
 
 -- ---- a name
 pub name-put : (s : List ℕ) (t m from to : ℕ) (p : Pen) (r : ℕ) (d : List ℕ) → m ≡ getD s (16 * t) 0 → m < 256 → from ≡ 16 * t + 1 → to ≡ from + m
-    → PutAs (p .write) (p .lent) (p .at) (take (to - from) (drop from s)) d r → Written 255 (NameAt s t) p r d
+    → PutAs (p .write) (p .lent) (p .at) (take (to - from) (drop from s)) d r → Written 255 (TagNameAt s t) p r d
 name-put s t m from to p r d mis small fis tis P =
-    just 255 (NameAt s t) p (take (to - from) (drop from s)) r d P (omega (arith, length-take (to - from) (drop from s)))
+    just 255 (TagNameAt s t) p (take (to - from) (drop from s)) r d P (omega (arith, length-take (to - from) (drop from s)))
     (λ n u.
     let len : to - from ≡ length n = omega (arith, name-length s t n u) in
     sym (ap (λ (k : ℕ). take k (drop from s)) len ∙ ap (λ (k : ℕ). take (length n) (drop k s)) fis ∙ name-is s t n u))
 
-pub no-name : (s : List ℕ) (t : ℕ) (p : Pen) → ((n : List ℕ) → NameAt s t n → ⊥) → Written 255 (NameAt s t) p (p .at) (p .lent)
-no-name s t p h = nothing-due 255 (NameAt s t) p (λ w u. absurd (h w u))
+pub no-name : (s : List ℕ) (t : ℕ) (p : Pen) → ((n : List ℕ) → TagNameAt s t n → ⊥) → Written 255 (TagNameAt s t) p (p .at) (p .lent)
+no-name s t p h = nothing-due 255 (TagNameAt s t) p (λ w u. absurd (h w u))
 
 module _ (s : List ℕ) (q : ℕ) (p : Pen) where
   -- ---- between the parentheses
@@ -60,27 +60,27 @@ module _ (s : List ℕ) (q : ℕ) (p : Pen) where
       on a z (some (node u v k)) h = T .right a z (node u v k) (subst (λ (m : ℕ). TreeNamed s a z m (node u v k)) (sym ei) (h .0)) (omega (arith, h .1, en)) .1
 
   -- ---- the tag around it
-  pub element : (t : ℕ) → t ≡ tagNumberOf s q → (d₁ d₂ d₃ d₄ : List ℕ) (n₁ n₂ n₃ n₄ : ℕ) → Written 255 (NameAt s t) p n₁ d₁ → PutAs (p .write) d₁ n₁ (40 ∷ []) d₂ n₂
+  pub element : (t : ℕ) → t ≡ tagNumberOf s q → (d₁ d₂ d₃ d₄ : List ℕ) (n₁ n₂ n₃ n₄ : ℕ) → Written 255 (TagNameAt s t) p n₁ d₁ → PutAs (p .write) d₁ n₁ (40 ∷ []) d₂ n₂
       → RulePut mostInside insideOf s q (record { write = p .write; lent = d₂; at = n₂ }) n₃ d₃ → PutAs (p .write) d₃ n₃ (41 ∷ []) d₄ n₄ → RulePut (mostInside + 257) elementOf s q p n₄ d₄
   element t e d₁ d₂ d₃ d₄ n₁ n₂ n₃ n₄ N P C Q =
       record {
         reach = omega (arith, N .reach, P .next, C .reach, Q .next);
-        right = λ a z x h. put-then _ _ _ _ _ _ _ _ _ (N .right (x .tag) (subst (λ (m : ℕ). NameAt s m (x .tag)) (sym e) (h .tag-is))) (put-then _ _ _ _ _ _ _ _ _ P (put-then _ _ _ _ _ _ _ _ _ (C .right a z x h) Q));
+        right = λ a z x h. put-then _ _ _ _ _ _ _ _ _ (N .right (x .tag) (subst (λ (m : ℕ). TagNameAt s m (x .tag)) (sym e) (h .tag-is))) (put-then _ _ _ _ _ _ _ _ _ P (put-then _ _ _ _ _ _ _ _ _ (C .right a z x h) Q));
       }
 
   -- ---- the line
-  named : (a : Sheet) (z : Packs s a) (v : Visit) (k m : ℕ) (b : Bool) (o : Option Program) → k ≡ m → FieldNamed s a z v m o → FieldText s k b (asideText b o)
+  named : (a : Sheet) (z : Packs s a) (v : Visit) (k m : ℕ) (b : Bool) (o : Option TextProgram) → k ≡ m → FieldNamed s a z v m o → FieldText s k b (asideText b o)
   named a z v k m b o e h = record { sheet = a; packs = z; visit = v; program = o; names = subst (λ (x : ℕ). FieldNamed s a z v x o) (sym e) h; bytes = refl }
 
-  pub head : (n f : ℕ) → n ≡ nonterminalOf s q → f ≡ firstProgramOf s q → (d₁ d₂ d₃ : List ℕ) (n₁ n₂ n₃ : ℕ) → PutAs (p .write) (p .lent) (p .at) (bytesOf (nonterminal n)) d₁ n₁
+  pub head : (n f : ℕ) → n ≡ nonterminalOf s q → f ≡ firstProgramOf s q → (d₁ d₂ d₃ : List ℕ) (n₁ n₂ n₃ : ℕ) → PutAs (p .write) (p .lent) (p .at) (tokenBytes (nonterminal n)) d₁ n₁
       → PutAs (p .write) d₁ n₁ (32 ∷ 58 ∷ 58 ∷ 61 ∷ 32 ∷ []) d₂ n₂ → Written mostOfAnAside (FieldText s f true) (record { write = p .write; lent = d₂; at = n₂ }) n₃ d₃ → RulePut mostOfAHead headOf s q p n₃ d₃
   head n f en ef d₁ d₂ d₃ n₁ n₂ n₃ N S F = record { reach = omega (arith, N .next, decimal-short n, S .next, F .reach); right = go }
     where
-      go : (a : Sheet) (z : Packs s a) (x : Rule) → RuleNamed s a z q x → PutAs (p .write) (p .lent) (p .at) (headOf x) d₃ n₃
+      go : (a : Sheet) (z : Packs s a) (x : TextRule) → RuleNamed s a z q x → PutAs (p .write) (p .lent) (p .at) (headOf x) d₃ n₃
       go a z x h =
           let u = x .own .first-visit in
           let A = F .right (asideText true u) (named a z first f (firstProgramOf s q) true u ef (h .own-are .first-is)) in
-          let K = subst (λ (m : ℕ). PutAs (p .write) (p .lent) (p .at) (bytesOf (nonterminal m)) d₁ n₁) (en ∙ sym (h .nonterminal-is)) N in
+          let K = subst (λ (m : ℕ). PutAs (p .write) (p .lent) (p .at) (tokenBytes (nonterminal m)) d₁ n₁) (en ∙ sym (h .nonterminal-is)) N in
           put-then _ _ _ _ _ _ _ _ _ K (put-then _ _ _ _ _ _ _ _ _ S A)
 
   pub line : (g : ℕ) → g ≡ secondProgramOf s q → (d₁ d₂ d₃ d₄ : List ℕ) (n₁ n₂ n₃ n₄ : ℕ) → RulePut mostOfAHead headOf s q p n₁ d₁
@@ -88,28 +88,28 @@ module _ (s : List ℕ) (q : ℕ) (p : Pen) where
       → Written mostOfAnAside (FieldText s g false) (record { write = p .write; lent = d₂; at = n₂ }) n₃ d₃ → PutAs (p .write) d₃ n₃ (10 ∷ []) d₄ n₄ → RulePut mostOfALine lineOf s q p n₄ d₄
   line g eg d₁ d₂ d₃ d₄ n₁ n₂ n₃ n₄ H E G L = record { reach = omega (arith, H .reach, E .reach, G .reach, L .next); right = go }
     where
-      whole : (x : Rule) → headOf x ++ (elementOf x ++ asideText false (x .own .second-visit)) ≡ ruleText x
+      whole : (x : TextRule) → headOf x ++ (elementOf x ++ asideText false (x .own .second-visit)) ≡ ruleText x
       whole x =
-          let n = bytesOf (nonterminal (x .nonterminal)) in
+          let n = tokenBytes (nonterminal (x .nonterminal)) in
           let u = x .own .first-visit in
           let v = x .own .second-visit in
           append-assoc n (32 ∷ 58 ∷ 58 ∷ 61 ∷ 32 ∷ asideText true u) (elementOf x ++ asideText false v) ∙ ap (λ (l : List ℕ). n ++ 32 ∷ 58 ∷ 58 ∷ 61 ∷ 32 ∷ l) (asides-are-theirs u v (elementOf x))
 
-      go : (a : Sheet) (z : Packs s a) (x : Rule) → RuleNamed s a z q x → PutAs (p .write) (p .lent) (p .at) (lineOf x) d₄ n₄
+      go : (a : Sheet) (z : Packs s a) (x : TextRule) → RuleNamed s a z q x → PutAs (p .write) (p .lent) (p .at) (lineOf x) d₄ n₄
       go a z x h =
           let v = x .own .second-visit in
           let B = G .right (asideText false v) (named a z second g (secondProgramOf s q) false v eg (h .own-are .second-is)) in
           put-then _ _ _ _ _ _ _ _ _ (same-bytes _ _ _ _ (ruleText x) _ _ (whole x) (put-then _ _ _ _ _ _ _ _ _ (H .right a z x h) (put-then _ _ _ _ _ _ _ _ _ (E .right a z x h) B))) L
 
 -- ---- all lines: those from q on are left to write at n
-pub record Left (s : List ℕ) (p : Pen) (q n : ℕ) (d : List ℕ) (a : Sheet) (z : Packs s a) (xs : List Rule) : Type 0 where
-  pub rules : List Rule
+pub record Left (s : List ℕ) (p : Pen) (q n : ℕ) (d : List ℕ) (a : Sheet) (z : Packs s a) (xs : List TextRule) : Type 0 where
+  pub rules : List TextRule
   pub are : RulesNamed s a z q rules
   pub long : n + length (linesOf rules) ≡ p .at + length (linesOf xs)
   pub due : put (p .write) d n (linesOf rules) ≡ put (p .write) (p .lent) (p .at) (linesOf xs)
 
 abbrev pub LinesLeft : List ℕ → Pen → ℕ → ℕ → List ℕ → Type 0
-LinesLeft s p q n d = (a : Sheet) (z : Packs s a) (xs : List Rule) → RulesNamed s a z 0 xs → Left s p q n d a z xs
+LinesLeft s p q n d = (a : Sheet) (z : Packs s a) (xs : List TextRule) → RulesNamed s a z 0 xs → Left s p q n d a z xs
 
 module _ (s : List ℕ) (p : Pen) where
   pub all-left : LinesLeft s p 0 (p .at) (p .lent)
@@ -118,7 +118,7 @@ module _ (s : List ℕ) (p : Pen) where
   pub one-less : (q n n′ : ℕ) (d d′ : List ℕ) → q < productionCount s → LinesLeft s p q n d → RulePut mostOfALine lineOf s q (record { write = p .write; lent = d; at = n }) n′ d′ → LinesLeft s p (q + 1) n′ d′
   one-less q n n′ d d′ low L R a z xs h = let l = L a z xs h in on (l .rules) (l .are) (l .long) (l .due)
     where
-      on : (ys : List Rule) → RulesNamed s a z q ys → n + length (linesOf ys) ≡ p .at + length (linesOf xs) → put (p .write) d n (linesOf ys) ≡ put (p .write) (p .lent) (p .at) (linesOf xs) → Left s p (q + 1) n′ d′ a z xs
+      on : (ys : List TextRule) → RulesNamed s a z q ys → n + length (linesOf ys) ≡ p .at + length (linesOf xs) → put (p .write) d n (linesOf ys) ≡ put (p .write) (p .lent) (p .at) (linesOf xs) → Left s p (q + 1) n′ d′ a z xs
       on [] e long due = absurd (omega (arith, e, low))
       on (y ∷ ys) e long due =
           let P = R .right a z y (e .0) in
@@ -134,11 +134,11 @@ module _ (s : List ℕ) (p : Pen) where
   pub none-left : (q n : ℕ) (d : List ℕ) → productionCount s ≤ q → n ≤ p .at + mostOfALine * 64 → LinesLeft s p q n d → LinesPut s p n d
   none-left q n d high reach L = record { reach = reach; right = λ a z xs h. let l = L a z xs h in on a z xs (l .rules) (l .are) (l .long) (l .due) }
     where
-      past : (a : Sheet) (z : Packs s a) (k : ℕ) (ys : List Rule) → RulesNamed s a z k ys → k + length ys ≡ productionCount s
+      past : (a : Sheet) (z : Packs s a) (k : ℕ) (ys : List TextRule) → RulesNamed s a z k ys → k + length ys ≡ productionCount s
       past a z k [] e = omega (arith, e)
       past a z k (y ∷ ys) e = omega (arith, past a z (suc k) ys (e .1))
 
-      on : (a : Sheet) (z : Packs s a) (xs ys : List Rule) → RulesNamed s a z q ys → n + length (linesOf ys) ≡ p .at + length (linesOf xs)
+      on : (a : Sheet) (z : Packs s a) (xs ys : List TextRule) → RulesNamed s a z q ys → n + length (linesOf ys) ≡ p .at + length (linesOf xs)
           → put (p .write) d n (linesOf ys) ≡ put (p .write) (p .lent) (p .at) (linesOf xs) → PutAs (p .write) (p .lent) (p .at) (linesOf xs) d n
       on a z xs [] e long due = record { next = omega (arith, long); left = sym (put-none (p .write) d n) ∙ due }
       on a z xs (y ∷ ys) e long due = absurd (omega (arith, high, past a z q (y ∷ ys) e))

@@ -3,14 +3,14 @@ ghost use Prim.Native.Nat.{_+_, _≤_, _<_};
 ghost use Rattle.output.specs.Reach.{farthest};
 ghost use Rattle.layout.specs.LaidOut.{LaidOut};
 ghost use Rattle.trees.specs.Parsed.{RunsInside};
-ghost use Rattle.visits.specs.Written.{Written, NameAt};
+ghost use Rattle.visits.specs.Written.{Written, TagNameAt};
 ghost use Rattle.lines.specs.Lines.{headOf, insideOf, elementOf, lineOf, mostOfAHead, mostInside, mostOfALine, mostOfAText, RulePut, LinesPut, TextPut};
 use layout::Layout;
 
 // Writes the name of tag t.
 fn put_name(s: &[u8], t: usize, out: &mut [u8], at: usize, write: bool) -> usize
     requires { ⌜ (t < 256) × (at + 255 ≤ farthest) ⌝ }
-    ensures { λ r. ⌜ Written 255 (NameAt (now (s .entry)) t) (record { write = write; lent = now (out .entry); at = at }) r (now (out .exit)) ⌝ }
+    ensures { λ r. ⌜ Written 255 (TagNameAt (now (s .entry)) t) (record { write = write; lent = now (out .entry); at = at }) r (now (out .exit)) ⌝ }
 {
     let from = 16 * t + 1;
     if s.len() < from {

@@ -7,8 +7,8 @@ use native.Mathlib.Omega.{arith}
 use Rattle.expressions.specs.Expr.{Exp, Content, nothing, tree}
 use Rattle.expressions.specs.Words.{Bracket}
 use Rattle.expressions.specs.Grammar.{Production, Nth}
-use Rattle.parting.specs.Parting.{Node, Sign, round-or-end, end-or-round, left-or-right, right-or-left, SignOf, PartAt}
-use Rattle.notation.specs.Rules.{Tree, expression, contentOf, Rule, Rules}
+use Rattle.parting.specs.Parting.{Node, PartingSign, round-or-end, end-or-round, left-or-right, right-or-left, PartingSignOf, PartAt}
+use Rattle.notation.specs.Rules.{Tree, expression, contentInside, TextRule, Rules}
 use Rattle.notation.specs.RuleText.{RuleText}
 use Rattle.encoding.specs.Encoded.{Room, ruleOf, rulesOf, sheetOf}
 use Rattle.packing.specs.Packed.{sheetBytes}
@@ -22,7 +22,7 @@ use Rattle.witness.specs.Answers.{WitnessAs, malformed, no-fault, a-fault}
 use Rattle.posts.specs.declared.Wanted.{Wanted}
 use Rattle.posts.specs.declared.Halt.{Halt}
 use Rattle.posts.specs.Found.{HaltIs}
-use Rattle.posts.specs.Promises.{Numbered}
+use Rattle.posts.specs.Promises.{Kth}
 use Rattle.signs.specs.Order.{rank, PostIs}
 use Rattle.signs.proofs.Stands.{sign-stands}
 use Rattle.marked.specs.Marked.{Parts, at-star, at-union, MarkedAt, FaultsMarked}
@@ -39,12 +39,12 @@ seven (a-program a b c d e f) = omega arith
 seven (not-grounded a b c d e f g) = omega arith
 
 -- the rule of the text that a production of its sheet is
-record Typed (v : Rules) (ds : List Rule) (q : ℕ) (d : Production) : Type 0 where
-  rule : Rule
-  is-rule : Numbered ds q rule
-  content-is : d .content ≡ contentOf (rule .inside)
+record Typed (v : Rules) (ds : List TextRule) (q : ℕ) (d : Production) : Type 0 where
+  rule : TextRule
+  is-rule : Kth ds q rule
+  content-is : d .content ≡ contentInside (rule .inside)
 
-typed : (v : Rules) (ds : List Rule) (q : ℕ) (d : Production) → Nth (grammarOf (rulesOf v ds)) q d → Typed v ds q d
+typed : (v : Rules) (ds : List TextRule) (q : ℕ) (d : Production) → Nth (grammarOf (rulesOf v ds)) q d → Typed v ds q d
 typed v [] q d m = absurd m
 typed v (r ∷ ds) zero d m = record { rule = r; is-rule = refl; content-is = ap (λ (z : Production). z .content) m }
 typed v (r ∷ ds) (suc q) d m = let t = typed v ds q d m in record { rule = t .rule; is-rule = t .is-rule; content-is = t .content-is }
@@ -55,14 +55,14 @@ record Signed (e : Exp) (n : ℕ) : Type 0 where
   is-node : Node e 1 n node
   parts : Parts node
 
-signed : {e : Exp} {n : ℕ} {b c : Bracket} → Sign e 1 n b c → Signed e n
+signed : {e : Exp} {n : ℕ} {b c : Bracket} → PartingSign e 1 n b c → Signed e n
 signed (round-or-end {f = f} h) = record { node = Exp.star f; is-node = h; parts = at-star }
 signed (end-or-round {f = f} h) = record { node = Exp.star f; is-node = h; parts = at-star }
 signed (left-or-right {l = l} {r = r} h) = record { node = Exp.alt l r; is-node = h; parts = at-union }
 signed (right-or-left {l = l} {r = r} h) = record { node = Exp.alt l r; is-node = h; parts = at-union }
 
-module _ (text : List ℕ) (v : Rules) (h : RuleText text v) (q n k : ℕ) (r : Halt) (halt : HaltIs text (Wanted.Post (suc q) k) r) (rule : Rule) (is-rule : Numbered (v .productions) q rule) where
-  marked-in : (o : Option Tree) → rule .inside ≡ o → (b c : Bracket) → SignOf (contentOf o) n b c → ((e : Exp) → contentOf o ≡ tree e → k ≡ suc (rank e 1 n)) → MarkedAt text v q n r
+module _ (text : List ℕ) (v : Rules) (h : RuleText text v) (q n k : ℕ) (r : Halt) (halt : HaltIs text (Wanted.Post (suc q) k) r) (rule : TextRule) (is-rule : Kth (v .productions) q rule) where
+  marked-in : (o : Option Tree) → rule .inside ≡ o → (b c : Bracket) → PartingSignOf (contentInside o) n b c → ((e : Exp) → contentInside o ≡ tree e → k ≡ suc (rank e 1 n)) → MarkedAt text v q n r
   marked-in none i b c s f = absurd s
   marked-in (some t) i b c s f =
       let z = signed s in
@@ -87,5 +87,5 @@ faults-marked text v h room q p x w wit nine k post r halt = on wit
         let same : a ≡ sheetOf v = one-sheet i (is-its-sheet text v h room (i .well-formed .grounded)) in
         let y = typed v (v .productions) q d (subst (λ (z : Sheet). Nth (grammarOf (z .rules)) q d) same m) in
         marked-in text v h q (w .sign) k r halt (y .rule) (y .is-rule) (y .rule .inside) refl (part .first-next) (part .second-next)
-        (subst (λ (c : Content). SignOf c (w .sign) (part .first-next) (part .second-next)) (y .content-is) (part .sign))
+        (subst (λ (c : Content). PartingSignOf c (w .sign) (part .first-next) (part .second-next)) (y .content-is) (part .sign))
         (λ e c. post .is a i d m e (y .content-is ∙ c))

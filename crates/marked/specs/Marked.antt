@@ -5,7 +5,7 @@ use mathlib.Core.Option.{some}
 use Prim.Native.Nat.{ℕ, suc}
 use Rattle.expressions.specs.Expr.{Exp, alt, star}
 use Rattle.parting.specs.Parting.{Node}
-use Rattle.notation.specs.Rules.{Tree, expression, Rule, Rules}
+use Rattle.notation.specs.Rules.{Tree, expression, TextRule, Rules}
 use Rattle.notation.specs.RuleText.{RuleText}
 use Rattle.encoding.specs.Encoded.{Room}
 use Rattle.packing.specs.Packed.{sheetBytes}
@@ -15,7 +15,7 @@ use Rattle.witness.specs.Answers.{WitnessAs}
 use Rattle.posts.specs.declared.Wanted.{Wanted}
 use Rattle.posts.specs.declared.Halt.{Halt}
 use Rattle.posts.specs.Found.{HaltIs}
-use Rattle.posts.specs.Promises.{Numbered}
+use Rattle.posts.specs.Promises.{Kth}
 use Rattle.signs.specs.Order.{PostIs}
 use Rattle.signs.specs.Promises.{OwnAt}
 
@@ -26,8 +26,8 @@ pub data Parts : Exp → Type 0 where
 
 -- production q of the text has that node, a star or a union, and its own token stands at the byte that is told
 pub record MarkedAt (text : List ℕ) (v : Rules) (q n : ℕ) (r : Halt) : Type 0 where
-  pub rule : Rule
-  pub is-rule : Numbered (v .productions) q rule
+  pub rule : TextRule
+  pub is-rule : Kth (v .productions) q rule
   pub tree : Tree
   pub is-tree : rule .inside ≡ some tree
   pub node : Exp

@@ -9,13 +9,13 @@ use lib.Dec.{ltb}
 use lib.ListN.{length}
 use Rattle.expressions.specs.Expr.{Atom}
 use Rattle.programs.specs.Limits.{Visit, first, second}
-use Rattle.notation.specs.Program.{Program, done}
+use Rattle.notation.specs.Program.{TextProgram, done}
 use Rattle.notation.specs.Rules.{Tree, node, Form, atom, cat, alt, star, empty}
 use Rattle.notation.specs.Statements.{parentheses}
-use Rattle.notation.specs.Tokens.{Token, nonterminal, value, attribute, name, start-tag, end-tag, empty-tag, string, word, Word, CHAR, ECHO, ECHO-OFF, REJECT, PRINT, IF, THEN, ELSE, BEGIN, END, AND, OR, NOT, EMPTY, sign, Sign, DEFINED, ASSIGNED, OPEN, CLOSE, BRACE, UNBRACE, DOT, BAR, STAR, SEMICOLON, EQUALS}
+use Rattle.notation.specs.Tokens.{TextToken, nonterminal, value, attribute, name, start-tag, end-tag, empty-tag, string, word, Keyword, CHAR, ECHO, ECHO-OFF, REJECT, PRINT, IF, THEN, ELSE, BEGIN, END, AND, OR, NOT, EMPTY, sign, Sign, DEFINED, ASSIGNED, OPEN, CLOSE, BRACE, UNBRACE, DOT, BAR, STAR, SEMICOLON, EQUALS}
 use Rattle.encoding.specs.Mentions.{Mention, a-program, inProgram, inBraces, inTree, inForm, inContent}
 use Rattle.reading.specs.Statements.{Listing, listStart, stepStatements, valueOfList}
-use Rattle.reading.specs.Expressions.{Piece, a-leaf, a-star, a-dot, a-bar, an-open, a-close, a-brace, an-unbrace, other, nonterminal?, wordPiece, pieceOf, atomIf, Level, level, fresh, joinedCat, joinedAlt, whole, oneOf, fronted, frontedWith, Parsing, wants, in-front, after, behind, over, opened, closed, braced, backed, leafForm, stepPiece, unbraces, listing, stepExpression, wholeValue, emptyValue, valueOfContent}
+use Rattle.reading.specs.Expressions.{ExpressionPart, a-leaf, a-star, a-dot, a-bar, an-open, a-close, a-brace, an-unbrace, other, nonterminal?, wordPiece, pieceOf, atomIf, ExpressionLevel, expressionLevel, freshExpression, joinedCat, joinedAlt, wholeExpression, oneOf, fronted, frontedWith, Parsing, wants, in-front, after, behind, over, expressionOpened, expressionClosed, braced, backed, leafForm, stepPiece, unbraces, listing, stepExpression, wholeValue, emptyValue, valueOfContent}
 use Rattle.reading.proofs.Telling.{none≢some}
 use Rattle.sketches.specs.Sketched.{listingIn}
 use Rattle.mentions.specs.SoFar.{inListing, inParen, inParens, inParsing, inToken, ended, endedBy, wholeIn, mentionWith, TidyList, TidyParsing}
@@ -32,10 +32,10 @@ alt-mentions : (c : Option Tree) (e : Tree) → inTree (joinedAlt c e) ≡ inCon
 alt-mentions none e = refl
 alt-mentions (some c) e = append-nil (inTree c ++ inTree e)
 
-whole-mentions : (l : Level) (e : Tree) → inTree (whole l e) ≡ inContent (l .alt-left) ++ (inContent (l .cat-left) ++ inTree e)
+whole-mentions : (l : ExpressionLevel) (e : Tree) → inTree (wholeExpression l e) ≡ inContent (l .alt-left) ++ (inContent (l .cat-left) ++ inTree e)
 whole-mentions l e = alt-mentions (l .alt-left) (joinedCat (l .cat-left) e) ∙ ap (λ (z : Ms). inContent (l .alt-left) ++ z) (cat-mentions (l .cat-left) e)
 
-fronted-mentions : (b : Option Program) (e e′ : Tree) → fronted b e ≡ some e′ → inTree e′ ≡ inBraces b ++ inTree e
+fronted-mentions : (b : Option TextProgram) (e e′ : Tree) → fronted b e ≡ some e′ → inTree e′ ≡ inBraces b ++ inTree e
 fronted-mentions none (node f g k) e′ h = let same : node f g k ≡ e′ = cc in ap inTree (sym same)
 fronted-mentions (some p) (node none g k) e′ h = let same : node (some p) g k ≡ e′ = cc in ap inTree (sym same)
 fronted-mentions (some p) (node (some q) g k) e′ h = absurd (none≢some refl h)
@@ -46,13 +46,13 @@ to-the-front a b c d e =
     ap (λ (z : Ms). a ++ (b ++ z)) (sym (append-assoc c d e)) ∙ ap (λ (z : Ms). a ++ z) (sym (append-assoc b (c ++ d) e)) ∙ sym (append-assoc a (b ++ (c ++ d)) e)
 
 -- the tree of a pair of parentheses, with the program in front
-closed-mentions : (l : Level) (ls : List Level) (e e′ : Tree) → fronted (l .before) (whole l e) ≡ some e′ → inParens ls ++ inTree e′ ≡ inParens (l ∷ ls) ++ inTree e
+closed-mentions : (l : ExpressionLevel) (ls : List ExpressionLevel) (e e′ : Tree) → fronted (l .before) (wholeExpression l e) ≡ some e′ → inParens ls ++ inTree e′ ≡ inParens (l ∷ ls) ++ inTree e
 closed-mentions l ls e e′ h =
-    ap (λ (z : Ms). inParens ls ++ z) (fronted-mentions (l .before) (whole l e) e′ h ∙ ap (λ (z : Ms). inBraces (l .before) ++ z) (whole-mentions l e))
+    ap (λ (z : Ms). inParens ls ++ z) (fronted-mentions (l .before) (wholeExpression l e) e′ h ∙ ap (λ (z : Ms). inBraces (l .before) ++ z) (whole-mentions l e))
     ∙ to-the-front (inParens ls) (inBraces (l .before)) (inContent (l .alt-left)) (inContent (l .cat-left)) (inTree e)
 
 -- a token outside programs mentions what it says
-pub outside-mentions : (t : Token) → mentionWith none t ≡ inToken t
+pub outside-mentions : (t : TextToken) → mentionWith none t ≡ inToken t
 outside-mentions (nonterminal n) = refl
 outside-mentions (value v) = refl
 outside-mentions (attribute m a) = refl
@@ -75,7 +75,7 @@ outside-mentions (sign SEMICOLON) = refl
 outside-mentions (sign EQUALS) = refl
 
 -- and so does one that a program goes on with
-pub inside-mentions : (v : Visit) (q q′ : Listing) (t : Token) → stepStatements v q t ≡ some q′ → mentionWith (some q) t ≡ inToken t
+pub inside-mentions : (v : Visit) (q q′ : Listing) (t : TextToken) → stepStatements v q t ≡ some q′ → mentionWith (some q) t ≡ inToken t
 inside-mentions v q q′ (nonterminal n) e = refl
 inside-mentions v q q′ (value n) e = refl
 inside-mentions v q q′ (attribute m a) e = refl
@@ -98,13 +98,13 @@ inside-mentions v q q′ (sign SEMICOLON) e = refl
 inside-mentions v q q′ (sign EQUALS) e = refl
 
 -- only a } ends a program
-pub record Unbraced {S : Type 0} (t : Token) (o : Option Program) (f : Program → S) (s : S) : Type 0 where
+pub record Unbraced {S : Type 0} (t : TextToken) (o : Option TextProgram) (f : TextProgram → S) (s : S) : Type 0 where
   pub token-is : t ≡ sign UNBRACE
-  pub program : Program
+  pub program : TextProgram
   pub is : o ≡ some program
   pub behind : f program ≡ s
 
-pub unbraced : {S : Type 0} (t : Token) (o : Option Program) (f : Program → S) (s : S) → unbraces (pieceOf t) o f ≡ some s → Unbraced t o f s
+pub unbraced : {S : Type 0} (t : TextToken) (o : Option TextProgram) (f : TextProgram → S) (s : S) → unbraces (pieceOf t) o f ≡ some s → Unbraced t o f s
 unbraced {S} (nonterminal n) o f s e = on (nonterminal? n) e
   where
     on : {P : Type 0} (d : Dec P) → unbraces (atomIf d (Atom.nonterminal n)) o f ≡ some s → Unbraced (nonterminal n) o f s
@@ -119,7 +119,7 @@ unbraced (empty-tag n) o f s e = absurd (none≢some refl e)
 unbraced (string cs) o f s e = absurd (none≢some refl e)
 unbraced (word w) o f s e = absurd (none≢some (words w) e)
   where
-    words : (w : Word) → unbraces (wordPiece w) o f ≡ none
+    words : (w : Keyword) → unbraces (wordPiece w) o f ≡ none
     words CHAR = refl
     words ECHO = refl
     words ECHO-OFF = refl
@@ -148,10 +148,10 @@ unbraced (sign SEMICOLON) o f s e = absurd (none≢some refl e)
 unbraced (sign EQUALS) o f s e = absurd (none≢some refl e)
 
 -- what is mentioned with the }
-pub unbraced-mentions : (t : Token) (q : Listing) (p : Program) → t ≡ sign UNBRACE → valueOfList q ≡ some p → mentionWith (some q) t ≡ a-program p ∷ []
+pub unbraced-mentions : (t : TextToken) (q : Listing) (p : TextProgram) → t ≡ sign UNBRACE → valueOfList q ≡ some p → mentionWith (some q) t ≡ a-program p ∷ []
 unbraced-mentions t q p h e = ap (mentionWith (some q)) h ∙ ap ended e
 
-piece-silent : (t : Token) → (pieceOf t ≡ other) ⊎ (inToken t ≡ [])
+piece-silent : (t : TextToken) → (pieceOf t ≡ other) ⊎ (inToken t ≡ [])
 piece-silent (nonterminal n) = inr refl
 piece-silent (value n) = inr refl
 piece-silent (attribute m a) = inr refl
@@ -173,26 +173,26 @@ grown-to x ms y z e h k = let same : y ≡ z = cc in subst (ParsingGrown x ms) s
 silently : (x : Ms) (y z : Parsing) → some y ≡ some z → TidyParsing y → inParsing y ≡ x → ParsingGrown x [] z
 silently x y z e h k = grown-to x [] y z e h (k ∙ sym (append-nil x))
 
-opened-grown : (b : Bool) (l : Level) (ls : List Level) (z : Parsing) → opened b l ls ≡ some z → ParsingGrown (inParens (l ∷ ls)) [] z
-opened-grown true l ls z e = silently _ (wants true fresh (l ∷ ls)) z e refl (append-nil (inParens (l ∷ ls)))
+opened-grown : (b : Bool) (l : ExpressionLevel) (ls : List ExpressionLevel) (z : Parsing) → expressionOpened b l ls ≡ some z → ParsingGrown (inParens (l ∷ ls)) [] z
+opened-grown true l ls z e = silently _ (wants true freshExpression (l ∷ ls)) z e refl (append-nil (inParens (l ∷ ls)))
 opened-grown false l ls z e = absurd (none≢some refl e)
 
-braced-grown : (b : Bool) (l : Level) (ls : List Level) (z : Parsing) → TidyParsing (wants b l ls) → braced b ls ≡ some z → ParsingGrown (inParens (l ∷ ls)) [] z
+braced-grown : (b : Bool) (l : ExpressionLevel) (ls : List ExpressionLevel) (z : Parsing) → TidyParsing (wants b l ls) → braced b ls ≡ some z → ParsingGrown (inParens (l ∷ ls)) [] z
 braced-grown true l ls z d e = silently _ (in-front listStart ls) z e refl (ap (λ (m : Ms). inParens ls ++ m) (sym (ap inParen d)))
 braced-grown false l ls z d e = absurd (none≢some refl e)
 
-closed-grown : (x : Ms) (o : Option Tree) (ls : List Level) (z : Parsing) → ((e : Tree) → o ≡ some e → inParens ls ++ inTree e ≡ x) → closed ls o ≡ some z → ParsingGrown x [] z
+closed-grown : (x : Ms) (o : Option Tree) (ls : List ExpressionLevel) (z : Parsing) → ((e : Tree) → o ≡ some e → inParens ls ++ inTree e ≡ x) → expressionClosed ls o ≡ some z → ParsingGrown x [] z
 closed-grown x none ls z f e = absurd (none≢some refl e)
 closed-grown x (some u) [] z f e = absurd (none≢some refl e)
 closed-grown x (some u) (m ∷ ls) z f e = silently x (after u m ls) z e tt (f u refl)
 
-backed-grown : (x : Ms) (o : Option Tree) (ls : List Level) (z : Parsing) → ((e : Tree) → o ≡ some e → inParens ls ++ inTree e ≡ x) → backed o ls ≡ some z → ParsingGrown x [] z
+backed-grown : (x : Ms) (o : Option Tree) (ls : List ExpressionLevel) (z : Parsing) → ((e : Tree) → o ≡ some e → inParens ls ++ inTree e ≡ x) → backed o ls ≡ some z → ParsingGrown x [] z
 backed-grown x none ls z f e = absurd (none≢some refl e)
 backed-grown x (some (node a none k)) ls z f e = silently x (behind listStart a k ls) z e refl (f (node a none k) refl)
 backed-grown x (some (node a (some g) k)) ls z f e = absurd (none≢some refl e)
 
 -- outside programs nothing is mentioned
-piece-grown : (x z : Parsing) (k : Piece) → TidyParsing x → stepPiece x k ≡ some z → ParsingGrown (inParsing x) [] z
+piece-grown : (x z : Parsing) (k : ExpressionPart) → TidyParsing x → stepPiece x k ≡ some z → ParsingGrown (inParsing x) [] z
 piece-grown (wants b l ls) z (a-leaf none) d e = silently _ (after (node none none empty) l ls) z e tt (append-nil (inParens (l ∷ ls)))
 piece-grown (wants b l ls) z (a-leaf (some a)) d e = silently _ (after (node none none (atom a)) l ls) z e tt (append-nil (inParens (l ∷ ls)))
 piece-grown (wants b l ls) z a-star d e = absurd (none≢some refl e)
@@ -207,16 +207,16 @@ piece-grown (in-front q ls) z k d e = absurd (none≢some refl e)
 piece-grown (after u l ls) z (a-leaf a) d e = absurd (none≢some refl e)
 piece-grown (after u l ls) z a-star d e = silently _ (after (node none none (star u)) l ls) z e tt (ap (λ (m : Ms). inParens (l ∷ ls) ++ m) (append-nil (inTree u)))
 piece-grown (after u l ls) z a-dot d e =
-    silently _ (wants false (level (l .before) (l .alt-left) (some (joinedCat (l .cat-left) u))) ls) z e tt
+    silently _ (wants false (expressionLevel (l .before) (l .alt-left) (some (joinedCat (l .cat-left) u))) ls) z e tt
     (ap (λ (m : Ms). inParens ls ++ (inBraces (l .before) ++ (inContent (l .alt-left) ++ m))) (cat-mentions (l .cat-left) u)
     ∙ to-the-front (inParens ls) (inBraces (l .before)) (inContent (l .alt-left)) (inContent (l .cat-left)) (inTree u))
 piece-grown (after u l ls) z a-bar d e =
-    silently _ (wants false (level (l .before) (some (whole l u)) none) ls) z e tt
-    (ap (λ (m : Ms). inParens ls ++ (inBraces (l .before) ++ m)) (append-nil (inTree (whole l u)) ∙ whole-mentions l u)
+    silently _ (wants false (expressionLevel (l .before) (some (wholeExpression l u)) none) ls) z e tt
+    (ap (λ (m : Ms). inParens ls ++ (inBraces (l .before) ++ m)) (append-nil (inTree (wholeExpression l u)) ∙ whole-mentions l u)
     ∙ to-the-front (inParens ls) (inBraces (l .before)) (inContent (l .alt-left)) (inContent (l .cat-left)) (inTree u))
 piece-grown (after u l ls) z an-open d e = absurd (none≢some refl e)
-piece-grown (after u l ls) z a-close d e = closed-grown _ (fronted (l .before) (whole l u)) ls z (λ w h. closed-mentions l ls u w h) e
-piece-grown (after u l ls) z a-brace d e = backed-grown _ (fronted (l .before) (whole l u)) ls z (λ w h. closed-mentions l ls u w h) e
+piece-grown (after u l ls) z a-close d e = closed-grown _ (fronted (l .before) (wholeExpression l u)) ls z (λ w h. closed-mentions l ls u w h) e
+piece-grown (after u l ls) z a-brace d e = backed-grown _ (fronted (l .before) (wholeExpression l u)) ls z (λ w h. closed-mentions l ls u w h) e
 piece-grown (after u l ls) z an-unbrace d e = absurd (none≢some refl e)
 piece-grown (after u l ls) z other d e = absurd (none≢some refl e)
 piece-grown (behind q f k ls) z j d e = absurd (none≢some refl e)
@@ -237,28 +237,28 @@ other-stops (after u l ls) = refl
 other-stops (behind q f k ls) = refl
 other-stops (over u ls) = refl
 
-plain-grown : (x z : Parsing) (t : Token) → TidyParsing x → stepPiece x (pieceOf t) ≡ some z → ParsingGrown (inParsing x) (mentionWith none t) z
+plain-grown : (x z : Parsing) (t : TextToken) → TidyParsing x → stepPiece x (pieceOf t) ≡ some z → ParsingGrown (inParsing x) (mentionWith none t) z
 plain-grown x z t d e = on (piece-silent t)
   where
     on : (pieceOf t ≡ other) ⊎ (inToken t ≡ []) → ParsingGrown (inParsing x) (mentionWith none t) z
     on (inl h) = absurd (none≢some (ap (stepPiece x) h ∙ other-stops x) e)
     on (inr h) = subst (λ (m : Ms). ParsingGrown (inParsing x) m z) (sym (outside-mentions t ∙ h)) (piece-grown x z (pieceOf t) d e)
 
-front-grown : (q : Listing) (ls : List Level) (z : Parsing) (t : Token) (o : Option Listing) → TidyList q → stepStatements first q t ≡ o
-    → listing o (λ r. in-front r ls) (unbraces (pieceOf t) (valueOfList q) (λ p. wants false (level (some p) none none) ls)) ≡ some z → ParsingGrown (inParens ls ++ inListing q) (mentionWith (some q) t) z
+front-grown : (q : Listing) (ls : List ExpressionLevel) (z : Parsing) (t : TextToken) (o : Option Listing) → TidyList q → stepStatements first q t ≡ o
+    → listing o (λ r. in-front r ls) (unbraces (pieceOf t) (valueOfList q) (λ p. wants false (expressionLevel (some p) none none) ls)) ≡ some z → ParsingGrown (inParens ls ++ inListing q) (mentionWith (some q) t) z
 front-grown q ls z t (some r) d s e =
     let g = list-grows first q r t d s in
     grown-to _ _ (in-front r ls) z e (g .tidy)
     (ap (λ (m : Ms). inParens ls ++ m) (g .grown ∙ ap (λ (m : Ms). inListing q ++ m) (sym (inside-mentions first q r t s))) ∙ sym (append-assoc (inParens ls) (inListing q) (mentionWith (some q) t)))
 front-grown q ls z t none d s e =
-    let u = unbraced t (valueOfList q) (λ p. wants false (level (some p) none none) ls) z e in
+    let u = unbraced t (valueOfList q) (λ p. wants false (expressionLevel (some p) none none) ls) z e in
     let p = u .program in
-    grown-to _ _ (wants false (level (some p) none none) ls) z (ap some (u .behind)) tt
+    grown-to _ _ (wants false (expressionLevel (some p) none none) ls) z (ap some (u .behind)) tt
     (ap (λ (m : Ms). inParens ls ++ m) (append-nil (inBraces (some p)) ∙ ap (λ (m : Ms). m ++ a-program p ∷ []) (sym (list-value q p d (u .is)))
     ∙ ap (λ (m : Ms). inListing q ++ m) (sym (unbraced-mentions t q p (u .token-is) (u .is))))
     ∙ sym (append-assoc (inParens ls) (inListing q) (mentionWith (some q) t)))
 
-back-grown : (q : Listing) (f : Option Program) (k : Form) (ls : List Level) (z : Parsing) (t : Token) (o : Option Listing) → TidyList q → stepStatements second q t ≡ o
+back-grown : (q : Listing) (f : Option TextProgram) (k : Form) (ls : List ExpressionLevel) (z : Parsing) (t : TextToken) (o : Option Listing) → TidyList q → stepStatements second q t ≡ o
     → listing o (λ r. behind r f k ls) (unbraces (pieceOf t) (valueOfList q) (λ p. over (node f (some p) k) ls)) ≡ some z
     → ParsingGrown (inParens ls ++ (inBraces f ++ (inForm k ++ inListing q))) (mentionWith (some q) t) z
 back-grown q f k ls z t (some r) d s e =
@@ -274,7 +274,7 @@ back-grown q f k ls z t none d s e =
     ∙ ap (λ (m : Ms). inListing q ++ m) (sym (unbraced-mentions t q p (u .token-is) (u .is))))
     ∙ to-the-front (inParens ls) (inBraces f) (inForm k) (inListing q) (mentionWith (some q) t))
 
-pub parsing-grows : (x z : Parsing) (t : Token) → TidyParsing x → stepExpression x t ≡ some z → ParsingGrown (inParsing x) (mentionWith (listingIn x) t) z
+pub parsing-grows : (x z : Parsing) (t : TextToken) → TidyParsing x → stepExpression x t ≡ some z → ParsingGrown (inParsing x) (mentionWith (listingIn x) t) z
 parsing-grows (wants b l ls) z t d e = plain-grown (wants b l ls) z t d e
 parsing-grows (in-front q ls) z t d e = front-grown q ls z t (stepStatements first q t) d refl e
 parsing-grows (after u l ls) z t d e = plain-grown (after u l ls) z t d e
@@ -286,7 +286,7 @@ pub record ContentIs (x : Parsing) (e : Option Tree) : Type 0 where
   pub no-program : listingIn x ≡ none
   pub mentions : inParsing x ≡ inContent e
 
-whole-content : (ls : List Level) (o : Option Tree) (e : Option Tree) (x : Parsing) → wholeValue ls o ≡ some e → listingIn x ≡ none → ((u : Tree) → ls ≡ [] → o ≡ some u → inParsing x ≡ inTree u) → ContentIs x e
+whole-content : (ls : List ExpressionLevel) (o : Option Tree) (e : Option Tree) (x : Parsing) → wholeValue ls o ≡ some e → listingIn x ≡ none → ((u : Tree) → ls ≡ [] → o ≡ some u → inParsing x ≡ inTree u) → ContentIs x e
 whole-content [] none e x h n f = absurd (none≢some refl h)
 whole-content [] (some u) e x h n f = let same : some u ≡ e = cc in record { no-program = n; mentions = f u refl refl ∙ ap inContent same }
 whole-content (l ∷ ls) o e x h n f = absurd (none≢some refl h)
@@ -297,6 +297,6 @@ content-value (wants true l (m ∷ ls)) e d h = absurd (none≢some refl h)
 content-value (wants false l ls) e d h = absurd (none≢some refl h)
 content-value (in-front q ls) e d h = absurd (none≢some refl h)
 content-value (after u l ls) e d h =
-    whole-content ls (fronted (l .before) (whole l u)) e (after u l ls) h refl (λ w a b. sym (closed-mentions l ls u w b) ∙ ap (λ (m : List Level). inParens m ++ inTree w) a)
+    whole-content ls (fronted (l .before) (wholeExpression l u)) e (after u l ls) h refl (λ w a b. sym (closed-mentions l ls u w b) ∙ ap (λ (m : List ExpressionLevel). inParens m ++ inTree w) a)
 content-value (behind q f k ls) e d h = absurd (none≢some refl h)
-content-value (over u ls) e d h = whole-content ls (some u) e (over u ls) h refl (λ w a b. let same : u ≡ w = cc in ap (λ (m : List Level). inParens m ++ inTree u) a ∙ ap inTree same)
+content-value (over u ls) e d h = whole-content ls (some u) e (over u ls) h refl (λ w a b. let same : u ≡ w = cc in ap (λ (m : List ExpressionLevel). inParens m ++ inTree u) a ∙ ap inTree same)

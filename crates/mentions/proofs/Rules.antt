@@ -5,15 +5,15 @@ use mathlib.Core.Option.{Option, none, some}
 use mathlib.Core.List.{List, [], _∷_, _++_, append-assoc, append-nil}
 use Prim.Native.Nat.{ℕ}
 use Rattle.programs.specs.Limits.{Visit, first, second}
-use Rattle.notation.specs.Program.{Program}
-use Rattle.notation.specs.Rules.{Tree, Rule, Rules}
-use Rattle.notation.specs.Tokens.{Token, nonterminal, value, attribute, name, start-tag, end-tag, empty-tag, string, word, sign, Sign, DEFINED, ASSIGNED, OPEN, CLOSE, BRACE, UNBRACE, DOT, BAR, STAR, SEMICOLON, EQUALS}
+use Rattle.notation.specs.Program.{TextProgram}
+use Rattle.notation.specs.Rules.{Tree, TextRule, Rules}
+use Rattle.notation.specs.Tokens.{TextToken, nonterminal, value, attribute, name, start-tag, end-tag, empty-tag, string, word, sign, Sign, DEFINED, ASSIGNED, OPEN, CLOSE, BRACE, UNBRACE, DOT, BAR, STAR, SEMICOLON, EQUALS}
 use Rattle.encoding.specs.Mentions.{Mention, a-tag, a-program, inProgram, inBraces, inContent, inRule, inRules}
 use Rattle.reading.specs.Machine.{andThen, walk}
 use Rattle.reading.specs.Tests.{tagName?}
 use Rattle.reading.specs.Statements.{Listing, listStart, stepStatements, valueOfList}
-use Rattle.reading.specs.Expressions.{Parsing, fresh, nonterminal?, pieceOf, unbraces, listing, stepExpression, valueOfContent}
-use Rattle.reading.specs.Rules.{Key, a-nonterminal, a-name, a-definition, an-open, a-close, a-brace, other, keyIf, keyOf, Head, head, Progress, beginning, first-word, named, defined, own-front, wants-tag, tagged, within, closed, own-back, complete, ruleOf, nextHead, stepKey, closes, parsing, stepRules, valueOfRules}
+use Rattle.reading.specs.Expressions.{Parsing, freshExpression, nonterminal?, pieceOf, unbraces, listing, stepExpression, valueOfContent}
+use Rattle.reading.specs.Rules.{Key, a-nonterminal, a-name, a-definition, an-open, a-close, a-brace, other, keyIf, keyOf, Head, head, Progress, beginning, first-word, named, defined, own-front, wants-tag, tagged, within, closed, own-back, complete, ruleRead, nextHead, stepKey, closesContent, parsing, stepRules, valueOfRules}
 use Rattle.reading.proofs.Telling.{none≢some}
 use Rattle.sketches.specs.Sketched.{listingIn, listingOf}
 use Rattle.mentions.specs.SoFar.{inListing, inParsing, soFar, inToken, mentionWith, mentionOf, TidyList, TidyParsing, Tidy}
@@ -24,17 +24,17 @@ use Rattle.mentions.proofs.Expressions.{outside-mentions, inside-mentio
 abbrev Ms : Type 0
 Ms = List Mention
 
-rules-mentions : (rs ss : List Rule) → inRules (rs ++ ss) ≡ inRules rs ++ inRules ss
+rules-mentions : (rs ss : List TextRule) → inRules (rs ++ ss) ≡ inRules rs ++ inRules ss
 rules-mentions [] ss = refl
 rules-mentions (r ∷ rs) ss = ap (λ (z : Ms). inRule r ++ z) (rules-mentions rs ss) ∙ sym (append-assoc (inRule r) (inRules rs) (inRules ss))
 
-rule-behind : (h : Head) (r : Rule) → inRules (h .earlier ++ r ∷ []) ≡ inRules (h .earlier) ++ inRule r
+rule-behind : (h : Head) (r : TextRule) → inRules (h .earlier ++ r ∷ []) ≡ inRules (h .earlier) ++ inRule r
 rule-behind h r = rules-mentions (h .earlier) (r ∷ []) ∙ ap (λ (z : Ms). inRules (h .earlier) ++ z) (append-nil (inRule r))
 
-no-second : (f : Option Program) (t : List ℕ) (e : Option Tree) (h : Head) → inRule (ruleOf f none t e h) ≡ inBraces f ++ (a-tag t ∷ inContent e)
+no-second : (f : Option TextProgram) (t : List ℕ) (e : Option Tree) (h : Head) → inRule (ruleRead f none t e h) ≡ inBraces f ++ (a-tag t ∷ inContent e)
 no-second f t e h = ap (λ (z : Ms). inBraces f ++ (a-tag t ∷ z)) (append-nil (inContent e))
 
-abbrev KeyFits : Token → Key → Type 0
+abbrev KeyFits : TextToken → Key → Type 0
 KeyFits t (a-nonterminal n) = inToken t ≡ []
 KeyFits t (a-name n) = inToken t ≡ a-tag n ∷ []
 KeyFits t a-definition = inToken t ≡ []
@@ -43,11 +43,11 @@ KeyFits t a-close = inToken t ≡ []
 KeyFits t a-brace = inToken t ≡ []
 KeyFits t other = Unit {0}
 
-key-if : {P : Type 0} (d : Dec P) (t : Token) (k : Key) → KeyFits t k → KeyFits t (keyIf d k)
+key-if : {P : Type 0} (d : Dec P) (t : TextToken) (k : Key) → KeyFits t k → KeyFits t (keyIf d k)
 key-if (yes h) t k f = f
 key-if (no h) t k f = tt
 
-key-fits : (t : Token) → KeyFits t (keyOf t)
+key-fits : (t : TextToken) → KeyFits t (keyOf t)
 key-fits (nonterminal n) = key-if (nonterminal? n) (nonterminal n) (a-nonterminal n) refl
 key-fits (value v) = tt
 key-fits (attribute m a) = tt
@@ -79,7 +79,7 @@ grown-to x ms y z e h k = let same : y ≡ z = cc in subst (GrownTo x ms) same (
 silently : (x ms : Ms) (y z : Progress) → some y ≡ some z → ms ≡ [] → Tidy y → soFar y ≡ x → GrownTo x ms z
 silently x ms y z e n h k = grown-to x ms y z e h (k ∙ sym (append-nil x) ∙ ap (λ (m : Ms). x ++ m) (sym n))
 
-key-grown : (s z : Progress) (t : Token) (k : Key) → KeyFits t k → stepKey s k ≡ some z → GrownTo (soFar s) (inToken t) z
+key-grown : (s z : Progress) (t : TextToken) (k : Key) → KeyFits t k → stepKey s k ≡ some z → GrownTo (soFar s) (inToken t) z
 key-grown beginning z t (a-nonterminal n) f e = silently _ _ (first-word n) z e f tt refl
 key-grown beginning z t (a-name u) f e = absurd (none≢some refl e)
 key-grown beginning z t a-definition f e = absurd (none≢some refl e)
@@ -120,13 +120,13 @@ key-grown (wants-tag p h) z t other f e = absurd (none≢some refl e)
 key-grown (tagged p u h) z t (a-nonterminal n) f e = absurd (none≢some refl e)
 key-grown (tagged p u h) z t (a-name v) f e = absurd (none≢some refl e)
 key-grown (tagged p u h) z t a-definition f e = absurd (none≢some refl e)
-key-grown (tagged p u h) z t an-open f e = silently _ _ (within (Parsing.wants _ fresh []) p u h) z e f refl refl
+key-grown (tagged p u h) z t an-open f e = silently _ _ (within (Parsing.wants _ freshExpression []) p u h) z e f refl refl
 key-grown (tagged p u h) z t a-close f e = absurd (none≢some refl e)
 key-grown (tagged p u h) z t a-brace f e = absurd (none≢some refl e)
 key-grown (tagged p u h) z t other f e = absurd (none≢some refl e)
 key-grown (within x p u h) z t k f e = absurd (none≢some refl e)
 key-grown (closed p u c h) z t (a-nonterminal n) f e =
-    silently _ _ (named (nextHead (ruleOf p none u c h) h n)) z e f tt (rule-behind h (ruleOf p none u c h) ∙ ap (λ (m : Ms). inRules (h .earlier) ++ m) (no-second p u c h))
+    silently _ _ (named (nextHead (ruleRead p none u c h) h n)) z e f tt (rule-behind h (ruleRead p none u c h) ∙ ap (λ (m : Ms). inRules (h .earlier) ++ m) (no-second p u c h))
 key-grown (closed p u c h) z t (a-name v) f e = absurd (none≢some refl e)
 key-grown (closed p u c h) z t a-definition f e = absurd (none≢some refl e)
 key-grown (closed p u c h) z t an-open f e = absurd (none≢some refl e)
@@ -143,19 +143,19 @@ key-grown (complete r h) z t a-close f e = absurd (none≢some refl e)
 key-grown (complete r h) z t a-brace f e = absurd (none≢some refl e)
 key-grown (complete r h) z t other f e = absurd (none≢some refl e)
 
-plain-grown : (s z : Progress) (t : Token) → stepKey s (keyOf t) ≡ some z → GrownTo (soFar s) (mentionWith none t) z
+plain-grown : (s z : Progress) (t : TextToken) → stepKey s (keyOf t) ≡ some z → GrownTo (soFar s) (mentionWith none t) z
 plain-grown s z t e = subst (λ (m : Ms). GrownTo (soFar s) m z) (sym (outside-mentions t)) (key-grown s z t (keyOf t) (key-fits t) e)
 
 -- three in a row
 pushed : (a b c d : Ms) → a ++ (b ++ (c ++ d)) ≡ (a ++ (b ++ c)) ++ d
 pushed a b c d = ap (λ (z : Ms). a ++ z) (sym (append-assoc b c d)) ∙ sym (append-assoc a (b ++ c) d)
 
-module _ (v : Visit) (q : Listing) (t : Token) (d : TidyList q) where
+module _ (v : Visit) (q : Listing) (t : TextToken) (d : TidyList q) where
   -- a program goes on, or ends
   goes-on : (r : Listing) → stepStatements v q t ≡ some r → inListing r ≡ inListing q ++ mentionWith (some q) t
   goes-on r s = list-grows v q r t d s .grown ∙ ap (λ (m : Ms). inListing q ++ m) (sym (inside-mentions v q r t s))
 
-  ends-with : (p : Program) → t ≡ sign UNBRACE → valueOfList q ≡ some p → inBraces (some p) ≡ inListing q ++ mentionWith (some q) t
+  ends-with : (p : TextProgram) → t ≡ sign UNBRACE → valueOfList q ≡ some p → inBraces (some p) ≡ inListing q ++ mentionWith (some q) t
   ends-with p h e = ap (λ (m : Ms). m ++ a-program p ∷ []) (sym (list-value q p d e)) ∙ ap (λ (m : Ms). inListing q ++ m) (sym (unbraced-mentions t q p h e))
 
   front-grown : (h : Head) (z : Progress) (o : Option Listing) → v ≡ first → stepStatements v q t ≡ o
@@ -167,21 +167,21 @@ module _ (v : Visit) (q : Listing) (t : Token) (d : TidyList q) where
       grown-to _ _ (wants-tag (some (u .program)) h) z (ap some (u .behind)) tt
       (ap (λ (m : Ms). inRules (h .earlier) ++ m) (ends-with (u .program) (u .token-is) (u .is)) ∙ sym (append-assoc (inRules (h .earlier)) (inListing q) (mentionWith (some q) t)))
 
-  back-grown : (p : Option Program) (n : List ℕ) (c : Option Tree) (h : Head) (z : Progress) (o : Option Listing) → stepStatements v q t ≡ o
-      → listing o (λ r. own-back r p n c h) (unbraces (pieceOf t) (valueOfList q) (λ g. complete (ruleOf p (some g) n c h) h)) ≡ some z
+  back-grown : (p : Option TextProgram) (n : List ℕ) (c : Option Tree) (h : Head) (z : Progress) (o : Option Listing) → stepStatements v q t ≡ o
+      → listing o (λ r. own-back r p n c h) (unbraces (pieceOf t) (valueOfList q) (λ g. complete (ruleRead p (some g) n c h) h)) ≡ some z
       → GrownTo (inRules (h .earlier) ++ (inBraces p ++ (a-tag n ∷ (inContent c ++ inListing q)))) (mentionWith (some q) t) z
   back-grown p n c h z (some r) s e =
       grown-to _ _ (own-back r p n c h) z e (list-grows v q r t d s .tidy)
       (ap (λ (m : Ms). inRules (h .earlier) ++ (inBraces p ++ (a-tag n ∷ m))) (ap (λ (m : Ms). inContent c ++ m) (goes-on r s) ∙ sym (append-assoc (inContent c) (inListing q) (mentionWith (some q) t)))
       ∙ pushed (inRules (h .earlier)) (inBraces p) (a-tag n ∷ (inContent c ++ inListing q)) (mentionWith (some q) t))
   back-grown p n c h z none s e =
-      let u = unbraced t (valueOfList q) (λ g. complete (ruleOf p (some g) n c h) h) z e in
-      grown-to _ _ (complete (ruleOf p (some (u .program)) n c h) h) z (ap some (u .behind)) tt
+      let u = unbraced t (valueOfList q) (λ g. complete (ruleRead p (some g) n c h) h) z e in
+      grown-to _ _ (complete (ruleRead p (some (u .program)) n c h) h) z (ap some (u .behind)) tt
       (ap (λ (m : Ms). inRules (h .earlier) ++ (inBraces p ++ (a-tag n ∷ m))) (ap (λ (m : Ms). inContent c ++ m) (ends-with (u .program) (u .token-is) (u .is)) ∙ sym (append-assoc (inContent c) (inListing q) (mentionWith (some q) t)))
       ∙ pushed (inRules (h .earlier)) (inBraces p) (a-tag n ∷ (inContent c ++ inListing q)) (mentionWith (some q) t))
 
-module _ (x : Parsing) (p : Option Program) (u : List ℕ) (h : Head) (t : Token) (d : TidyParsing x) where
-  closes-grown : (k : Key) (o : Option (Option Tree)) (z : Progress) → KeyFits t k → valueOfContent x ≡ o → closes k o p u h ≡ some z → GrownTo (soFar (within x p u h)) (mentionWith (listingIn x) t) z
+module _ (x : Parsing) (p : Option TextProgram) (u : List ℕ) (h : Head) (t : TextToken) (d : TidyParsing x) where
+  closes-grown : (k : Key) (o : Option (Option Tree)) (z : Progress) → KeyFits t k → valueOfContent x ≡ o → closesContent k o p u h ≡ some z → GrownTo (soFar (within x p u h)) (mentionWith (listingIn x) t) z
   closes-grown (a-nonterminal n) o z f w e = absurd (none≢some refl e)
   closes-grown (a-name n) o z f w e = absurd (none≢some refl e)
   closes-grown a-definition o z f w e = absurd (none≢some refl e)
@@ -194,7 +194,7 @@ module _ (x : Parsing) (p : Option Program) (u : List ℕ) (h : Head) (t : Token
   closes-grown a-brace o z f w e = absurd (none≢some refl e)
   closes-grown other o z f w e = absurd (none≢some refl e)
 
-  within-grown : (z : Progress) (o : Option Parsing) → stepExpression x t ≡ o → parsing o (closes (keyOf t) (valueOfContent x) p u h) p u h ≡ some z
+  within-grown : (z : Progress) (o : Option Parsing) → stepExpression x t ≡ o → parsing o (closesContent (keyOf t) (valueOfContent x) p u h) p u h ≡ some z
       → GrownTo (soFar (within x p u h)) (mentionWith (listingIn x) t) z
   within-grown z none s e = closes-grown (keyOf t) (valueOfContent x) z (key-fits t) refl e
   within-grown z (some y) s e =
@@ -202,7 +202,7 @@ module _ (x : Parsing) (p : Option Program) (u : List ℕ) (h : Head) (t : Token
       grown-to _ _ (within y p u h) z e (g .tidy)
       (ap (λ (m : Ms). inRules (h .earlier) ++ (inBraces p ++ (a-tag u ∷ m))) (g .grown) ∙ pushed (inRules (h .earlier)) (inBraces p) (a-tag u ∷ inParsing x) (mentionWith (listingIn x) t))
 
-step-grown : (s z : Progress) (t : Token) → Tidy s → stepRules s t ≡ some z → GrownTo (soFar s) (mentionOf s t) z
+step-grown : (s z : Progress) (t : TextToken) → Tidy s → stepRules s t ≡ some z → GrownTo (soFar s) (mentionOf s t) z
 step-grown beginning z t d e = plain-grown beginning z t e
 step-grown (first-word n) z t d e = plain-grown (first-word n) z t e
 step-grown (named h) z t d e = plain-grown (named h) z t e
@@ -228,8 +228,8 @@ mentions-all (wants-tag f h) r d e = absurd (none≢some refl e)
 mentions-all (tagged f t h) r d e = absurd (none≢some refl e)
 mentions-all (within x f t h) r d e = absurd (none≢some refl e)
 mentions-all (closed f t c h) r d e =
-    let same : h .earlier ++ ruleOf f none t c h ∷ [] ≡ r .productions = cc in
-    ap (λ (m : Ms). inRules (h .earlier) ++ m) (sym (no-second f t c h)) ∙ sym (rule-behind h (ruleOf f none t c h)) ∙ ap inRules same
+    let same : h .earlier ++ ruleRead f none t c h ∷ [] ≡ r .productions = cc in
+    ap (λ (m : Ms). inRules (h .earlier) ++ m) (sym (no-second f t c h)) ∙ sym (rule-behind h (ruleRead f none t c h)) ∙ ap inRules same
 mentions-all (own-back q f t c h) r d e = absurd (none≢some refl e)
 mentions-all (complete u h) r d e = let same : h .earlier ++ u ∷ [] ≡ r .productions = cc in sym (rule-behind h u) ∙ ap inRules same
 

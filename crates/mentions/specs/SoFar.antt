@@ -4,11 +4,11 @@ use mathlib.Core.Bool.{true, false}
 use mathlib.Core.Option.{Option, none, some}
 use mathlib.Core.List.{List, [], _∷_, _++_}
 use Rattle.text.specs.Characters.{utf8s}
-use Rattle.notation.specs.Program.{Program, done}
-use Rattle.notation.specs.Tokens.{Token, nonterminal, value, attribute, name, start-tag, end-tag, empty-tag, string, word, sign, Sign, DEFINED, ASSIGNED, OPEN, CLOSE, BRACE, UNBRACE, DOT, BAR, STAR, SEMICOLON, EQUALS}
+use Rattle.notation.specs.Program.{TextProgram, done}
+use Rattle.notation.specs.Tokens.{TextToken, nonterminal, value, attribute, name, start-tag, end-tag, empty-tag, string, word, sign, Sign, DEFINED, ASSIGNED, OPEN, CLOSE, BRACE, UNBRACE, DOT, BAR, STAR, SEMICOLON, EQUALS}
 use Rattle.encoding.specs.Mentions.{Mention, a-tag, a-string, a-program, inProgram, inBraces, inTree, inForm, inContent, inRule, inRules}
-use Rattle.reading.specs.Statements.{Pending, in-then, in-else, Level, level, Place, opening, separated, branching, Listing, wants, target, assigning, printing, testing, after, valueOfList}
-use Rattle.reading.specs.Expressions.{Level as Paren, fresh, Parsing, in-front, behind, over}
+use Rattle.reading.specs.Statements.{Pending, in-then, in-else, ListLevel, listLevel, Place, opening, separated, branching, Listing, wants, target, assigning, printing, testing, after, valueOfList}
+use Rattle.reading.specs.Expressions.{ExpressionLevel as Paren, freshExpression, Parsing, in-front, behind, over}
 use Rattle.reading.specs.Rules.{Head, Progress, beginning, first-word, named, defined, own-front, wants-tag, tagged, within, closed, own-back, complete}
 use Rattle.sketches.specs.Sketched.{listingOf}
 
@@ -21,10 +21,10 @@ abbrev pub inIfs : List Pending → List Mention
 inIfs [] = []
 inIfs (f ∷ fs) = inIfs fs ++ inPending f
 
-abbrev pub inLevel : Level → List Mention
+abbrev pub inLevel : ListLevel → List Mention
 inLevel l = inProgram (l .before) ++ inIfs (l .ifs)
 
-abbrev pub inLevels : List Level → List Mention
+abbrev pub inLevels : List ListLevel → List Mention
 inLevels [] = []
 inLevels (l ∷ ls) = inLevels ls ++ inLevel l
 
@@ -66,7 +66,7 @@ soFar (own-back q f t e h) = inRules (h .earlier) ++ (inBraces f ++ (a-tag t ∷
 soFar (complete r h) = inRules (h .earlier) ++ inRule r
 
 -- what a token mentions by itself
-abbrev pub inToken : Token → List Mention
+abbrev pub inToken : TextToken → List Mention
 inToken (nonterminal n) = []
 inToken (value v) = []
 inToken (attribute m a) = []
@@ -79,11 +79,11 @@ inToken (word w) = []
 inToken (sign s) = []
 
 -- and a } the program that it ends
-abbrev pub ended : Option Program → List Mention
+abbrev pub ended : Option TextProgram → List Mention
 ended none = []
 ended (some p) = a-program p ∷ []
 
-abbrev pub endedBy : Sign → Option Program → List Mention
+abbrev pub endedBy : Sign → Option TextProgram → List Mention
 endedBy DEFINED o = []
 endedBy ASSIGNED o = []
 endedBy OPEN o = []
@@ -96,11 +96,11 @@ endedBy STAR o = []
 endedBy SEMICOLON o = []
 endedBy EQUALS o = []
 
-abbrev pub wholeIn : Option Listing → Option Program
+abbrev pub wholeIn : Option Listing → Option TextProgram
 wholeIn none = none
 wholeIn (some q) = valueOfList q
 
-abbrev pub mentionWith : Option Listing → Token → List Mention
+abbrev pub mentionWith : Option Listing → TextToken → List Mention
 mentionWith o (nonterminal n) = []
 mentionWith o (value v) = []
 mentionWith o (attribute m a) = []
@@ -112,12 +112,12 @@ mentionWith o (string cs) = inToken (string cs)
 mentionWith o (word w) = []
 mentionWith o (sign g) = endedBy g (wholeIn o)
 
-abbrev pub mentionOf : Progress → Token → List Mention
+abbrev pub mentionOf : Progress → TextToken → List Mention
 mentionOf s t = mentionWith (listingOf s) t
 
 -- where a list of statements or an expression opens, nothing stands to the left
 abbrev pub TidyList : Listing → Type 0
-TidyList (wants opening l ls) = l ≡ level done []
+TidyList (wants opening l ls) = l ≡ listLevel done []
 TidyList (wants separated l ls) = Unit {0}
 TidyList (wants branching l ls) = Unit {0}
 TidyList (target a l ls) = Unit {0}
@@ -127,7 +127,7 @@ TidyList (testing r l ls) = Unit {0}
 TidyList (after b p l ls) = Unit {0}
 
 abbrev pub TidyParsing : Parsing → Type 0
-TidyParsing (Parsing.wants true l ls) = l ≡ fresh
+TidyParsing (Parsing.wants true l ls) = l ≡ freshExpression
 TidyParsing (Parsing.wants false l ls) = Unit {0}
 TidyParsing (in-front q ls) = TidyList q
 TidyParsing (Parsing.after e l ls) = Unit {0}

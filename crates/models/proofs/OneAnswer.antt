@@ -7,7 +7,7 @@ use Prim.Native.Nat.{ℕ, suc, _+_, _≤_, _<_}
 use native.Mathlib.Omega.{arith}
 use native.Mathlib.Decide.{decLt}
 use lib.ListN.{length, take, drop}
-use Rattle.notation.specs.Refusal.{GoesOn, RefusedAt}
+use Rattle.notation.specs.Refusal.{Continues, RefusedAt}
 use Rattle.notation.proofs.Refusals.{one-place, none-where-written}
 use Rattle.reading.specs.Machine.{walk}
 use Rattle.models.specs.Models.{Declaration}

@@ -6,7 +6,7 @@ use Prim.Native.Nat.{ℕ, suc, _≤_}
 use native.Mathlib.Omega.{arith}
 use native.Mathlib.Decide.{decLe}
 use Rattle.limits.specs.Limits.{nodesAtMost, deepestTree}
-use Rattle.notation.specs.Refusal.{GoesOn, RefusedAt, Told, written, refused}
+use Rattle.notation.specs.Refusal.{Continues, RefusedAt, Told, written, refused}
 use Rattle.notation.specs.Statements.{parentheses}
 use Rattle.reading.specs.Machine.{walk}
 use Rattle.reading.specs.Reads.{Limited, Ends, ReadBy}
@@ -73,10 +73,10 @@ of-family w ds l = record { spelled = l .phrase; few-nodes = l .fits .few; shall
 in-family : (w : List ℕ) (ds : List Declaration) → Family w ds → Within w ds
 in-family w ds f = record { phrase = f .spelled; fits = record { few = f .few-nodes; shallow = f .shallow } }
 
-goes-family : (w : List ℕ) → GoesOn Within w → GoesOn Family w
+goes-family : (w : List ℕ) → Continues Within w → Continues Family w
 goes-family w g = record { rest = g .rest; value = g .value; writes = of-family (w ++ g .rest) (g .value) (g .writes) }
 
-goes-within : (w : List ℕ) → GoesOn Family w → GoesOn Within w
+goes-within : (w : List ℕ) → Continues Family w → Continues Within w
 goes-within w g = record { rest = g .rest; value = g .value; writes = in-family (w ++ g .rest) (g .value) (g .writes) }
 
 told-family : (row : List ℕ) → Told Within row → Told Family row

@@ -6,7 +6,7 @@ use mathlib.Core.Logic.{_⊎_}
 use Prim.Native.Nat.{ℕ, suc, _≤_, _<_}
 use lib.ListN.{length, take, drop}
 use Rattle.text.specs.Names.{nameByte}
-use Rattle.notation.specs.Refusal.{GoesOn, RefusedAt}
+use Rattle.notation.specs.Refusal.{Continues, RefusedAt}
 use Rattle.models.specs.Models.{Declaration}
 use Rattle.models.specs.Spelling.{emptyWord}
 use Rattle.models.specs.Family.{Grammatical, WithFewNodes, Family, Holdable}
@@ -50,7 +50,7 @@ pub data Stands (text : List ℕ) (k : ℕ) : ℕ → Type 0 where
 
 -- the first k + 1 bytes go on
 abbrev pub GoesOnPast : (List ℕ → List Declaration → Type 0) → List ℕ → ℕ → Type 0
-GoesOnPast Writes text k = (k < length text) × GoesOn Writes (take (suc k) text)
+GoesOnPast Writes text k = (k < length text) × Continues Writes (take (suc k) text)
 
 -- of the family, but more than a sheet can hold: the first k + 1 bytes are too, and no fewer are
 pub record TooMuchAt (text : List ℕ) (k : ℕ) : Type 0 where

@@ -5,7 +5,7 @@ use mathlib.Core.Logic.{_↔_}
 use Prim.Native.Nat.{ℕ, suc}
 use Rattle.expressions.specs.Expr.{Atom, nonterminal, anychar, nodesOf}
 use Rattle.language.specs.Language.{LanguageOf}
-use Rattle.notation.specs.Limits.{depthOf}
+use Rattle.notation.specs.Limits.{contentDepth}
 use Rattle.notation.specs.Refusal.{Told}
 use Rattle.reading.specs.Reads.{ReadBy}
 use Rattle.models.specs.Models.{ContentSpec, Declaration}
@@ -31,7 +31,7 @@ abbrev pub NodesCounted : Type 0
 NodesCounted = (number : List ℕ → ℕ) (c : ContentSpec) → nodesOf (specContent number c) ≡ specNodes c
 
 abbrev pub DepthCounted : Type 0
-DepthCounted = (number : List ℕ → ℕ) (c : ContentSpec) → depthOf (specContent number c) ≡ specDepth c
+DepthCounted = (number : List ℕ → ℕ) (c : ContentSpec) → contentDepth (specContent number c) ≡ specDepth c
 
 -- a text declares one thing at most, however many parentheses may be open
 abbrev pub OneDtd : Type 0

@@ -7,11 +7,11 @@ use Prim.Native.Nat.{ℕ, suc}
 use native.Mathlib.Omega.{arith}
 use lib.ListN.{length, take, drop}
 use Rattle.runs.specs.Execute.{nameOf}
-use Rattle.notation.specs.Program.{Statement, become, copy, recall, reject, print-start, print-end, print-text, echo, branch, Program, done, step, statementIn, programIn}
-use Rattle.notation.specs.Rules.{Visits, Tree, node, Form, atom, cat, alt, star, empty, visits, visitsOf, visitsIn, Rule, Rules}
-use Rattle.encoding.specs.Mentions.{Mention, a-tag, a-string, a-program, inStatement, inProgram, inBraces, inTree, inForm, inContent, inRule, inRules, tagsIn, stringsIn}
+use Rattle.notation.specs.Program.{TextStatement, become, copy, recall, reject, print-start, print-end, print-text, echo, branch, TextProgram, done, step, statementIn, programIn}
+use Rattle.notation.specs.Rules.{TextVisits, Tree, node, Form, atom, cat, alt, star, empty, visits, visitsOf, visitsInside, TextRule, Rules}
+use Rattle.encoding.specs.Mentions.{Mention, a-tag, a-string, a-program, inStatement, inProgram, inBraces, inTree, inForm, inContent, inRule, inRules, tagsMentioned, stringsMentioned}
 use Rattle.encoding.specs.Distinct.{equal, has, placeOf, offsetOf}
-use Rattle.encoding.specs.Encoded.{tagsOf, stringsOf, programOf, maybe, bothOf, each, ruleOf, rulesOf, sheetOf}
+use Rattle.encoding.specs.Encoded.{tagsStored, stringsStored, programOf, maybe, bothOf, each, ruleOf, rulesOf, sheetOf}
 use Rattle.encoding.proofs.Stored.{equal-true, or-parts, distinct-all, lies}
 use Rattle.encoding.proofs.Sheets.{Had, had-all, had-front, had-back}
 use Rattle.naming.specs.ByName.{statementNamed, programNamed, optionNamed, visitsNamed, eachNamed, RuleByName, EachByName, ByName}
@@ -28,38 +28,38 @@ name-back (m ∷ l) n e = on (equal n m) refl (λ f. name-back l n (or-parts (eq
 
 module _ (r : Rules) where
   abbrev Stored : List Mention → Type 0
-  Stored ms = Had (tagsOf r) (stringsOf r) ms
+  Stored ms = Had (tagsStored r) (stringsStored r) ms
 
   front : (ms ns : List Mention) → Stored (ms ++ ns) → Stored ms
-  front ms ns h = had-front (tagsOf r) (stringsOf r) ms ns h
+  front ms ns h = had-front (tagsStored r) (stringsStored r) ms ns h
 
   back : (ms ns : List Mention) → Stored (ms ++ ns) → Stored ns
-  back ms ns h = had-back (tagsOf r) (stringsOf r) ms ns h
+  back ms ns h = had-back (tagsStored r) (stringsStored r) ms ns h
 
   mutual
-    statement-back : (t : Statement) → Stored (inStatement t) → statementNamed (sheetOf r) (statementIn (placeOf (tagsOf r)) (offsetOf (stringsOf r)) t) ≡ t
+    statement-back : (t : TextStatement) → Stored (inStatement t) → statementNamed (sheetOf r) (statementIn (placeOf (tagsStored r)) (offsetOf (stringsStored r)) t) ≡ t
     statement-back (become a v) h = refl
     statement-back (copy a b) h = refl
     statement-back (recall a b) h = refl
     statement-back reject h = refl
-    statement-back (print-start n) h = ap print-start (name-back (tagsOf r) n (h .0))
-    statement-back (print-end n) h = ap print-end (name-back (tagsOf r) n (h .0))
-    statement-back (print-text s) h = ap print-text (lies (stringsOf r) s (h .0) .there)
+    statement-back (print-start n) h = ap print-start (name-back (tagsStored r) n (h .0))
+    statement-back (print-end n) h = ap print-end (name-back (tagsStored r) n (h .0))
+    statement-back (print-text s) h = ap print-text (lies (stringsStored r) s (h .0) .there)
     statement-back (echo on) h = refl
     statement-back (branch c l m) h = ap₂ (branch c) (program-back l (front (inProgram l) (inProgram m) h)) (program-back m (back (inProgram l) (inProgram m) h))
 
-    program-back : (p : Program) → Stored (inProgram p) → programNamed (sheetOf r) (programOf r p) ≡ p
+    program-back : (p : TextProgram) → Stored (inProgram p) → programNamed (sheetOf r) (programOf r p) ≡ p
     program-back done h = refl
     program-back (step t p) h = ap₂ step (statement-back t (front (inStatement t) (inProgram p) h)) (program-back p (back (inStatement t) (inProgram p) h))
 
-  option-back : (o : Option Program) → Stored (inBraces o) → optionNamed (sheetOf r) (maybe r o) ≡ o
+  option-back : (o : Option TextProgram) → Stored (inBraces o) → optionNamed (sheetOf r) (maybe r o) ≡ o
   option-back none h = refl
   option-back (some p) h = ap some (program-back p (front (inProgram p) (a-program p ∷ []) h))
 
-  abbrev Back : List Visits → Type 0
+  abbrev Back : List TextVisits → Type 0
   Back vs = eachNamed (sheetOf r) (each r vs) ≡ vs
 
-  back-append : (us ws : List Visits) → Back us → Back ws → Back (us ++ ws)
+  back-append : (us ws : List TextVisits) → Back us → Back ws → Back (us ++ ws)
   back-append [] ws h k = k
   back-append (u ∷ us) ws h k = ap₂ _∷_ (mathlib.Core.List.head-eq-of-cons-eq h) (back-append us ws (mathlib.Core.List.tail-eq-of-cons-eq h) k)
 
@@ -76,11 +76,11 @@ module _ (r : Rules) where
     form-back (star e) h = tree-back e h
     form-back empty h = refl
 
-  content-back : (o : Option Tree) → Stored (inContent o) → Back (visitsIn o)
+  content-back : (o : Option Tree) → Stored (inContent o) → Back (visitsInside o)
   content-back none h = refl
   content-back (some e) h = tree-back e h
 
-  rule-back : (d : Rule) → Stored (inRule d) → RuleByName (sheetOf r) (ruleOf r d) d
+  rule-back : (d : TextRule) → Stored (inRule d) → RuleByName (sheetOf r) (ruleOf r d) d
   rule-back d h =
       let f = inBraces (d .own .first-visit) in
       let g = inBraces (d .own .second-visit) in
@@ -89,17 +89,17 @@ module _ (r : Rules) where
       let y = option-back (d .own .second-visit) (back (inContent (d .inside)) g (t .1)) in
       record {
         nonterminal-is = refl;
-        tag-is = sym (name-back (tagsOf r) (d .tag) (t .0));
+        tag-is = sym (name-back (tagsStored r) (d .tag) (t .0));
         nodes-are = refl;
         own-are = λ i. record { first-visit = sym x i; second-visit = sym y i };
         of-nodes-are = sym (content-back (d .inside) (front (inContent (d .inside)) g (t .1)));
       }
 
-  rules-back : (ds : List Rule) → Stored (inRules ds) → EachByName (sheetOf r) (rulesOf r ds) ds
+  rules-back : (ds : List TextRule) → Stored (inRules ds) → EachByName (sheetOf r) (rulesOf r ds) ds
   rules-back [] h = tt
   rules-back (d ∷ ds) h = (rule-back d (front (inRule d) (inRules ds) h), rules-back ds (back (inRule d) (inRules ds) h))
 
 pub sheet-is-its-rules : SheetIsItsRules
 sheet-is-its-rules r =
     let ms = inRules (r .productions) in
-    record { start-is = refl; rules-are = rules-back r (r .productions) (had-all (tagsOf r) (stringsOf r) ms (distinct-all (tagsIn ms)) (distinct-all (stringsIn ms))) }
+    record { start-is = refl; rules-are = rules-back r (r .productions) (had-all (tagsStored r) (stringsStored r) ms (distinct-all (tagsMentioned ms)) (distinct-all (stringsMentioned ms))) }

@@ -6,31 +6,31 @@ use Prim.Native.Nat.{ℕ, suc, _+_, _≤_}
 use native.Mathlib.Omega.{arith}
 use lib.ListN.{length, length-append}
 use Rattle.expressions.specs.Expr.{Exp, nodes, Content, nothing, tree, nodesOf}
-use Rattle.programs.specs.Program.{Program as SheetProgram}
+use Rattle.programs.specs.Program.{Program}
 use Rattle.layout.specs.Layout.{productionCount}
 use Rattle.layout.specs.Records.{firstNodeOf, nodeCountOf}
 use Rattle.trees.specs.Trees.{ContentAt}
-use Rattle.sheet.specs.Fields.{Visits as SheetVisits}
-use Rattle.sheet.specs.Sheet.{Rule as SheetRule, Sheet, From, NodeIs, RuleAt}
+use Rattle.sheet.specs.Fields.{Visits}
+use Rattle.sheet.specs.Sheet.{Rule, Sheet, From, NodeIs, RuleAt}
 use Rattle.sheet.proofs.SheetLaws.{from-counted}
 use Rattle.runs.specs.Execute.{nameOf}
-use Rattle.notation.specs.Rules.{Visits, Tree, node, atom, cat, alt, star, empty, expression, visits, contentOf, visitsIn, Rule, Rules}
+use Rattle.notation.specs.Rules.{TextVisits, Tree, node, atom, cat, alt, star, empty, expression, visits, contentInside, visitsInside, TextRule, Rules}
 use Rattle.encoding.proofs.Sheets.{tree-length}
 use Rattle.packing.specs.Packs.{Packs}
 use Rattle.naming.specs.ByName.{visitsNamed, eachNamed, RuleByName, EachByName, ByName}
 use Rattle.naming.specs.Promises.{SheetsAreRules}
 
 -- a tree of an expression, and the programs that are left
-record Built (e : Exp) (vs : List Visits) : Type 0 where
+record Built (e : Exp) (vs : List TextVisits) : Type 0 where
   it : Tree
-  rest : List Visits
+  rest : List TextVisits
   expressed : expression it ≡ e
   parts : vs ≡ visits it ++ rest
 
-enough : (e : Exp) (v : Visits) (vs : List Visits) (n : ℕ) (b : Built e vs) → suc (nodes e + n) ≤ length (v ∷ vs) → n ≤ length (b .rest)
+enough : (e : Exp) (v : TextVisits) (vs : List TextVisits) (n : ℕ) (b : Built e vs) → suc (nodes e + n) ≤ length (v ∷ vs) → n ≤ length (b .rest)
 enough e v vs n b h = omega (arith, h, ap length (b .parts), length-append (visits (b .it)) (b .rest), tree-length (b .it), ap nodes (b .expressed))
 
-build : (e : Exp) (vs : List Visits) → nodes e ≤ length vs → Built e vs
+build : (e : Exp) (vs : List TextVisits) → nodes e ≤ length vs → Built e vs
 build (Exp.atom k) [] h = absurd (omega arith)
 build (Exp.atom k) (v ∷ vs) h = record { it = node (v .first-visit) (v .second-visit) (atom k); rest = vs; expressed = refl; parts = refl }
 build (Exp.cat l r) [] h = absurd (omega arith)
@@ -60,23 +60,23 @@ build (Exp.star e) (v ∷ vs) h =
 build Exp.empty [] h = absurd (omega arith)
 build Exp.empty (v ∷ vs) h = record { it = node (v .first-visit) (v .second-visit) empty; rest = vs; expressed = refl; parts = refl }
 
-record Inside (c : Content) (vs : List Visits) : Type 0 where
+record Inside (c : Content) (vs : List TextVisits) : Type 0 where
   it : Option Tree
-  content : contentOf it ≡ c
-  all : visitsIn it ≡ vs
+  content : contentInside it ≡ c
+  all : visitsInside it ≡ vs
 
-none-left : (l : List Visits) → length l ≡ 0 → l ≡ []
+none-left : (l : List TextVisits) → length l ≡ 0 → l ≡ []
 none-left [] h = refl
 none-left (v ∷ l) h = absurd (omega arith)
 
-inside : (c : Content) (vs : List Visits) → length vs ≡ nodesOf c → Inside c vs
+inside : (c : Content) (vs : List TextVisits) → length vs ≡ nodesOf c → Inside c vs
 inside nothing vs h = record { it = none; content = refl; all = sym (none-left vs h) }
 inside (tree e) vs h =
     let b = build e vs (omega (arith, h)) in
     let left : b .rest ≡ [] = none-left (b .rest) (omega (arith, h, ap length (b .parts), length-append (visits (b .it)) (b .rest), tree-length (b .it), ap nodes (b .expressed))) in
     record { it = some (b .it); content = ap tree (b .expressed); all = sym (b .parts ∙ ap (λ z. visits (b .it) ++ z) left ∙ append-nil (visits (b .it))) }
 
-named-length : (a : Sheet) (vs : List SheetVisits) → length (eachNamed a vs) ≡ length vs
+named-length : (a : Sheet) (vs : List Visits) → length (eachNamed a vs) ≡ length vs
 named-length a [] = refl
 named-length a (v ∷ vs) = ap suc (named-length a vs)
 
@@ -84,8 +84,8 @@ pub content-nodes : (s : List ℕ) (q : ℕ) (c : Content) → ContentAt s q c �
 content-nodes s q nothing h = sym h
 content-nodes s q (tree e) h = h .1
 
-module _ (s : List ℕ) (a : Sheet) (ps : List SheetProgram) where
-  rule-there : (q : ℕ) (x : SheetRule) → RuleAt s ps q x → (d : Rule) × RuleByName a x d
+module _ (s : List ℕ) (a : Sheet) (ps : List Program) where
+  rule-there : (q : ℕ) (x : Rule) → RuleAt s ps q x → (d : TextRule) × RuleByName a x d
   rule-there q x h =
       let i = inside (x .production .content) (eachNamed a (x .of-nodes))
       (omega (arith, named-length a (x .of-nodes), from-counted (NodeIs s ps) (firstNodeOf s q) (firstNodeOf s q + nodeCountOf s q) (x .of-nodes) (h .nodes-are), content-nodes s q (x .production .content) (h .production-is .content-is))) in (
@@ -93,7 +93,7 @@ module _ (s : List ℕ) (a : Sheet) (ps : List SheetProgram) where
         record { nonterminal-is = refl; tag-is = refl; nodes-are = i .content; own-are = refl; of-nodes-are = i .all },
       )
 
-  rules-there : (i k : ℕ) (xs : List SheetRule) → From (RuleAt s ps) i k xs → (ds : List Rule) × EachByName a xs ds
+  rules-there : (i k : ℕ) (xs : List Rule) → From (RuleAt s ps) i k xs → (ds : List TextRule) × EachByName a xs ds
   rules-there i k [] f = ([], tt)
   rules-there i k (x ∷ xs) f =
       let d = rule-there i x (f .0) in

@@ -5,16 +5,16 @@ use mathlib.Core.Option.{Option, none, some}
 use Prim.Native.Nat.{ℕ}
 use native.Mathlib.Omega.{arith}
 use Rattle.expressions.specs.Expr.{Exp}
-use Rattle.sheet.specs.Sheet.{Rule as SheetRule, Sheet}
-use Rattle.notation.specs.Rules.{Visits, Tree, node, Form, atom, cat, alt, star, empty, expression, expressionOf, visits, visitsOf, contentOf, visitsIn, Rule, Rules}
+use Rattle.sheet.specs.Sheet.{Rule, Sheet}
+use Rattle.notation.specs.Rules.{TextVisits, Tree, node, Form, atom, cat, alt, star, empty, expression, expressionOf, visits, visitsOf, contentInside, visitsInside, TextRule, Rules}
 use Rattle.naming.specs.ByName.{RuleByName, EachByName, ByName}
 use Rattle.naming.specs.Promises.{OneByName}
 
-same-visits : (f g f′ g′ : Option Rattle.notation.specs.Program.Program) → _≡_ {A = Visits} (record { first-visit = f; second-visit = g }) (record { first-visit = f′; second-visit = g′ }) → (f ≡ f′) × (g ≡ g′)
+same-visits : (f g f′ g′ : Option Rattle.notation.specs.Program.TextProgram) → _≡_ {A = TextVisits} (record { first-visit = f; second-visit = g }) (record { first-visit = f′; second-visit = g′ }) → (f ≡ f′) × (g ≡ g′)
 same-visits f g f′ g′ e = (ap (λ v. v .first-visit) e, ap (λ v. v .second-visit) e)
 
 mutual
-  tree-one : (t u : Tree) (x y : List Visits) → expression t ≡ expression u → visits t ++ x ≡ visits u ++ y → (t ≡ u) × (x ≡ y)
+  tree-one : (t u : Tree) (x y : List TextVisits) → expression t ≡ expression u → visits t ++ x ≡ visits u ++ y → (t ≡ u) × (x ≡ y)
   tree-one (node f g k) (node f′ g′ k′) x y e h =
       let v = same-visits f g f′ g′ (head-eq-of-cons-eq h) in
       let r = form-one k k′ x y e (tail-eq-of-cons-eq h) in
@@ -23,7 +23,7 @@ mutual
       let c : k ≡ k′ = r .0 in
       (cc, r .1)
 
-  form-one : (k m : Form) (x y : List Visits) → expressionOf k ≡ expressionOf m → visitsOf k ++ x ≡ visitsOf m ++ y → (k ≡ m) × (x ≡ y)
+  form-one : (k m : Form) (x y : List TextVisits) → expressionOf k ≡ expressionOf m → visitsOf k ++ x ≡ visitsOf m ++ y → (k ≡ m) × (x ≡ y)
   form-one (atom a) (atom b) x y e h = (let i : a ≡ b = cc in cc, h)
   form-one (cat l r) (cat l′ r′) x y e h =
       let i : expression l ≡ expression l′ = cc in
@@ -68,7 +68,7 @@ mutual
   form-one (alt l r) empty x y e h = absurd (let z : _≡_ {A = ℕ} 0 1 = cc in omega arith)
   form-one (star u) empty x y e h = absurd (let z : _≡_ {A = ℕ} 0 1 = cc in omega arith)
 
-content-one : (o u : Option Tree) → contentOf o ≡ contentOf u → visitsIn o ≡ visitsIn u → o ≡ u
+content-one : (o u : Option Tree) → contentInside o ≡ contentInside u → visitsInside o ≡ visitsInside u → o ≡ u
 content-one none none e h = refl
 content-one none (some t) e h = absurd (let z : _≡_ {A = ℕ} 0 1 = cc in omega arith)
 content-one (some t) none e h = absurd (let z : _≡_ {A = ℕ} 0 1 = cc in omega arith)
@@ -76,7 +76,7 @@ content-one (some t) (some u) e h =
     let i : expression t ≡ expression u = cc in
     ap some (tree-one t u [] [] i (append-nil (visits t) ∙ h ∙ sym (append-nil (visits u))) .0)
 
-rule-one : (a : Sheet) (r : SheetRule) (d e : Rule) → RuleByName a r d → RuleByName a r e → d ≡ e
+rule-one : (a : Sheet) (r : Rule) (d e : TextRule) → RuleByName a r d → RuleByName a r e → d ≡ e
 rule-one a r d e h k =
     let n : d .nonterminal ≡ e .nonterminal = h .nonterminal-is ∙ sym (k .nonterminal-is) in
     let t : d .tag ≡ e .tag = h .tag-is ∙ sym (k .tag-is) in
@@ -84,7 +84,7 @@ rule-one a r d e h k =
     let i : d .inside ≡ e .inside = content-one (d .inside) (e .inside) (h .nodes-are ∙ sym (k .nodes-are)) (h .of-nodes-are ∙ sym (k .of-nodes-are)) in
     λ x. record { nonterminal = n x; tag = t x; own = o x; inside = i x }
 
-each-one : (a : Sheet) (rs : List SheetRule) (ds es : List Rule) → EachByName a rs ds → EachByName a rs es → ds ≡ es
+each-one : (a : Sheet) (rs : List Rule) (ds es : List TextRule) → EachByName a rs ds → EachByName a rs es → ds ≡ es
 each-one a [] [] [] h k = refl
 each-one a [] [] (e ∷ es) h k = absurd k
 each-one a [] (d ∷ ds) es h k = absurd h

@@ -11,7 +11,7 @@ use Rattle.text.specs.Names.{All}
 use Rattle.expressions.specs.Expr.{Atom, Exp, nodes, depth, Content, nothing, tree, nodesOf}
 use Rattle.expressions.specs.Expr.{empty as emptyNode}
 use Rattle.expressions.specs.Grammar.{nonterminals, nodesIn}
-use Rattle.programs.specs.Program.{Program as SheetProgram, Statement as SheetStatement, programBytes}
+use Rattle.programs.specs.Program.{Program, Statement, programBytes}
 use Rattle.programs.specs.Limits.{StatementFits, StatementsFit, conditionAllowed, statementAllowed, allowed, Visit, first, second, IsProgram}
 use Rattle.programs.specs.Section.{backToBack, AllPrograms, FieldIs, no-program, names}
 use Rattle.layout.specs.Layout.{tagCount, productionCount, nodeCount, programsIn, programLength, programOffset, stringsIn}
@@ -20,18 +20,18 @@ use Rattle.trees.specs.Trees.{TreeAt, ContentAt}
 use Rattle.trees.proofs.Grammars.{nodes-of-grammar}
 use Rattle.sheet.specs.Tags.{TagAt}
 use Rattle.sheet.specs.Fields.{FieldsAre}
-use Rattle.sheet.specs.Fields.{Visits as SheetVisits}
-use Rattle.sheet.specs.Sheet.{Rule as SheetRule, Sheet, grammarOf, From, NodeIs, RuleAt}
+use Rattle.sheet.specs.Fields.{Visits}
+use Rattle.sheet.specs.Sheet.{Rule, Sheet, grammarOf, From, NodeIs, RuleAt}
 use Rattle.sheet.proofs.SheetLaws.{from-counted, grammar-from}
 use Rattle.runs.specs.Execute.{nameOf}
 use Rattle.runs.proofs.SheetFits.{one-of-all}
-use Rattle.notation.specs.Program.{Statement, Program, statementIn, programIn}
-use Rattle.notation.specs.Rules.{Visits, Tree, node, Form, atom, cat, alt, star, empty, expression, expressionOf, visits, visitsOf, contentOf, visitsIn, Rule, Rules}
+use Rattle.notation.specs.Program.{TextStatement, TextProgram, statementIn, programIn}
+use Rattle.notation.specs.Rules.{TextVisits, Tree, node, Form, atom, cat, alt, star, empty, expression, expressionOf, visits, visitsOf, contentInside, visitsInside, TextRule, Rules}
 use Rattle.notation.specs.Tokens.{TagName}
-use Rattle.notation.specs.Limits.{OptionWithin, VisitsWithin, AllWithin, depthOf, ContentWithin, RuleWithin, EachWithin, nodesInAll, Within}
-use Rattle.encoding.specs.Mentions.{Mention, a-tag, a-string, a-program, inStatement, inProgram, inBraces, inTree, inForm, inContent, inRule, inRules, tagsIn, programsIn as programsMentioned}
+use Rattle.notation.specs.Limits.{OptionWithin, VisitsWithin, AllWithin, contentDepth, ContentWithin, RuleWithin, EachWithin, nodesInAll, WithinLimits}
+use Rattle.encoding.specs.Mentions.{Mention, a-tag, a-string, a-program, inStatement, inProgram, inBraces, inTree, inForm, inContent, inRule, inRules, tagsMentioned, programsMentioned}
 use Rattle.encoding.specs.Distinct.{equal, has, run-together, placeOf, offsetOf}
-use Rattle.encoding.specs.Encoded.{tagsOf, stringsOf, programOf, bytesOfEach, Room}
+use Rattle.encoding.specs.Encoded.{tagsStored, stringsStored, programOf, bytesOfEach, Room}
 use Rattle.encoding.specs.Keeps.{AllNames}
 use Rattle.encoding.specs.Sound.{SoundStatement, Sound, SoundIf, SoundTree, SoundForm, SoundContent, SoundRule, AllSound, SoundRules}
 use Rattle.encoding.proofs.Stored.{and-parts, equal-same, or-left, or-right, AllHad}
@@ -53,19 +53,19 @@ name-had (n ∷ ns) zero l = or-left (equal n n) (has ns n) (equal-same n)
 name-had (n ∷ ns) (suc t) l = or-right (equal (nameOf ns t) n) (has ns (nameOf ns t)) (name-had ns t (omega arith))
 
 -- the programs of the section, as rules have them in a sheet
-abbrev images : Sheet → Rules → List SheetProgram → List (List ℕ)
+abbrev images : Sheet → Rules → List Program → List (List ℕ)
 images a r [] = []
 images a r (p ∷ ps) = programBytes (programOf r (programNamed a p)) ∷ images a r ps
 
-image-had : (a : Sheet) (r : Rules) (before : List SheetProgram) (p : SheetProgram) (after : List SheetProgram) → has (images a r (before ++ p ∷ after)) (programBytes (programOf r (programNamed a p))) ≡ true
+image-had : (a : Sheet) (r : Rules) (before : List Program) (p : Program) (after : List Program) → has (images a r (before ++ p ∷ after)) (programBytes (programOf r (programNamed a p))) ≡ true
 image-had a r [] p after = let x = programBytes (programOf r (programNamed a p)) in or-left (equal x x) (has (images a r after) x) (equal-same x)
 image-had a r (q ∷ before) p after = let x = programBytes (programOf r (programNamed a p)) in or-right (equal x (programBytes (programOf r (programNamed a q)))) (has (images a r (before ++ p ∷ after)) x) (image-had a r before p after)
 
-images-long : (a : Sheet) (r : Rules) (ps : List SheetProgram) → length (run-together (images a r ps)) ≡ length (backToBack ps)
+images-long : (a : Sheet) (r : Rules) (ps : List Program) → length (run-together (images a r ps)) ≡ length (backToBack ps)
 images-long a r [] = refl
-images-long a r (p ∷ ps) = simp length-append (omega (arith, program-size a (placeOf (tagsOf r)) (offsetOf (stringsOf r)) p, images-long a r ps))
+images-long a r (p ∷ ps) = simp length-append (omega (arith, program-size a (placeOf (tagsStored r)) (offsetOf (stringsStored r)) p, images-long a r ps))
 
-one-of-bytes : (before : List SheetProgram) (p : SheetProgram) (after : List SheetProgram) → All isByte (backToBack (before ++ p ∷ after)) → All isByte (programBytes p)
+one-of-bytes : (before : List Program) (p : Program) (after : List Program) → All isByte (backToBack (before ++ p ∷ after)) → All isByte (programBytes p)
 one-of-bytes [] p after h = all-front isByte (programBytes p) (backToBack after) h
 one-of-bytes (q ∷ before) p after h = one-of-bytes before p after (all-back isByte (programBytes q) (backToBack (before ++ p ∷ after)) h)
 
@@ -92,14 +92,14 @@ ContentNonterminals (tree e) = Nonterminals e
 
 pub record ContentGood (c : Content) : Type 0 where
   few : nodesOf c ≤ 32
-  shallow : depthOf c ≤ 12
+  shallow : contentDepth c ≤ 12
   numbered : ContentNonterminals c
 
 content-good : (s : List ℕ) (q : ℕ) (c : Content) → nodeCountOf s q ≤ 32 → ContentAt s q c → ContentGood c
 content-good s q nothing l h = record { few = omega arith; shallow = omega arith; numbered = tt }
 content-good s q (tree e) l h = record { few = omega (arith, h .1, l); shallow = h .2; numbered = tree-nonterminals s e (firstNodeOf s q) (h .0) }
 
-module _ (a : Sheet) (r : Rules) (ps : List SheetProgram) (all : AllPrograms (length (a .names)) (a .strings) ps) (bytes : All isByte (backToBack ps)) (named : AllNames (a .names)) where
+module _ (a : Sheet) (r : Rules) (ps : List Program) (all : AllPrograms (length (a .names)) (a .strings) ps) (bytes : All isByte (backToBack ps)) (named : AllNames (a .names)) where
   -- mentioned tags are the sheet's, mentioned programs those of the section
   abbrev Known : List Mention → Type 0
   Known [] = Unit {0}
@@ -113,47 +113,47 @@ module _ (a : Sheet) (r : Rules) (ps : List SheetProgram) (all : AllPrograms (le
   known-append (a-string s ∷ ms) ns h k = known-append ms ns h k
   known-append (a-program p ∷ ms) ns h k = (h .0, known-append ms ns (h .1) k)
 
-  record Statements (v : Visit) (p : Program) : Type 0 where
+  record Statements (v : Visit) (p : TextProgram) : Type 0 where
     sound : Sound v p
     known : Known (inProgram p)
 
-  record One (v : Visit) (t : Statement) : Type 0 where
+  record One (v : Visit) (t : TextStatement) : Type 0 where
     sound : SoundStatement v t
     known : Known (inStatement t)
 
   module _ (v : Visit) where
     mutual
-      statement-good : (t : SheetStatement) → StatementFits (length (a .names)) (a .strings) t → statementAllowed v t ≡ true → ShortStatement t → One v (statementNamed a t)
-      statement-good (SheetStatement.become x n) f e h = record { sound = (f .0, f .1); known = tt }
-      statement-good (SheetStatement.copy x y) f e h = record { sound = (f .0, f .1); known = tt }
-      statement-good (SheetStatement.recall x y) f e h = record { sound = ((f .0, f .1), e); known = tt }
-      statement-good SheetStatement.reject f e h = record { sound = tt; known = tt }
-      statement-good (SheetStatement.print-start t) f e h = record { sound = name-typed (a .names) named t f; known = (name-had (a .names) t f, tt) }
-      statement-good (SheetStatement.print-end t) f e h = record { sound = name-typed (a .names) named t f; known = (name-had (a .names) t f, tt) }
-      statement-good (SheetStatement.print-text o n) f e h = record { sound = (f .whole, omega (arith, h, length-take-le n (drop o (a .strings)) (omega (arith, length-drop o (a .strings), f .inside)))); known = tt }
-      statement-good (SheetStatement.echo on) f e h = record { sound = e; known = tt }
-      statement-good (SheetStatement.branch c l m) f e h =
+      statement-good : (t : Statement) → StatementFits (length (a .names)) (a .strings) t → statementAllowed v t ≡ true → ShortStatement t → One v (statementNamed a t)
+      statement-good (Statement.become x n) f e h = record { sound = (f .0, f .1); known = tt }
+      statement-good (Statement.copy x y) f e h = record { sound = (f .0, f .1); known = tt }
+      statement-good (Statement.recall x y) f e h = record { sound = ((f .0, f .1), e); known = tt }
+      statement-good Statement.reject f e h = record { sound = tt; known = tt }
+      statement-good (Statement.print-start t) f e h = record { sound = name-typed (a .names) named t f; known = (name-had (a .names) t f, tt) }
+      statement-good (Statement.print-end t) f e h = record { sound = name-typed (a .names) named t f; known = (name-had (a .names) t f, tt) }
+      statement-good (Statement.print-text o n) f e h = record { sound = (f .whole, omega (arith, h, length-take-le n (drop o (a .strings)) (omega (arith, length-drop o (a .strings), f .inside)))); known = tt }
+      statement-good (Statement.echo on) f e h = record { sound = e; known = tt }
+      statement-good (Statement.branch c l m) f e h =
           let x = and-parts (conditionAllowed v c) (allowed v l && allowed v m) e in
           let y = and-parts (allowed v l) (allowed v m) (x .1) in
           let i = program-good l (f .1) (y .0) (h .0) in
           let j = program-good m (f .2) (y .1) (h .1) in
           record { sound = ((f .0, x .0), (i .sound, j .sound)); known = known-append (inProgram (programNamed a l)) (inProgram (programNamed a m)) (i .known) (j .known) }
 
-      program-good : (p : SheetProgram) → StatementsFit (length (a .names)) (a .strings) p → allowed v p ≡ true → ShortPrints p → Statements v (programNamed a p)
-      program-good SheetProgram.done f e h = record { sound = tt; known = tt }
-      program-good (SheetProgram.step t p) f e h =
+      program-good : (p : Program) → StatementsFit (length (a .names)) (a .strings) p → allowed v p ≡ true → ShortPrints p → Statements v (programNamed a p)
+      program-good Program.done f e h = record { sound = tt; known = tt }
+      program-good (Program.step t p) f e h =
           let x = and-parts (statementAllowed v t) (allowed v p) e in
           let i = statement-good t (f .0) (x .0) (h .0) in
           let j = program-good p (f .1) (x .1) (h .1) in
           record { sound = (i .sound, j .sound); known = known-append (inStatement (statementNamed a t)) (inProgram (programNamed a p)) (i .known) (j .known) }
 
   -- what a field names
-  record Good (v : Visit) (o : Option Program) : Type 0 where
+  record Good (v : Visit) (o : Option TextProgram) : Type 0 where
     sound : SoundIf v o
     within : OptionWithin o
     known : Known (inBraces o)
 
-  field-good : (v : Visit) (field : ℕ) (m : Option SheetProgram) → FieldIs ps v field m → Good v (optionNamed a m)
+  field-good : (v : Visit) (field : ℕ) (m : Option Program) → FieldIs ps v field m → Good v (optionNamed a m)
   field-good v field none f = record { sound = tt; within = tt; known = tt }
   field-good v field (some p) (names n q S w) =
       let i = one-of-all (length (a .names)) (a .strings) (S .before) p (S .after) (subst (AllPrograms (length (a .names)) (a .strings)) (S .are) all) in
@@ -165,25 +165,25 @@ module _ (a : Sheet) (r : Rules) (ps : List SheetProgram) (all : AllPrograms (le
         known = known-append (inProgram (programNamed a p)) (a-program (programNamed a p) ∷ []) (g .known) (subst (λ l. has (images a r l) (programBytes (programOf r (programNamed a p))) ≡ true) (sym (S .are)) (image-had a r (S .before) p (S .after)), tt);
       }
 
-  abbrev BothGood : Visits → Type 0
+  abbrev BothGood : TextVisits → Type 0
   BothGood u = Good first (u .first-visit) × Good second (u .second-visit)
 
-  abbrev AllGood : List Visits → Type 0
+  abbrev AllGood : List TextVisits → Type 0
   AllGood [] = Unit {0}
   AllGood (u ∷ us) = BothGood u × AllGood us
 
-  fields-good : (one two : ℕ) (w : SheetVisits) → FieldsAre ps one two w → BothGood (visitsNamed a w)
+  fields-good : (one two : ℕ) (w : Visits) → FieldsAre ps one two w → BothGood (visitsNamed a w)
   fields-good one two w f = (field-good first one (w .first-visit) (f .first-is), field-good second two (w .second-visit) (f .second-is))
 
-  good-front : (us ws : List Visits) → AllGood (us ++ ws) → AllGood us
+  good-front : (us ws : List TextVisits) → AllGood (us ++ ws) → AllGood us
   good-front [] ws h = tt
   good-front (u ∷ us) ws h = (h .0, good-front us ws (h .1))
 
-  good-back : (us ws : List Visits) → AllGood (us ++ ws) → AllGood ws
+  good-back : (us ws : List TextVisits) → AllGood (us ++ ws) → AllGood ws
   good-back [] ws h = h
   good-back (u ∷ us) ws h = good-back us ws (h .1)
 
-  all-within : (us : List Visits) → AllGood us → AllWithin us
+  all-within : (us : List TextVisits) → AllGood us → AllWithin us
   all-within [] h = tt
   all-within (u ∷ us) h = ((h .0 .0 .within, h .0 .1 .within), all-within us (h .1))
 
@@ -219,21 +219,21 @@ module _ (a : Sheet) (r : Rules) (ps : List SheetProgram) (all : AllPrograms (le
     sound : SoundContent o
     known : Known (inContent o)
 
-  inside-good : (o : Option Tree) → AllGood (visitsIn o) → ContentNonterminals (contentOf o) → InsideGood o
+  inside-good : (o : Option Tree) → AllGood (visitsInside o) → ContentNonterminals (contentInside o) → InsideGood o
   inside-good none h n = record { sound = tt; known = tt }
   inside-good (some t) h n = let i = tree-good t h n in record { sound = i .sound; known = i .known }
 
-  pub record RuleGood (d : Rule) : Type 0 where
+  pub record RuleGood (d : TextRule) : Type 0 where
     sound : SoundRule d
     within : RuleWithin d
     known : Known (inRule d)
 
   module _ (s : List ℕ) where
-    nodes-good : (j k : ℕ) (vs : List SheetVisits) → From (NodeIs s ps) j k vs → AllGood (eachNamed a vs)
+    nodes-good : (j k : ℕ) (vs : List Visits) → From (NodeIs s ps) j k vs → AllGood (eachNamed a vs)
     nodes-good j k [] f = tt
     nodes-good j k (v ∷ vs) f = (fields-good _ _ v (f .0), nodes-good (suc j) k vs (f .1))
 
-    rule-good : (q : ℕ) (x : SheetRule) (d : Rule) → Rattle.sheet.specs.Productions.ProductionFits s q → tagCount s ≡ length (a .names) → RuleAt s ps q x → RuleByName a x d → RuleGood d
+    rule-good : (q : ℕ) (x : Rule) (d : TextRule) → Rattle.sheet.specs.Productions.ProductionFits s q → tagCount s ≡ length (a .names) → RuleAt s ps q x → RuleByName a x d → RuleGood d
     rule-good q x d f e h b =
         let c = subst ContentGood (sym (b .nodes-are)) (content-good s q (x .production .content) (f .few-nodes) (h .production-is .content-is)) in
         let o = subst BothGood (sym (b .own-are)) (fields-good _ _ (x .own) (h .own-are)) in
@@ -248,12 +248,12 @@ module _ (a : Sheet) (r : Rules) (ps : List SheetProgram) (all : AllPrograms (le
             after = o .1 .sound;
             content = i .sound;
           };
-          within = record { own = (o .0 .within, o .1 .within); inside = record { few-nodes = c .few; shallow = c .shallow; programs = all-within (visitsIn (d .inside)) n } };
+          within = record { own = (o .0 .within, o .1 .within); inside = record { few-nodes = c .few; shallow = c .shallow; programs = all-within (visitsInside (d .inside)) n } };
           known = known-append (inBraces (d .own .first-visit)) (a-tag (d .tag) ∷ (inContent (d .inside) ++ inBraces (d .own .second-visit))) (o .0 .known)
               (subst (λ z. has (a .names) z ≡ true) (sym (b .tag-is)) (name-had (a .names) (x .production .tagno) t), known-append (inContent (d .inside)) (inBraces (d .own .second-visit)) (i .known) (o .1 .known));
         }
 
-    rules-good : (i : ℕ) (xs : List SheetRule) (ds : List Rule) → ((q : ℕ) → q < productionCount s → Rattle.sheet.specs.Productions.ProductionFits s q) → tagCount s ≡ length (a .names)
+    rules-good : (i : ℕ) (xs : List Rule) (ds : List TextRule) → ((q : ℕ) → q < productionCount s → Rattle.sheet.specs.Productions.ProductionFits s q) → tagCount s ≡ length (a .names)
         → From (RuleAt s ps) i (productionCount s) xs → EachByName a xs ds → AllSound ds × EachWithin ds × Known (inRules ds)
     rules-good i [] [] f e h b = (tt, tt, tt)
     rules-good i [] (d ∷ ds) f e h b = absurd b
@@ -263,7 +263,7 @@ module _ (a : Sheet) (r : Rules) (ps : List SheetProgram) (all : AllPrograms (le
         let m = rules-good (suc i) xs ds f e (h .1) (b .1) in
         ((g .sound, m .0), (g .within, m .1), known-append (inRule d) (inRules ds) (g .known) (m .2))
 
-  tags-had : (ms : List Mention) → Known ms → AllHad (a .names) (tagsIn ms)
+  tags-had : (ms : List Mention) → Known ms → AllHad (a .names) (tagsMentioned ms)
   tags-had [] h = tt
   tags-had (a-tag n ∷ ms) h = (h .0, tags-had ms (h .1))
   tags-had (a-string s ∷ ms) h = tags-had ms h
@@ -275,13 +275,13 @@ module _ (a : Sheet) (r : Rules) (ps : List SheetProgram) (all : AllPrograms (le
   programs-had (a-string s ∷ ms) h = programs-had ms h
   programs-had (a-program p ∷ ms) h = (h .0, programs-had ms (h .1))
 
-pub same-length : (a : Sheet) (xs : List SheetRule) (ds : List Rule) → EachByName a xs ds → length ds ≡ length xs
+pub same-length : (a : Sheet) (xs : List Rule) (ds : List TextRule) → EachByName a xs ds → length ds ≡ length xs
 same-length a [] [] h = refl
 same-length a [] (d ∷ ds) h = absurd h
 same-length a (x ∷ xs) [] h = absurd h
 same-length a (x ∷ xs) (d ∷ ds) h = ap suc (same-length a xs ds (h .1))
 
-same-nodes : (a : Sheet) (xs : List SheetRule) (ds : List Rule) → EachByName a xs ds → nodesInAll ds ≡ nodesIn (grammarOf xs)
+same-nodes : (a : Sheet) (xs : List Rule) (ds : List TextRule) → EachByName a xs ds → nodesInAll ds ≡ nodesIn (grammarOf xs)
 same-nodes a [] [] h = refl
 same-nodes a [] (d ∷ ds) h = absurd h
 same-nodes a (x ∷ xs) [] h = absurd h
@@ -319,18 +319,18 @@ module _ (s : List ℕ) (a : Sheet) (r : Rules) (bytes : All isByte s) (p : Pack
   nodes-few =
       omega (arith, same-nodes a (a .rules) (r .productions) (b .rules-are), nodes-of-grammar s (grammarOf (a .rules)) (grammar-from s (p .programs .programs) 0 (a .rules) (p .rules-are)), p .productions .every-node, p .sections .few-nodes)
 
-  rules-typed : SoundRules r × Within r
+  rules-typed : SoundRules r × WithinLimits r
   rules-typed = (
     record { its-start = omega (arith, b .start-is, p .start-is, p .productions .start-fits); some-productions = omega (arith, as-many, p .sections .some-productions); each = good .0 },
     record { few-productions = omega (arith, as-many, p .sections .few-productions); few-nodes = nodes-few; each = good .1 },
   )
 
-  room : length (run-together (stringsOf r)) ≤ 8192 → Room r
+  room : length (run-together (stringsStored r)) ≤ 8192 → Room r
   room h =
       let ms = inRules (r .productions) in
       let qs = p .programs .programs in
       record {
-        few-tags = omega (arith, few-distinct (a .names) (tagsIn ms) (tags-had a r qs all-programs program-bytes all-named ms (good .2)), counted, p .sections .few-tags);
+        few-tags = omega (arith, few-distinct (a .names) (tagsMentioned ms) (tags-had a r qs all-programs program-bytes all-named ms (good .2)), counted, p .sections .few-tags);
         short-programs = omega (
           arith,
           short-distinct (images a r qs) (bytesOfEach r (programsMentioned ms)) (programs-had a r qs all-programs program-bytes all-named ms (good .2)),

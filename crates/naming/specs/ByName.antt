@@ -3,50 +3,50 @@ use mathlib.Core.Path.{_≡_}
 use mathlib.Core.List.{List, [], _∷_}
 use mathlib.Core.Option.{Option, none, some}
 use lib.ListN.{take, drop}
-use Rattle.programs.specs.Program.{Statement as SheetStatement, Program as SheetProgram}
-use Rattle.sheet.specs.Fields.{Visits as SheetVisits}
-use Rattle.sheet.specs.Sheet.{Rule as SheetRule, Sheet}
+use Rattle.programs.specs.Program.{Statement, Program}
+use Rattle.sheet.specs.Fields.{Visits}
+use Rattle.sheet.specs.Sheet.{Rule, Sheet}
 use Rattle.runs.specs.Execute.{nameOf}
-use Rattle.notation.specs.Program.{Statement, become, copy, recall, reject, print-start, print-end, print-text, echo, branch, Program, done, step}
-use Rattle.notation.specs.Rules.{Visits, contentOf, visitsIn, Rule, Rules}
+use Rattle.notation.specs.Program.{TextStatement, become, copy, recall, reject, print-start, print-end, print-text, echo, branch, TextProgram, done, step}
+use Rattle.notation.specs.Rules.{TextVisits, contentInside, visitsInside, TextRule, Rules}
 
 -- a sheet's statements, with the names of its tags and the bytes of its strings
 abbrev mutual
-  pub statementNamed : Sheet → SheetStatement → Statement
-  statementNamed a (SheetStatement.become x v) = become x v
-  statementNamed a (SheetStatement.copy x y) = copy x y
-  statementNamed a (SheetStatement.recall x y) = recall x y
-  statementNamed a SheetStatement.reject = reject
-  statementNamed a (SheetStatement.print-start t) = print-start (nameOf (a .names) t)
-  statementNamed a (SheetStatement.print-end t) = print-end (nameOf (a .names) t)
-  statementNamed a (SheetStatement.print-text o n) = print-text (take n (drop o (a .strings)))
-  statementNamed a (SheetStatement.echo on) = echo on
-  statementNamed a (SheetStatement.branch c l m) = branch c (programNamed a l) (programNamed a m)
+  pub statementNamed : Sheet → Statement → TextStatement
+  statementNamed a (Statement.become x v) = become x v
+  statementNamed a (Statement.copy x y) = copy x y
+  statementNamed a (Statement.recall x y) = recall x y
+  statementNamed a Statement.reject = reject
+  statementNamed a (Statement.print-start t) = print-start (nameOf (a .names) t)
+  statementNamed a (Statement.print-end t) = print-end (nameOf (a .names) t)
+  statementNamed a (Statement.print-text o n) = print-text (take n (drop o (a .strings)))
+  statementNamed a (Statement.echo on) = echo on
+  statementNamed a (Statement.branch c l m) = branch c (programNamed a l) (programNamed a m)
 
-  pub programNamed : Sheet → SheetProgram → Program
-  programNamed a SheetProgram.done = done
-  programNamed a (SheetProgram.step t p) = step (statementNamed a t) (programNamed a p)
+  pub programNamed : Sheet → Program → TextProgram
+  programNamed a Program.done = done
+  programNamed a (Program.step t p) = step (statementNamed a t) (programNamed a p)
 
-abbrev pub optionNamed : Sheet → Option SheetProgram → Option Program
+abbrev pub optionNamed : Sheet → Option Program → Option TextProgram
 optionNamed a none = none
 optionNamed a (some p) = some (programNamed a p)
 
-abbrev pub visitsNamed : Sheet → SheetVisits → Visits
+abbrev pub visitsNamed : Sheet → Visits → TextVisits
 visitsNamed a v = record { first-visit = optionNamed a (v .first-visit); second-visit = optionNamed a (v .second-visit) }
 
-abbrev pub eachNamed : Sheet → List SheetVisits → List Visits
+abbrev pub eachNamed : Sheet → List Visits → List TextVisits
 eachNamed a [] = []
 eachNamed a (v ∷ vs) = visitsNamed a v ∷ eachNamed a vs
 
 -- the production d of rules is the production r of the sheet: its nonterminal, its tag's name, its nodes, and all programs
-pub record RuleByName (a : Sheet) (r : SheetRule) (d : Rule) : Type 0 where
+pub record RuleByName (a : Sheet) (r : Rule) (d : TextRule) : Type 0 where
   pub nonterminal-is : d .nonterminal ≡ r .production .nonterm
   pub tag-is : d .tag ≡ nameOf (a .names) (r .production .tagno)
-  pub nodes-are : contentOf (d .inside) ≡ r .production .content
+  pub nodes-are : contentInside (d .inside) ≡ r .production .content
   pub own-are : d .own ≡ visitsNamed a (r .own)
-  pub of-nodes-are : visitsIn (d .inside) ≡ eachNamed a (r .of-nodes)
+  pub of-nodes-are : visitsInside (d .inside) ≡ eachNamed a (r .of-nodes)
 
-abbrev pub EachByName : Sheet → List SheetRule → List Rule → Type 0
+abbrev pub EachByName : Sheet → List Rule → List TextRule → Type 0
 EachByName a [] [] = Unit {0}
 EachByName a [] (d ∷ ds) = ⊥
 EachByName a (r ∷ rs) [] = ⊥

@@ -9,9 +9,9 @@ use Rattle.limits.specs.Limits.{mostStringBytes}
 use Rattle.text.specs.Names.{All}
 use Rattle.sheet.specs.Sheet.{Sheet}
 use Rattle.notation.specs.Rules.{Rules}
-use Rattle.notation.specs.Limits.{Within}
+use Rattle.notation.specs.Limits.{WithinLimits}
 use Rattle.encoding.specs.Distinct.{run-together}
-use Rattle.encoding.specs.Encoded.{stringsOf, Room, sheetOf}
+use Rattle.encoding.specs.Encoded.{stringsStored, Room, sheetOf}
 use Rattle.encoding.specs.Sound.{SoundRules}
 use Rattle.packing.specs.Packs.{Packs}
 use Rattle.naming.specs.ByName.{ByName}
@@ -33,8 +33,8 @@ isByte b = leb b 255
 
 -- the rules of a sheet that keeps numbers 1 to 6 can be typed, and keep the limits that are part of the text
 abbrev pub SheetsAreTyped : Type 0
-SheetsAreTyped = (s : List ℕ) (a : Sheet) (r : Rules) → All isByte s → Packs s a → ByName a r → SoundRules r × Within r
+SheetsAreTyped = (s : List ℕ) (a : Sheet) (r : Rules) → All isByte s → Packs s a → ByName a r → SoundRules r × WithinLimits r
 
 -- only their strings can have no room in a sheet: prints may overlap, and each different print is then stored by itself
 abbrev pub OnlyStringsGrow : Type 0
-OnlyStringsGrow = (s : List ℕ) (a : Sheet) (r : Rules) → All isByte s → Packs s a → ByName a r → length (run-together (stringsOf r)) ≤ mostStringBytes → Room r
+OnlyStringsGrow = (s : List ℕ) (a : Sheet) (r : Rules) → All isByte s → Packs s a → ByName a r → length (run-together (stringsStored r)) ≤ mostStringBytes → Room r

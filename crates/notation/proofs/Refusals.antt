@@ -8,18 +8,18 @@ use native.Mathlib.Omega.{arith}
 use native.Mathlib.Decide.{decLt}
 use lib.ListN.{length, take, drop, take-append-drop}
 use lib.Seq.{take-take}
-use Rattle.notation.specs.Refusal.{GoesOn, RefusedAt}
+use Rattle.notation.specs.Refusal.{Continues, RefusedAt}
 use Rattle.notation.specs.Promises.{OnePlace, NoneWhereWritten}
 
 module _ {A R : Type 0} (Writes : List A → R → Type 0) where
   -- what begins less of a row goes on where what begins more of it does
-  pub goes-on-less : (u v : List A) → GoesOn Writes (u ++ v) → GoesOn Writes u
+  pub goes-on-less : (u v : List A) → Continues Writes (u ++ v) → Continues Writes u
   goes-on-less u v g = record { rest = v ++ g .rest; value = g .value; writes = rw append-assoc at (g .writes) }
 
-  pub goes-on-taken : (j k : ℕ) (row : List A) → j ≤ k → GoesOn Writes (take k row) → GoesOn Writes (take j row)
+  pub goes-on-taken : (j k : ℕ) (row : List A) → j ≤ k → Continues Writes (take k row) → Continues Writes (take j row)
   goes-on-taken j k row h g =
       let e : take k row ≡ take j row ++ drop j (take k row) = sym (ap (λ l. l ++ drop j (take k row)) (sym (take-take j k row h)) ∙ take-append-drop j (take k row)) in
-      goes-on-less (take j row) (drop j (take k row)) (subst (GoesOn Writes) e g)
+      goes-on-less (take j row) (drop j (take k row)) (subst (Continues Writes) e g)
 
   less : (row : List A) (j k : ℕ) → RefusedAt Writes row j → RefusedAt Writes row k → j < k → ⊥
   less row j k r s h = r .no-further (omega (arith, s .reached)) (goes-on-taken (suc j) k row h (s .before))

@@ -5,7 +5,7 @@ use Prim.Native.Nat.{ℕ}
 use lib.ListN.{length}
 use Rattle.programs.specs.Program.{programBytes}
 use Rattle.programs.specs.Limits.{nesting}
-use Rattle.notation.specs.Program.{Program, programIn}
+use Rattle.notation.specs.Program.{TextProgram, programIn}
 use Rattle.notation.specs.Rules.{Rules}
 use Rattle.notation.specs.Limits.{sizeOf, nestingOf}
 use Rattle.notation.specs.RuleText.{RuleText}
@@ -21,7 +21,7 @@ NoneWhereWritten = (A R : Type 0) (Writes : List A → R → Type 0) (row : List
 
 -- a program's size and nesting are those that it has in every sheet
 abbrev pub SizeInEverySheet : Type 0
-SizeInEverySheet = (tag offset : List ℕ → ℕ) (p : Program) → length (programBytes (programIn tag offset p)) ≡ sizeOf p
+SizeInEverySheet = (tag offset : List ℕ → ℕ) (p : TextProgram) → length (programBytes (programIn tag offset p)) ≡ sizeOf p
 
 abbrev pub NestingInEverySheet : Type 0
-NestingInEverySheet = (tag offset : List ℕ → ℕ) (p : Program) → nesting (programIn tag offset p) ≡ nestingOf p
+NestingInEverySheet = (tag offset : List ℕ → ℕ) (p : TextProgram) → nesting (programIn tag offset p) ≡ nestingOf p

@@ -8,7 +8,7 @@ use Rattle.notation.specs.Rules.{Rules}
 use Rattle.notation.specs.RuleText.{RuleText}
 
 -- some row that writes something begins so
-pub record GoesOn {A R : Type 0} (Writes : List A → R → Type 0) (begin : List A) : Type 0 where
+pub record Continues {A R : Type 0} (Writes : List A → R → Type 0) (begin : List A) : Type 0 where
   pub rest : List A
   pub value : R
   pub writes : Writes (begin ++ rest) value
@@ -16,8 +16,8 @@ pub record GoesOn {A R : Type 0} (Writes : List A → R → Type 0) (begin : Lis
 -- the first k of the row go on, and no more of them; where that is all of the row, it writes nothing itself
 pub record RefusedAt {A R : Type 0} (Writes : List A → R → Type 0) (row : List A) (k : ℕ) : Type 0 where
   pub reached : k ≤ length row
-  pub before : GoesOn Writes (take k row)
-  pub no-further : k < length row → GoesOn Writes (take (suc k) row) → ⊥
+  pub before : Continues Writes (take k row)
+  pub no-further : k < length row → Continues Writes (take (suc k) row) → ⊥
   pub unfinished : k ≡ length row → (v : R) → Writes row v → ⊥
 
 -- what is told of a row: what it writes, or where it is refused

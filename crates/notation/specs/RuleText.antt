@@ -2,14 +2,14 @@
 use mathlib.Core.List.{List}
 use Prim.Native.Nat.{ℕ}
 use Rattle.notation.specs.Rules.{Rules}
-use Rattle.notation.specs.Tokens.{Token}
-use Rattle.notation.specs.Spelled.{Spelled}
+use Rattle.notation.specs.Tokens.{TextToken}
+use Rattle.notation.specs.Spelled.{TypedAs}
 use Rattle.notation.specs.Productions.{RulesAre}
-use Rattle.notation.specs.Limits.{Within}
+use Rattle.notation.specs.Limits.{WithinLimits}
 
 -- the bytes spell tokens, the tokens are those of rules, and the rules keep the limits
 pub record RuleText (text : List ℕ) (rules : Rules) : Type 0 where
-  pub tokens : List Token
-  pub spelled : Spelled tokens text
+  pub tokens : List TextToken
+  pub spelled : TypedAs tokens text
   pub grammatical : RulesAre tokens rules
-  pub within : Within rules
+  pub within : WithinLimits rules

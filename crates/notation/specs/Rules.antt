@@ -4,17 +4,17 @@ use mathlib.Core.List.{List, [], _∷_, _++_}
 use mathlib.Core.Option.{Option, none, some}
 use Prim.Native.Nat.{ℕ}
 use Rattle.expressions.specs.Expr.{Atom, Exp, Content, nothing, tree}
-use Rattle.notation.specs.Program.{Program}
+use Rattle.notation.specs.Program.{TextProgram}
 
 -- the programs of a production or a node, for its two visits
-pub record Visits : Type 0 where
-  pub first-visit : Option Program
-  pub second-visit : Option Program
+pub record TextVisits : Type 0 where
+  pub first-visit : Option TextProgram
+  pub second-visit : Option TextProgram
 
 -- an expression whose nodes have programs: a node is the programs of its two visits, and what it joins
 mutual
   pub data Tree : Type 0 where
-    node : Option Program → Option Program → Form → Tree
+    node : Option TextProgram → Option TextProgram → Form → Tree
 
   pub data Form : Type 0 where
     atom : Atom → Form
@@ -36,10 +36,10 @@ abbrev mutual
 
 -- its nodes' programs, in preorder
 abbrev mutual
-  pub visits : Tree → List Visits
+  pub visits : Tree → List TextVisits
   visits (node f g k) = record { first-visit = f; second-visit = g } ∷ visitsOf k
 
-  pub visitsOf : Form → List Visits
+  pub visitsOf : Form → List TextVisits
   visitsOf (atom k) = []
   visitsOf (cat l r) = visits l ++ visits r
   visitsOf (alt l r) = visits l ++ visits r
@@ -47,20 +47,20 @@ abbrev mutual
   visitsOf empty = []
 
 -- what stands between a tag's parentheses
-abbrev pub contentOf : Option Tree → Content
-contentOf none = nothing
-contentOf (some t) = tree (expression t)
+abbrev pub contentInside : Option Tree → Content
+contentInside none = nothing
+contentInside (some t) = tree (expression t)
 
-abbrev pub visitsIn : Option Tree → List Visits
-visitsIn none = []
-visitsIn (some t) = visits t
+abbrev pub visitsInside : Option Tree → List TextVisits
+visitsInside none = []
+visitsInside (some t) = visits t
 
-pub record Rule : Type 0 where
+pub record TextRule : Type 0 where
   pub nonterminal : ℕ
   pub tag : List ℕ
-  pub own : Visits
+  pub own : TextVisits
   pub inside : Option Tree
 
 pub record Rules : Type 0 where
   pub start : ℕ
-  pub productions : List Rule
+  pub productions : List TextRule

@@ -5,7 +5,7 @@ use mathlib.Core.List.{List, [], _∷_, _++_}
 use Prim.Native.Nat.{ℕ}
 use lib.Dec.{leb}
 use Rattle.text.specs.Names.{nameFirst, nameByte}
-use Rattle.notation.specs.Tokens.{Token, nonterminal, value, attribute, name, start-tag, end-tag, empty-tag, string, word, sign, bytesOf}
+use Rattle.notation.specs.Tokens.{TextToken, nonterminal, value, attribute, name, start-tag, end-tag, empty-tag, string, word, sign, tokenBytes}
 use Rattle.notation.specs.Gaps.{Gap, Ending}
 
 -- [A-Za-z0-9_]
@@ -14,7 +14,7 @@ wordByte b = nameFirst b || (leb 48 b && leb b 57)
 
 -- whether a byte behind a token would belong to it: a nonterminal, value, attribute or word is not followed by a letter, a digit or _, and a name is as
 -- long as its bytes go
-abbrev pub joins : Token → ℕ → Bool
+abbrev pub joins : TextToken → ℕ → Bool
 joins (nonterminal n) b = wordByte b
 joins (value v) b = wordByte b
 joins (attribute m a) b = wordByte b
@@ -27,11 +27,11 @@ joins (word w) b = wordByte b
 joins (sign s) b = false
 
 -- these bytes may follow the token at once
-abbrev pub MayFollow : Token → List ℕ → Type 0
+abbrev pub MayFollow : TextToken → List ℕ → Type 0
 MayFollow t [] = Unit {0}
 MayFollow t (b ∷ bs) = joins t b ≡ false
 
 -- each token is its bytes, with a gap in front of it, and what follows it may do so
-pub data Spelled : List Token → List ℕ → Type 0 where
-  end : {e : List ℕ} → Ending e → Spelled [] e
-  token : {g rest : List ℕ} {ts : List Token} (t : Token) → Gap g → MayFollow t rest → Spelled ts rest → Spelled (t ∷ ts) (g ++ (bytesOf t ++ rest))
+pub data TypedAs : List TextToken → List ℕ → Type 0 where
+  end : {e : List ℕ} → Ending e → TypedAs [] e
+  token : {g rest : List ℕ} {ts : List TextToken} (t : TextToken) → Gap g → MayFollow t rest → TypedAs ts rest → TypedAs (t ∷ ts) (g ++ (tokenBytes t ++ rest))

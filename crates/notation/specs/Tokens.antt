@@ -9,30 +9,30 @@ use Rattle.text.specs.Characters.{AllChar, utf8s}
 use Rattle.text.specs.Names.{Name}
 
 -- the words of the grammar
-pub data Word : Type 0 where
-  CHAR ECHO ECHO-OFF REJECT PRINT IF THEN ELSE BEGIN END AND OR NOT EMPTY : Word
+pub data Keyword : Type 0 where
+  CHAR ECHO ECHO-OFF REJECT PRINT IF THEN ELSE BEGIN END AND OR NOT EMPTY : Keyword
 
 -- ::=  :=  (  )  {  }  .  |  *  ;  =
 pub data Sign : Type 0 where
   DEFINED ASSIGNED OPEN CLOSE BRACE UNBRACE DOT BAR STAR SEMICOLON EQUALS : Sign
 
 -- how an attribute is named: $.a  $[.a  $].a
-pub data Mark : Type 0 where
-  plain left right : Mark
+pub data Dollar : Type 0 where
+  plain left right : Dollar
 
-pub data Token : Type 0 where
-  nonterminal : ℕ → Token  -- n0
-  value : ℕ → Token
-  attribute : Mark → ℕ → Token  -- $.a0
-  name : List ℕ → Token
-  start-tag : List ℕ → Token  -- <name>
-  end-tag : List ℕ → Token  -- </name>
-  empty-tag : List ℕ → Token  -- <name/>
-  string : List ℕ → Token  -- by its characters
-  word : Word → Token
-  sign : Sign → Token
+pub data TextToken : Type 0 where
+  nonterminal : ℕ → TextToken  -- n0
+  value : ℕ → TextToken
+  attribute : Dollar → ℕ → TextToken  -- $.a0
+  name : List ℕ → TextToken
+  start-tag : List ℕ → TextToken  -- <name>
+  end-tag : List ℕ → TextToken  -- </name>
+  empty-tag : List ℕ → TextToken  -- <name/>
+  string : List ℕ → TextToken  -- by its characters
+  word : Keyword → TextToken
+  sign : Sign → TextToken
 
-abbrev pub wordBytes : Word → List ℕ
+abbrev pub wordBytes : Keyword → List ℕ
 wordBytes CHAR = 67 ∷ 72 ∷ 65 ∷ 82 ∷ []
 wordBytes ECHO = 69 ∷ 67 ∷ 72 ∷ 79 ∷ []
 wordBytes ECHO-OFF = 69 ∷ 67 ∷ 72 ∷ 79 ∷ 95 ∷ 79 ∷ 70 ∷ 70 ∷ []
@@ -61,7 +61,7 @@ signBytes STAR = 42 ∷ []
 signBytes SEMICOLON = 59 ∷ []
 signBytes EQUALS = 61 ∷ []
 
-abbrev pub markBytes : Mark → List ℕ
+abbrev pub markBytes : Dollar → List ℕ
 markBytes plain = 36 ∷ 46 ∷ []
 markBytes left = 36 ∷ 91 ∷ 46 ∷ []
 markBytes right = 36 ∷ 93 ∷ 46 ∷ []
@@ -83,17 +83,17 @@ abbrev pub all-in-quotes : List ℕ → List ℕ
 all-in-quotes [] = []
 all-in-quotes (c ∷ cs) = in-quotes c ++ all-in-quotes cs
 
-abbrev pub bytesOf : Token → List ℕ
-bytesOf (nonterminal n) = 110 ∷ decimal n
-bytesOf (value v) = decimal v
-bytesOf (attribute m a) = markBytes m ++ 97 ∷ decimal a
-bytesOf (name n) = n
-bytesOf (start-tag n) = 60 ∷ (n ++ 62 ∷ [])
-bytesOf (end-tag n) = 60 ∷ 47 ∷ (n ++ 62 ∷ [])
-bytesOf (empty-tag n) = 60 ∷ (n ++ 47 ∷ 62 ∷ [])
-bytesOf (string cs) = 34 ∷ (all-in-quotes cs ++ 34 ∷ [])
-bytesOf (word w) = wordBytes w
-bytesOf (sign s) = signBytes s
+abbrev pub tokenBytes : TextToken → List ℕ
+tokenBytes (nonterminal n) = 110 ∷ decimal n
+tokenBytes (value v) = decimal v
+tokenBytes (attribute m a) = markBytes m ++ 97 ∷ decimal a
+tokenBytes (name n) = n
+tokenBytes (start-tag n) = 60 ∷ (n ++ 62 ∷ [])
+tokenBytes (end-tag n) = 60 ∷ 47 ∷ (n ++ 62 ∷ [])
+tokenBytes (empty-tag n) = 60 ∷ (n ++ 47 ∷ 62 ∷ [])
+tokenBytes (string cs) = 34 ∷ (all-in-quotes cs ++ 34 ∷ [])
+tokenBytes (word w) = wordBytes w
+tokenBytes (sign s) = signBytes s
 
 -- a tag's name: at most 15 bytes
 pub record TagName (n : List ℕ) : Type 0 where

@@ -10,10 +10,10 @@ use lib.ListN.{length}
 use Rattle.programs.specs.Program.{Operand, constant, current, recalled, Condition, equal}
 use Rattle.programs.specs.Limits.{Attribute, Value, Visit, first, second}
 use Rattle.notation.specs.Statements.{parentheses}
-use Rattle.notation.specs.Tokens.{Mark, plain, left, right, Token, nonterminal, value, attribute, name, start-tag, end-tag, empty-tag, string, word, Word, CHAR, ECHO, ECHO-OFF, REJECT, PRINT, IF, THEN, ELSE, BEGIN, END, AND, OR, NOT, EMPTY, sign, Sign, DEFINED, ASSIGNED, OPEN, CLOSE, BRACE, UNBRACE, DOT, BAR, STAR, SEMICOLON, EQUALS}
+use Rattle.notation.specs.Tokens.{Dollar, plain, left, right, TextToken, nonterminal, value, attribute, name, start-tag, end-tag, empty-tag, string, word, Keyword, CHAR, ECHO, ECHO-OFF, REJECT, PRINT, IF, THEN, ELSE, BEGIN, END, AND, OR, NOT, EMPTY, sign, Sign, DEFINED, ASSIGNED, OPEN, CLOSE, BRACE, UNBRACE, DOT, BAR, STAR, SEMICOLON, EQUALS}
 use Rattle.reading.specs.Conditions as reading
-use Rattle.reading.specs.Conditions.{Part, operand, a-not, an-and, an-or, an-open, a-close, an-equals, other, partIf, value?, attribute?, attributeOf, attributePart, wordPart, signPart, partOf, Level, Reading, wants, compares, wants-other, after, around, disjoined, negatedBy, stepPart, stepCondition, valueOf, finishedOf}
-use Rattle.lexemes.specs.Kinds.{kindOf, wordNumber, signNumber, markNumber, TokenFits}
+use Rattle.reading.specs.Conditions.{ConditionPart, operand, a-not, an-and, an-or, an-open, a-close, an-equals, other, partIf, value?, attribute?, attributeOf, attributePart, wordPart, signPart, partOf, ConditionLevel, Reading, wants, compares, wants-other, after, aroundCondition, disjoined, negatedBy, stepPart, stepCondition, valueOfCondition, finishedOf}
+use Rattle.lexemes.specs.Kinds.{tokenKind, wordNumber, signNumber, markNumber, TokenFits}
 use Rattle.outlines.specs.Extents.{Extent, conditionExtent, comparison}
 use Rattle.outlines.specs.Kinds.{isWord, isSign, isOperand}
 use Rattle.outlines.specs.Conditions.{Margin, margin, blankMargin, pairedWith, upToAnd, wholeOf, withMargins, Wanted, a-single, an-operand, ConditionOutline, wanting, behind, extentIf, marginOf, marginsOf, conditionOutline, gotAt, notAt, openAt, stepWanting, stepBehind, stepConditionOutline, readCondition, finishedCondition}
@@ -35,7 +35,7 @@ asked a b c d e f g = record { an-operand? = a; not? = b; and? = c; or? = d; ope
 abbrev ofKind : Visit → ℕ → Asked
 ofKind v k = asked (isOperand v k) (isWord NOT k) (isWord AND k) (isWord OR k) (isSign OPEN k) (isSign CLOSE k) (isSign EQUALS k)
 
-abbrev pub ofPart : Part → Asked
+abbrev pub ofPart : ConditionPart → Asked
 ofPart (operand x) = asked true false false false false false false
 ofPart a-not = asked false true false false false false false
 ofPart an-and = asked false false true false false false false
@@ -45,7 +45,7 @@ ofPart a-close = asked false false false false false true false
 ofPart an-equals = asked false false false false false false true
 ofPart other = asked false false false false false false false
 
-word-asked : (v : Visit) (w : Word) → ofKind v (wordNumber w) ≡ ofPart (wordPart w)
+word-asked : (v : Visit) (w : Keyword) → ofKind v (wordNumber w) ≡ ofPart (wordPart w)
 word-asked v CHAR = refl
 word-asked v ECHO = refl
 word-asked v ECHO-OFF = refl
@@ -78,7 +78,7 @@ value-asked : (v : Visit) (n : ℕ) (d : Dec (Value n)) → Value n → ofKind v
 value-asked v n (yes h) g = refl
 value-asked v n (no h) g = absurd (h g)
 
-attribute-asked : (v : Visit) (m : Mark) (a : ℕ) (d : Dec (Attribute a)) → Attribute a → ofKind v (markNumber m) ≡ ofPart (attributePart d (attributeOf v m a))
+attribute-asked : (v : Visit) (m : Dollar) (a : ℕ) (d : Dec (Attribute a)) → Attribute a → ofKind v (markNumber m) ≡ ofPart (attributePart d (attributeOf v m a))
 attribute-asked v m a (no h) g = absurd (h g)
 attribute-asked v plain a (yes h) g = refl
 attribute-asked first left a (yes h) g = refl
@@ -86,7 +86,7 @@ attribute-asked first right a (yes h) g = refl
 attribute-asked second left a (yes h) g = refl
 attribute-asked second right a (yes h) g = refl
 
-token-asked : (v : Visit) (t : Token) → TokenFits t → ofKind v (kindOf t) ≡ ofPart (partOf v t)
+token-asked : (v : Visit) (t : TextToken) → TokenFits t → ofKind v (tokenKind t) ≡ ofPart (partOf v t)
 token-asked v (nonterminal n) h = refl
 token-asked v (value n) h = value-asked v n (value? n) (omega arith)
 token-asked v (attribute m a) h = attribute-asked v m a (attribute? a) (omega arith)
@@ -118,39 +118,39 @@ abbrev pub conditionIf : Option Reading → Option ConditionOutline
 conditionIf none = none
 conditionIf (some r) = some (conditionOutline r)
 
-margins-long : (ls : List Level) → length (marginsOf ls) ≡ length ls
+margins-long : (ls : List ConditionLevel) → length (marginsOf ls) ≡ length ls
 margins-long [] = refl
 margins-long (l ∷ ls) = ap suc (margins-long ls)
 
-up-extent : (l : Level) (c : Condition) → conditionExtent (reading.upToAnd l c) ≡ upToAnd (marginOf l) (conditionExtent c)
+up-extent : (l : ConditionLevel) (c : Condition) → conditionExtent (reading.upToAnd l c) ≡ upToAnd (marginOf l) (conditionExtent c)
 up-extent l c = and-extent (l .and-left) (negatedBy (l .nots) c) ∙ ap (pairedWith (extentIf (l .and-left))) (nots-extent (l .nots) c)
 
-whole-extent : (l : Level) (c : Condition) → conditionExtent (reading.whole l c) ≡ wholeOf (marginOf l) (conditionExtent c)
+whole-extent : (l : ConditionLevel) (c : Condition) → conditionExtent (reading.wholeCondition l c) ≡ wholeOf (marginOf l) (conditionExtent c)
 whole-extent l c = or-extent (l .or-left) (reading.upToAnd l c) ∙ ap (pairedWith (extentIf (l .or-left))) (up-extent l c)
 
-around-extent : (ls : List Level) (c : Condition) → conditionExtent (around ls c) ≡ withMargins (marginsOf ls) (conditionExtent c)
+around-extent : (ls : List ConditionLevel) (c : Condition) → conditionExtent (aroundCondition ls c) ≡ withMargins (marginsOf ls) (conditionExtent c)
 around-extent [] c = refl
-around-extent (l ∷ ls) c = around-extent ls (reading.whole l c) ∙ ap (withMargins (marginsOf ls)) (whole-extent l c)
+around-extent (l ∷ ls) c = around-extent ls (reading.wholeCondition l c) ∙ ap (withMargins (marginsOf ls)) (whole-extent l c)
 
-open-alike : (b : Bool) (l : Level) (ls : List Level) → cond b (some (wanting a-single (blankMargin ∷ marginOf l ∷ marginsOf ls))) none ≡ conditionIf (reading.opened b l ls)
+open-alike : (b : Bool) (l : ConditionLevel) (ls : List ConditionLevel) → cond b (some (wanting a-single (blankMargin ∷ marginOf l ∷ marginsOf ls))) none ≡ conditionIf (reading.conditionOpened b l ls)
 open-alike true l ls = refl
 open-alike false l ls = refl
 
-got-alike : (l : Level) (ls : List Level) (c : Condition) (e : Extent) → e ≡ conditionExtent c → gotAt (marginsOf (l ∷ ls)) e ≡ conditionIf (some (reading.got l ls c))
+got-alike : (l : ConditionLevel) (ls : List ConditionLevel) (c : Condition) (e : Extent) → e ≡ conditionExtent c → gotAt (marginsOf (l ∷ ls)) e ≡ conditionIf (some (reading.got l ls c))
 got-alike l ls c e h = ap (λ x. some (behind x (extentIf (l .or-left)) (marginsOf ls))) (ap (upToAnd (marginOf l)) h ∙ sym (up-extent l c))
 
-close-alike : (ls : List Level) (c : Condition) (e : Extent) → e ≡ conditionExtent c → gotAt (marginsOf ls) e ≡ conditionIf (reading.closed ls c)
+close-alike : (ls : List ConditionLevel) (c : Condition) (e : Extent) → e ≡ conditionExtent c → gotAt (marginsOf ls) e ≡ conditionIf (reading.conditionClosed ls c)
 close-alike [] c e h = refl
 close-alike (l ∷ ls) c e h = got-alike l ls c e h
 
-part-alike : (r : Reading) (p : Part) → stepAsked (ofPart p) (conditionOutline r) ≡ conditionIf (stepPart parentheses r p)
+part-alike : (r : Reading) (p : ConditionPart) → stepAsked (ofPart p) (conditionOutline r) ≡ conditionIf (stepPart parentheses r p)
 part-alike (wants l ls) (operand x) = refl
 part-alike (wants l ls) a-not = refl
 part-alike (wants l ls) an-and = refl
 part-alike (wants l ls) an-or = refl
 part-alike (wants l ls) an-open = rw (margins-long ls) (open-alike (ltb (length ls) parentheses) l ls)
 part-alike (wants l ls) a-close = refl
-part-alike (wants l ls) Part.an-equals = refl
+part-alike (wants l ls) ConditionPart.an-equals = refl
 part-alike (wants l ls) other = refl
 part-alike (compares x l ls) (operand y) = refl
 part-alike (compares x l ls) a-not = refl
@@ -158,7 +158,7 @@ part-alike (compares x l ls) an-and = refl
 part-alike (compares x l ls) an-or = refl
 part-alike (compares x l ls) an-open = refl
 part-alike (compares x l ls) a-close = refl
-part-alike (compares x l ls) Part.an-equals = refl
+part-alike (compares x l ls) ConditionPart.an-equals = refl
 part-alike (compares x l ls) other = refl
 part-alike (wants-other x l ls) (operand y) = got-alike l ls (equal x y) comparison (sym (equal-extent x y))
 part-alike (wants-other x l ls) a-not = refl
@@ -166,7 +166,7 @@ part-alike (wants-other x l ls) an-and = refl
 part-alike (wants-other x l ls) an-or = refl
 part-alike (wants-other x l ls) an-open = refl
 part-alike (wants-other x l ls) a-close = refl
-part-alike (wants-other x l ls) Part.an-equals = refl
+part-alike (wants-other x l ls) ConditionPart.an-equals = refl
 part-alike (wants-other x l ls) other = refl
 part-alike (after d o ls) (operand y) = refl
 part-alike (after d o ls) a-not = refl
@@ -174,19 +174,19 @@ part-alike (after d o ls) an-and = refl
 part-alike (after d o ls) an-or = ap (λ x. some (wanting a-single (margin (some x) none 0 ∷ marginsOf ls))) (sym (or-extent o d))
 part-alike (after d o ls) an-open = refl
 part-alike (after d o ls) a-close = close-alike ls (disjoined o d) (pairedWith (extentIf o) (conditionExtent d)) (sym (or-extent o d))
-part-alike (after d o ls) Part.an-equals = refl
+part-alike (after d o ls) ConditionPart.an-equals = refl
 part-alike (after d o ls) other = refl
 
-pub condition-alike : (v : Visit) (r : Reading) (t : Token) → TokenFits t → stepConditionOutline v (conditionOutline r) (kindOf t) ≡ conditionIf (stepCondition v parentheses r t)
+pub condition-alike : (v : Visit) (r : Reading) (t : TextToken) → TokenFits t → stepConditionOutline v (conditionOutline r) (tokenKind t) ≡ conditionIf (stepCondition v parentheses r t)
 condition-alike v r t h =
-    by-asking v (conditionOutline r) (kindOf t)
+    by-asking v (conditionOutline r) (tokenKind t)
     ∙ (ap (λ q. stepAsked q (conditionOutline r)) (token-asked v t h)
     ∙ part-alike r (partOf v t))
 
-pub operand-asked : (v : Visit) (t : Token) → TokenFits t → isOperand v (kindOf t) ≡ ofPart (partOf v t) .an-operand?
+pub operand-asked : (v : Visit) (t : TextToken) → TokenFits t → isOperand v (tokenKind t) ≡ ofPart (partOf v t) .an-operand?
 operand-asked v t h = ap (λ q. q .an-operand?) (token-asked v t h)
 
-pub read-alike : (r : Reading) → readCondition (conditionOutline r) ≡ extentIf (valueOf r)
+pub read-alike : (r : Reading) → readCondition (conditionOutline r) ≡ extentIf (valueOfCondition r)
 read-alike (wants l ls) = refl
 read-alike (compares x l ls) = refl
 read-alike (wants-other x l ls) = refl

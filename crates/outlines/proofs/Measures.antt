@@ -7,7 +7,7 @@ use native.Mathlib.Omega.{arith}
 use lib.ListN.{length, length-append}
 use Rattle.programs.specs.Program.{Operand, constant, current, recalled, Condition, equal, negated, both, either, conditionBytes, programBytes, statementBytes}
 use Rattle.programs.specs.Limits.{conditionNesting, nesting, statementNesting}
-use Rattle.notation.specs.Program.{Statement, branch, Program, done, step, _then_, programIn, statementIn}
+use Rattle.notation.specs.Program.{TextStatement, branch, TextProgram, done, step, _then_, programIn, statementIn}
 use Rattle.notation.specs.Limits.{sizeOf, nestingOf}
 use Rattle.notation.specs.Statements.{only, assigned}
 use Rattle.reading.specs.Conditions.{negatedBy, disjoined, conjoined}
@@ -40,16 +40,16 @@ pub and-extent : (o : Option Condition) (d : Condition) → conditionExtent (con
 and-extent none d = refl
 and-extent (some c) d = both-extent c d
 
-pub size-extent : (p : Program) → sizeOf p ≡ suc (programExtent p .bytes)
+pub size-extent : (p : TextProgram) → sizeOf p ≡ suc (programExtent p .bytes)
 size-extent p = omega (arith, at-least-one p)
 
-pub then-extent : (p q : Program) → programExtent (p then q) ≡ inTurn (programExtent p) (programExtent q)
+pub then-extent : (p q : TextProgram) → programExtent (p then q) ≡ inTurn (programExtent p) (programExtent q)
 then-extent p q = same (omega (arith, then-size p q, at-least-one p, at-least-one q)) (then-nesting p q)
 
-branch-size : (c : Condition) (p q : Program) → sizeOf (only (branch c p q)) ≡ 2 + (length (conditionBytes c) + (sizeOf p + sizeOf q))
+branch-size : (c : Condition) (p q : TextProgram) → sizeOf (only (branch c p q)) ≡ 2 + (length (conditionBytes c) + (sizeOf p + sizeOf q))
 branch-size c p q = simp length-append (omega arith)
 
-pub branch-extent : (c : Condition) (p q : Program) → programExtent (only (branch c p q)) ≡ branching (conditionExtent c) (programExtent p) (programExtent q)
+pub branch-extent : (c : Condition) (p q : TextProgram) → programExtent (only (branch c p q)) ≡ branching (conditionExtent c) (programExtent p) (programExtent q)
 branch-extent c p q = same (omega (arith, branch-size c p q, at-least-one p, at-least-one q)) (omega arith)
 
 pub assigned-extent : (a : ℕ) (x : Operand) → programExtent (only (assigned a x)) ≡ unnested 3

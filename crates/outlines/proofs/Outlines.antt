@@ -7,13 +7,13 @@ use Prim.Native.Nat.{ℕ, suc, _≤_}
 use native.Mathlib.Omega.{arith}
 use Rattle.programs.specs.Program.{constant}
 use Rattle.programs.specs.Limits.{Visit}
-use Rattle.notation.specs.Program.{Program, done, reject, become, print-start, branch}
+use Rattle.notation.specs.Program.{TextProgram, done, reject, become, print-start, branch}
 use Rattle.notation.specs.Limits.{sizeOf, nestingOf, ProgramWithin}
 use Rattle.notation.specs.Statements.{only}
-use Rattle.notation.specs.Tokens.{Token}
+use Rattle.notation.specs.Tokens.{TextToken}
 use Rattle.reading.specs.Conditions.{finishedOf}
-use Rattle.reading.specs.Statements.{Pending, Level, listed, around, Place, opening, separated, branching, Listing, wants, target, assigning, printing, testing, after, shortestAt, wholeValue, emptyValue, stepStatements, valueOfList, finishedList}
-use Rattle.lexemes.specs.Kinds.{kindOf, TokenFits}
+use Rattle.reading.specs.Statements.{Pending, ListLevel, listed, aroundList, Place, opening, separated, branching, Listing, wants, target, assigning, printing, testing, after, shortestList, wholeListValue, emptyListValue, stepStatements, valueOfList, finishedList}
+use Rattle.lexemes.specs.Kinds.{tokenKind, TokenFits}
 use Rattle.outlines.specs.Extents as extents
 use Rattle.outlines.specs.Extents.{Extent, conditionExtent, programExtent, vacant, unnested, ExtentWithin}
 use Rattle.outlines.specs.Statements.{Layer, among, wrappedIn, layersOn, layersOf, Outline, outline, stepOutline, noneOutside, endsHere, finished}
@@ -30,11 +30,11 @@ some-outside : (fs : List Pending) (b : Extent) (ls : List Layer) → noneOutsid
 some-outside [] b ls = refl
 some-outside (f ∷ fs) b ls = refl
 
-whole-alike : (ls : List Level) (p : Program) → noneOutside (layersOf ls) ≡ given (wholeValue ls p)
+whole-alike : (ls : List ListLevel) (p : TextProgram) → noneOutside (layersOf ls) ≡ given (wholeListValue ls p)
 whole-alike [] p = refl
 whole-alike (l ∷ ls) p = some-outside (l .ifs) (programExtent (l .before)) (layersOf ls)
 
-empty-alike : (ls : List Level) → noneOutside (layersOf ls) ≡ given (emptyValue opening ls)
+empty-alike : (ls : List ListLevel) → noneOutside (layersOf ls) ≡ given (emptyListValue opening ls)
 empty-alike [] = refl
 empty-alike (l ∷ ls) = some-outside (l .ifs) (programExtent (l .before)) (layersOf ls)
 
@@ -48,7 +48,7 @@ ends-alike (printing l ls) = refl
 ends-alike (testing r l ls) = refl
 ends-alike (after b p l ls) = ap (λ c. noneOutside (c .outside)) (closed-extent l ls p) ∙ whole-alike ls (listed l p)
 
-test-extent : (e : Extent) (l : Level) (ls : List Level) (p : Program) → e ≡ programExtent p → wrappedIn (layersOf (l ∷ ls)) e ≡ programExtent (around (l ∷ ls) p)
+test-extent : (e : Extent) (l : ListLevel) (ls : List ListLevel) (p : TextProgram) → e ≡ programExtent p → wrappedIn (layersOf (l ∷ ls)) e ≡ programExtent (aroundList (l ∷ ls) p)
 test-extent e l ls p h = ap (wrappedIn (layersOf (l ∷ ls))) h ∙ around-extent (l ∷ ls) p
 
 pub finished-extent : (q : Listing) → finished (outline q) ≡ programExtent (finishedList q)
@@ -70,10 +70,10 @@ within-out q h = let s = sizes-alike q in record { short = omega (arith, s .0, h
 pub within-back : (q : Listing) → ExtentWithin (finished (outline q)) → ProgramWithin (finishedList q)
 within-back q h = let s = sizes-alike q in record { short = omega (arith, s .0, h .short); shallow = omega (arith, s .1, h .shallow) }
 
-keeps-out : (v : Visit) (q : Listing) (t : Token) → TokenFits t → (q′ : Listing) → MachineKeeps v q t q′ → OutlineKeeps v (outline q) (kindOf t) (outline q′)
+keeps-out : (v : Visit) (q : Listing) (t : TextToken) → TokenFits t → (q′ : Listing) → MachineKeeps v q t q′ → OutlineKeeps v (outline q) (tokenKind t) (outline q′)
 keeps-out v q t h q′ k = record { taken = steps-alike v q t h ∙ ap outlineIf (k .taken); within = within-out q′ (k .within) }
 
-keeps-back : (v : Visit) (q : Listing) (t : Token) (m : Option Listing) → stepStatements v q t ≡ m → (o : Outline) → outlineIf m ≡ some o → ExtentWithin (finished o)
+keeps-back : (v : Visit) (q : Listing) (t : TextToken) (m : Option Listing) → stepStatements v q t ≡ m → (o : Outline) → outlineIf m ≡ some o → ExtentWithin (finished o)
     → (q′ : Listing) × MachineKeeps v q t q′ × (o ≡ outline q′)
 keeps-back v q t none e o f w = absurd (let z : _≡_ {A = ℕ} 0 1 = cc in omega arith)
 keeps-back v q t (some q′) e o f w =

@@ -17,7 +17,7 @@ use Rattle.outlines.specs.Extents.{Extent, extent, vacant, unnested, com
 use Rattle.outlines.specs.Kinds.{isWord, isSign, isTarget, isOperand, isPlain, isShortItem, isLongItem}
 use Rattle.outlines.specs.Conditions.{Margin, margin, blankMargin, pairedWith, upToAnd, wholeOf, withMargins, a-single, an-equals, an-operand, ConditionOutline, wanting, behind, gotAt, notAt, openAt, stepConditionOutline, readCondition, finishedCondition}
 use Rattle.outlines.specs.Statements.{Layer, among, then-of, else-of, wrapped, wrappedIn, Closed, closedList, elseOf, Stage, at, at-assign, at-operand, at-item, in-condition, past, Outline, outlined, begunAt, endedIn, endedAt, elsedAt, thenAt, stepTested, stepStage, stepOutline, finished, finishedAt, kernel}
-use Rattle.outlines.specs.Shape.{InBranch, Firm, PlaceFirm, ConditionFirm, StageFirm, Sound, ExtentUnder, LayerUnder, LayersUnder, SideUnder, MarginUnder, MarginsUnder, ConditionUnder, StageUnder, PartsUnder, StartsSound, StaysSound, FewLayers, SmallParts, PartsStaySmall, OneLayerMore}
+use Rattle.outlines.specs.Shape.{InBranch, FirmLayers, PlaceFirm, ConditionFirm, StageFirm, SoundOutline, ExtentUnder, LayerUnder, LayersUnder, SideUnder, MarginUnder, MarginsUnder, ConditionUnder, StageUnder, PartsUnder, StartsSound, StaysSound, FewLayers, SmallParts, PartsStaySmall, OneLayerMore}
 
 pub starts-sound : StartsSound
 starts-sound = record { firm = (tt, tt); stage-firm = refl }
@@ -25,7 +25,7 @@ starts-sound = record { firm = (tt, tt); stage-firm = refl }
 -- what holds of an outline, where there is one
 abbrev SoundIf : Option Outline → Type 0
 SoundIf none = Unit {0}
-SoundIf (some o) = Sound o
+SoundIf (some o) = SoundOutline o
 
 abbrev FirmIf : Option ConditionOutline → Type 0
 FirmIf none = Unit {0}
@@ -61,25 +61,25 @@ condition-firm v (behind d o ms) k h =
     (firm-of (isSign CLOSE k) (gotAt ms (pairedWith o d)) none (λ e. got-firm ms (pairedWith o d) (omega arith)) tt))
 
 -- layers
-closed-firm : (ls : List Layer) (p : Extent) → Firm ls → InBranch (closedList ls p .outside) × Firm (closedList ls p .outside)
+closed-firm : (ls : List Layer) (p : Extent) → FirmLayers ls → InBranch (closedList ls p .outside) × FirmLayers (closedList ls p .outside)
 closed-firm [] p h = (tt, tt)
 closed-firm (among b ∷ ls) p h = h
 closed-firm (then-of c ∷ ls) p h = closed-firm ls (wrapped (then-of c) p) h
 closed-firm (else-of c q ∷ ls) p h = closed-firm ls (wrapped (else-of c q) p) h
 
-plain-sound : (s : Stage) (ls : List Layer) → StageFirm s ls → Firm ls → SoundIf (some (outlined s ls))
+plain-sound : (s : Stage) (ls : List Layer) → StageFirm s ls → FirmLayers ls → SoundIf (some (outlined s ls))
 plain-sound s ls g h = record { firm = h; stage-firm = g }
 
-ended-sound : (ls : List Layer) (p : Extent) → Firm ls → SoundIf (endedIn ls p)
+ended-sound : (ls : List Layer) (p : Extent) → FirmLayers ls → SoundIf (endedIn ls p)
 ended-sound [] p h = tt
 ended-sound (l ∷ ls) p h = record { firm = h; stage-firm = tt }
 
-end-sound : (w : Place) (ls : List Layer) → Firm ls → SoundIf (endedAt w ls)
+end-sound : (w : Place) (ls : List Layer) → FirmLayers ls → SoundIf (endedAt w ls)
 end-sound opening ls h = ended-sound (closedList ls vacant .outside) vacant (closed-firm ls vacant h .1)
 end-sound separated ls h = tt
 end-sound branching ls h = tt
 
-begin-sound : (w : Place) (ls : List Layer) → Firm ls → PlaceFirm w ls → SoundIf (begunAt w ls)
+begin-sound : (w : Place) (ls : List Layer) → FirmLayers ls → PlaceFirm w ls → SoundIf (begunAt w ls)
 begin-sound opening ls h g = tt
 begin-sound separated ls h g = tt
 begin-sound branching [] h g = absurd g
@@ -87,21 +87,21 @@ begin-sound branching (among b ∷ ls) h g = absurd g
 begin-sound branching (then-of c ∷ ls) h g = record { firm = (tt, h); stage-firm = refl }
 begin-sound branching (else-of c q ∷ ls) h g = record { firm = (tt, h); stage-firm = refl }
 
-else-sound : (ls : List Layer) (p : Extent) → Firm ls → SoundIf (elsedAt (elseOf ls p))
+else-sound : (ls : List Layer) (p : Extent) → FirmLayers ls → SoundIf (elsedAt (elseOf ls p))
 else-sound [] p h = tt
 else-sound (among b ∷ ls) p h = tt
 else-sound (then-of c ∷ ls) p h = record { firm = h; stage-firm = tt }
 else-sound (else-of c q ∷ ls) p h = else-sound ls (wrapped (else-of c q) p) h
 
-then-sound : (c : Option Extent) (ls : List Layer) (k : ℕ) → Firm ls → SoundIf (thenAt c ls k)
+then-sound : (c : Option Extent) (ls : List Layer) (k : ℕ) → FirmLayers ls → SoundIf (thenAt c ls k)
 then-sound none ls k h = tt
 then-sound (some c) ls k h = one-of (isWord THEN k) _ none (plain-sound (at branching) (then-of c ∷ ls) tt h) tt
 
-tested-sound : (r : Option ConditionOutline) (c : Option Extent) (ls : List Layer) (k : ℕ) → FirmIf r → Firm ls → SoundIf (stepTested r c ls k)
+tested-sound : (r : Option ConditionOutline) (c : Option Extent) (ls : List Layer) (k : ℕ) → FirmIf r → FirmLayers ls → SoundIf (stepTested r c ls k)
 tested-sound none c ls k g h = then-sound c ls k h
 tested-sound (some r) c ls k g h = record { firm = h; stage-firm = g }
 
-stage-sound : (v : Visit) (s : Stage) (ls : List Layer) (k : ℕ) → StageFirm s ls → Firm ls → SoundIf (stepStage v s ls k)
+stage-sound : (v : Visit) (s : Stage) (ls : List Layer) (k : ℕ) → StageFirm s ls → FirmLayers ls → SoundIf (stepStage v s ls k)
 stage-sound v (at w) ls k g h =
     one-of (isPlain v k) _ _ (plain-sound (past false (unnested 1)) ls tt h)
     (one-of (isTarget v k) _ _ (plain-sound at-assign ls tt h)
@@ -137,13 +137,13 @@ ifs-nest (then-of c ∷ ls) p = omega (arith, ifs-nest ls (wrapped (then-of c) p
 ifs-nest (else-of c q ∷ ls) p = omega (arith, ifs-nest ls (wrapped (else-of c q) p))
 
 mutual
-  few : (ls : List Layer) → Firm ls → length ls ≤ suc (2 * ifsIn ls)
+  few : (ls : List Layer) → FirmLayers ls → length ls ≤ suc (2 * ifsIn ls)
   few [] h = omega arith
   few (among b ∷ ls) h = omega (arith, few-in-branch ls (h .0) (h .1))
   few (then-of c ∷ ls) h = omega (arith, few ls h)
   few (else-of c q ∷ ls) h = omega (arith, few ls h)
 
-  few-in-branch : (ls : List Layer) → InBranch ls → Firm ls → length ls ≤ 2 * ifsIn ls
+  few-in-branch : (ls : List Layer) → InBranch ls → FirmLayers ls → length ls ≤ 2 * ifsIn ls
   few-in-branch [] g h = omega arith
   few-in-branch (among b ∷ ls) g h = absurd g
   few-in-branch (then-of c ∷ ls) g h = omega (arith, few ls h)
@@ -165,7 +165,7 @@ finished-stage at-item ls h = refl
 finished-stage (in-condition r) ls h = refl
 finished-stage (past b p) ls h = refl
 
-pub finished-kernel : (o : Outline) → Sound o → finished o ≡ wrappedIn (o .layers) (kernel (o .stage))
+pub finished-kernel : (o : Outline) → SoundOutline o → finished o ≡ wrappedIn (o .layers) (kernel (o .stage))
 finished-kernel o h = finished-stage (o .stage) (o .layers) (h .stage-firm)
 
 pub few-layers : FewLayers
@@ -213,7 +213,7 @@ stage-under n at-item h = tt
 stage-under n (in-condition r) h = condition-under n r (test-under n (finishedCondition r) h)
 stage-under n (past b p) h = h
 
-kernel-under : (o : Outline) → Sound o → ExtentWithin (finished o) → ExtentUnder 255 (wrappedIn (o .layers) (kernel (o .stage)))
+kernel-under : (o : Outline) → SoundOutline o → ExtentWithin (finished o) → ExtentUnder 255 (wrappedIn (o .layers) (kernel (o .stage)))
 kernel-under o h w = subst (ExtentUnder 255) (finished-kernel o h) (record { few-bytes = omega (arith, w .short); few-deep = omega (arith, w .shallow) })
 
 pub small-parts : SmallParts

@@ -7,14 +7,14 @@ use Prim.Native.Nat.{ℕ, suc, _≤_, _<_}
 use native.Mathlib.Omega.{arith}
 use Rattle.programs.specs.Program.{Operand, Condition}
 use Rattle.programs.specs.Limits.{Attribute, Visit, first, second, isFirst}
-use Rattle.notation.specs.Program.{Statement, echo, Program, done, _then_}
+use Rattle.notation.specs.Program.{TextStatement, echo, TextProgram, done, _then_}
 use Rattle.notation.specs.Statements.{only, assigned, parentheses}
-use Rattle.notation.specs.Tokens.{Mark, plain, left, right, Token, nonterminal, value, attribute, name, start-tag, end-tag, empty-tag, string, word, Word, CHAR, ECHO, ECHO-OFF, REJECT, PRINT, IF, THEN, ELSE, BEGIN, END, AND, OR, NOT, EMPTY, sign, Sign, DEFINED, ASSIGNED, OPEN, CLOSE, BRACE, UNBRACE, DOT, BAR, STAR, SEMICOLON, EQUALS, TagName, StringOf}
+use Rattle.notation.specs.Tokens.{Dollar, plain, left, right, TextToken, nonterminal, value, attribute, name, start-tag, end-tag, empty-tag, string, word, Keyword, CHAR, ECHO, ECHO-OFF, REJECT, PRINT, IF, THEN, ELSE, BEGIN, END, AND, OR, NOT, EMPTY, sign, Sign, DEFINED, ASSIGNED, OPEN, CLOSE, BRACE, UNBRACE, DOT, BAR, STAR, SEMICOLON, EQUALS, TagName, StringOf}
 use Rattle.reading.specs.Tests.{tagName?, string?}
-use Rattle.reading.specs.Conditions.{Part, operand, a-not, an-and, an-or, an-open, a-close, an-equals, other, attribute?, partOf, Reading, stepCondition, valueOf, finishedOf}
+use Rattle.reading.specs.Conditions.{ConditionPart, operand, a-not, an-and, an-or, an-open, a-close, an-equals, other, attribute?, partOf, Reading, stepCondition, valueOfCondition, finishedOf}
 use Rattle.reading.specs.Statements as reading
-use Rattle.reading.specs.Statements.{Start, simply, a-target, a-print, an-if, a-begin, no-start, current?, targetIf, startWord, startOf, Behind, an-item, a-semicolon, an-else, a-then, an-assign, nothing, itemIf, nextWord, nextSign, nextOf, Pending, otherwise, Level, level, listed, Place, opening, separated, branching, Listing, wants, target, assigning, printing, testing, after, stepStatements, valueOfList, finishedList}
-use Rattle.lexemes.specs.Kinds.{kindOf, wordNumber, signNumber, markNumber, TokenFits}
+use Rattle.reading.specs.Statements.{Start, simply, a-target, a-print, an-if, a-begin, no-start, current?, targetIf, startWord, startOf, Behind, an-item, a-semicolon, an-else, a-then, an-assign, nothing, itemIf, nextWord, nextSign, behindOf, Pending, otherwise, ListLevel, listLevel, listed, Place, opening, separated, branching, Listing, wants, target, assigning, printing, testing, after, stepStatements, valueOfList, finishedList}
+use Rattle.lexemes.specs.Kinds.{tokenKind, wordNumber, signNumber, markNumber, TokenFits}
 use Rattle.outlines.specs.Extents as extents
 use Rattle.outlines.specs.Extents.{Extent, conditionExtent, programExtent, vacant, unnested, inTurn}
 use Rattle.outlines.specs.Kinds.{isWord, isSign, isTarget, isOperand, isPlain, isShortItem, isLongItem}
@@ -63,7 +63,7 @@ record StartSeen (b : Begins) (k : Start) : Type 0 where
   seen : b ≡ beginsStart k
   simple : SimpleIs k
 
-start-word : (v : Visit) (w : Word) → StartSeen (beginsKind v (wordNumber w)) (startWord v w)
+start-word : (v : Visit) (w : Keyword) → StartSeen (beginsKind v (wordNumber w)) (startWord v w)
 start-word v CHAR = record { seen = refl; simple = tt }
 start-word first ECHO = record { seen = refl; simple = refl }
 start-word second ECHO = record { seen = refl; simple = tt }
@@ -81,7 +81,7 @@ start-word v OR = record { seen = refl; simple = tt }
 start-word v NOT = record { seen = refl; simple = tt }
 start-word v EMPTY = record { seen = refl; simple = tt }
 
-start-attribute : (v : Visit) (m : Mark) (a : ℕ) (d : Dec (Attribute a)) → Attribute a → StartSeen (beginsKind v (markNumber m)) (targetIf d (current? v m) a)
+start-attribute : (v : Visit) (m : Dollar) (a : ℕ) (d : Dec (Attribute a)) → Attribute a → StartSeen (beginsKind v (markNumber m)) (targetIf d (current? v m) a)
 start-attribute v m a (no h) g = absurd (h g)
 start-attribute v plain a (yes h) g = record { seen = refl; simple = tt }
 start-attribute first left a (yes h) g = record { seen = refl; simple = tt }
@@ -102,7 +102,7 @@ start-sign v STAR = record { seen = refl; simple = tt }
 start-sign v SEMICOLON = record { seen = refl; simple = tt }
 start-sign v EQUALS = record { seen = refl; simple = tt }
 
-start-seen : (v : Visit) (t : Token) → TokenFits t → StartSeen (beginsKind v (kindOf t)) (startOf v t)
+start-seen : (v : Visit) (t : TextToken) → TokenFits t → StartSeen (beginsKind v (tokenKind t)) (startOf v t)
 start-seen v (nonterminal n) h = record { seen = refl; simple = tt }
 start-seen v (value n) h = record { seen = refl; simple = tt }
 start-seen v (attribute m a) h = start-attribute v m a (attribute? a) (omega arith)
@@ -131,8 +131,8 @@ abbrev followsKind : ℕ → Follows
 followsKind k = follows (isShortItem k) (isLongItem k) (isSign SEMICOLON k) (isWord ELSE k) (isWord END k) (isWord THEN k) (isSign ASSIGNED k)
 
 data NextSeen : Follows → Behind → Type 0 where
-  short-item : {p : Program} → programExtent p ≡ unnested 2 → NextSeen (follows true false false false false false false) (an-item p)
-  long-item : {p : Program} → programExtent p ≡ unnested 4 → NextSeen (follows false true false false false false false) (an-item p)
+  short-item : {p : TextProgram} → programExtent p ≡ unnested 2 → NextSeen (follows true false false false false false false) (an-item p)
+  long-item : {p : TextProgram} → programExtent p ≡ unnested 4 → NextSeen (follows false true false false false false false) (an-item p)
   seen-semicolon : NextSeen (follows false false true false false false false) a-semicolon
   seen-else : NextSeen (follows false false false true false false false) an-else
   seen-end : NextSeen (follows false false false false true false false) Behind.an-end
@@ -140,7 +140,7 @@ data NextSeen : Follows → Behind → Type 0 where
   seen-assign : NextSeen (follows false false false false false false true) an-assign
   seen-nothing : NextSeen (follows false false false false false false false) nothing
 
-next-word : (w : Word) → NextSeen (followsKind (wordNumber w)) (nextWord w)
+next-word : (w : Keyword) → NextSeen (followsKind (wordNumber w)) (nextWord w)
 next-word CHAR = seen-nothing
 next-word ECHO = seen-nothing
 next-word ECHO-OFF = seen-nothing
@@ -169,11 +169,11 @@ next-sign STAR = seen-nothing
 next-sign SEMICOLON = seen-semicolon
 next-sign EQUALS = seen-nothing
 
-next-item : {P : Type 0} (k : ℕ) (p : Program) (d : Dec P) → P → NextSeen (followsKind k) (an-item p) → NextSeen (followsKind k) (itemIf d p)
+next-item : {P : Type 0} (k : ℕ) (p : TextProgram) (d : Dec P) → P → NextSeen (followsKind k) (an-item p) → NextSeen (followsKind k) (itemIf d p)
 next-item k p (yes h) g s = s
 next-item k p (no h) g s = absurd (h g)
 
-next-seen : (t : Token) → TokenFits t → NextSeen (followsKind (kindOf t)) (nextOf t)
+next-seen : (t : TextToken) → TokenFits t → NextSeen (followsKind (tokenKind t)) (behindOf t)
 next-seen (nonterminal n) h = seen-nothing
 next-seen (value n) h = seen-nothing
 next-seen (attribute plain a) h = seen-nothing
@@ -201,21 +201,21 @@ some-around : (fs : List Pending) (b p : Extent) (ls : List Layer) → endedIn (
 some-around [] b p ls = refl
 some-around (f ∷ fs) b p ls = refl
 
-ended-alike : (ls : List Level) (p : Program) → endedIn (layersOf ls) (programExtent p) ≡ outlineIf (reading.unblocked ls p)
+ended-alike : (ls : List ListLevel) (p : TextProgram) → endedIn (layersOf ls) (programExtent p) ≡ outlineIf (reading.unblocked ls p)
 ended-alike [] p = refl
 ended-alike (l ∷ ls) p = some-around (l .ifs) (programExtent (l .before)) (programExtent p) (layersOf ls)
 
-begin-alike : (w : Place) (l : Level) (ls : List Level) → begunAt w (layersOf (l ∷ ls)) ≡ outlineIf (reading.blocked w l ls)
+begin-alike : (w : Place) (l : ListLevel) (ls : List ListLevel) → begunAt w (layersOf (l ∷ ls)) ≡ outlineIf (reading.blocked w l ls)
 begin-alike opening l ls = refl
 begin-alike separated l ls = refl
 begin-alike branching l ls = refl
 
-empty-alike : (w : Place) (l : Level) (ls : List Level) → endedAt w (layersOf (l ∷ ls)) ≡ outlineIf (reading.emptied w l ls)
+empty-alike : (w : Place) (l : ListLevel) (ls : List ListLevel) → endedAt w (layersOf (l ∷ ls)) ≡ outlineIf (reading.emptied w l ls)
 empty-alike opening l ls = ap (λ x. endedIn (x .outside) vacant) (closed-extent l ls done) ∙ ended-alike ls done
 empty-alike separated l ls = refl
 empty-alike branching l ls = refl
 
-start-alike : (w : Place) (l : Level) (ls : List Level) (k : Start) → SimpleIs k → stepBegins (beginsStart k) w (layersOf (l ∷ ls)) ≡ outlineIf (reading.started w l ls k)
+start-alike : (w : Place) (l : ListLevel) (ls : List ListLevel) (k : Start) → SimpleIs k → stepBegins (beginsStart k) w (layersOf (l ∷ ls)) ≡ outlineIf (reading.startedList w l ls k)
 start-alike w l ls (simply t) e = ap (λ x. some (outlined (past false x) (layersOf (l ∷ ls)))) (sym e)
 start-alike w l ls (a-target a) e = refl
 start-alike w l ls a-print e = refl
@@ -224,7 +224,7 @@ start-alike w l ls a-begin e = begin-alike w l ls
 start-alike w l ls Start.an-end e = empty-alike w l ls
 start-alike w l ls no-start e = refl
 
-wants-alike : (v : Visit) (w : Place) (l : Level) (ls : List Level) (t : Token) → TokenFits t → stepAt v w (layersOf (l ∷ ls)) (kindOf t) ≡ outlineIf (reading.started w l ls (startOf v t))
+wants-alike : (v : Visit) (w : Place) (l : ListLevel) (ls : List ListLevel) (t : TextToken) → TokenFits t → stepAt v w (layersOf (l ∷ ls)) (tokenKind t) ≡ outlineIf (reading.startedList w l ls (startOf v t))
 wants-alike v w l ls t h =
     let s = start-seen v t h in
     ap (λ q. stepBegins q w (layersOf (l ∷ ls))) (s .seen) ∙ start-alike w l ls (startOf v t) (s .simple)
@@ -238,19 +238,19 @@ stepFollows q b p c ls =
     (cond (q .else?) (elsedAt (elseOf ls p))
     (cond (q .end?) (endedIn (c .outside) (c .whole)) none))))
 
-item-alike : (b : Bool) (p q : Program) (l : Level) (ls : List Level) (n : ℕ) → programExtent q ≡ unnested n
+item-alike : (b : Bool) (p q : TextProgram) (l : ListLevel) (ls : List ListLevel) (n : ℕ) → programExtent q ≡ unnested n
     → cond b (some (outlined (past true (inTurn (programExtent p) (unnested n))) (layersOf (l ∷ ls)))) none ≡ outlineIf (reading.one-more b p q l ls)
 item-alike true p q l ls n e = ap (λ x. some (outlined (past true x) (layersOf (l ∷ ls)))) (sym (then-extent p q ∙ ap (inTurn (programExtent p)) e))
 item-alike false p q l ls n e = refl
 
-elsed-alike : (l : Level) (ls : List Level) (o : Option (List Pending)) → elsedAt (layersIf (among (programExtent (l .before)) ∷ layersOf ls) o) ≡ outlineIf (reading.elsed l ls o)
+elsed-alike : (l : ListLevel) (ls : List ListLevel) (o : Option (List Pending)) → elsedAt (layersIf (among (programExtent (l .before)) ∷ layersOf ls) o) ≡ outlineIf (reading.elsed l ls o)
 elsed-alike l ls none = refl
 elsed-alike l ls (some fs) = refl
 
-semicolon-alike : (p : Program) (l : Level) (ls : List Level) → some (outlined (at separated) (among (programExtent (listed l p)) ∷ layersOf ls)) ≡ outlineIf (some (wants separated (level (listed l p) []) ls))
+semicolon-alike : (p : TextProgram) (l : ListLevel) (ls : List ListLevel) → some (outlined (at separated) (among (programExtent (listed l p)) ∷ layersOf ls)) ≡ outlineIf (some (wants separated (listLevel (listed l p) []) ls))
 semicolon-alike p l ls = refl
 
-follow-alike : (b : Bool) (p : Program) (l : Level) (ls : List Level) {q : Follows} {k : Behind} → NextSeen q k
+follow-alike : (b : Bool) (p : TextProgram) (l : ListLevel) (ls : List ListLevel) {q : Follows} {k : Behind} → NextSeen q k
     → stepFollows q b (programExtent p) (record { whole = programExtent (listed l p); outside = layersOf ls }) (layersOf (l ∷ ls)) ≡ outlineIf (reading.followed b p l ls k)
 follow-alike true p l ls (short-item {p = q} e) = item-alike true p q l ls 2 e
 follow-alike false p l ls (short-item e) = refl
@@ -269,13 +269,13 @@ follow-alike false p l ls seen-assign = refl
 follow-alike true p l ls seen-nothing = refl
 follow-alike false p l ls seen-nothing = refl
 
-past-alike : (b : Bool) (p : Program) (l : Level) (ls : List Level) (t : Token) → TokenFits t
-    → stepPast b (programExtent p) (closedList (layersOf (l ∷ ls)) (programExtent p)) (layersOf (l ∷ ls)) (kindOf t) ≡ outlineIf (reading.followed b p l ls (nextOf t))
+past-alike : (b : Bool) (p : TextProgram) (l : ListLevel) (ls : List ListLevel) (t : TextToken) → TokenFits t
+    → stepPast b (programExtent p) (closedList (layersOf (l ∷ ls)) (programExtent p)) (layersOf (l ∷ ls)) (tokenKind t) ≡ outlineIf (reading.followed b p l ls (behindOf t))
 past-alike b p l ls t h =
-    ap (λ c. stepPast b (programExtent p) c (layersOf (l ∷ ls)) (kindOf t)) (closed-extent l ls p) ∙ follow-alike b p l ls (next-seen t h)
+    ap (λ c. stepPast b (programExtent p) c (layersOf (l ∷ ls)) (tokenKind t)) (closed-extent l ls p) ∙ follow-alike b p l ls (next-seen t h)
 
 -- where something is wanted
-assign-alike : (a : ℕ) (l : Level) (ls : List Level) {q : Follows} {k : Behind} → NextSeen q k
+assign-alike : (a : ℕ) (l : ListLevel) (ls : List ListLevel) {q : Follows} {k : Behind} → NextSeen q k
     → cond (q .assign?) (some (outlined at-operand (layersOf (l ∷ ls)))) none ≡ outlineIf (reading.targeted a l ls k)
 assign-alike a l ls (short-item e) = refl
 assign-alike a l ls (long-item e) = refl
@@ -286,7 +286,7 @@ assign-alike a l ls seen-then = refl
 assign-alike a l ls seen-assign = refl
 assign-alike a l ls seen-nothing = refl
 
-print-alike : (l : Level) (ls : List Level) {q : Follows} {k : Behind} → NextSeen q k
+print-alike : (l : ListLevel) (ls : List ListLevel) {q : Follows} {k : Behind} → NextSeen q k
     → cond (q .short?) (some (outlined (past true (unnested 2)) (layersOf (l ∷ ls)))) (cond (q .long?) (some (outlined (past true (unnested 4)) (layersOf (l ∷ ls)))) none) ≡ outlineIf (reading.printed l ls k)
 print-alike l ls (short-item e) = ap (λ x. some (outlined (past true x) (layersOf (l ∷ ls)))) (sym e)
 print-alike l ls (long-item e) = ap (λ x. some (outlined (past true x) (layersOf (l ∷ ls)))) (sym e)
@@ -297,7 +297,7 @@ print-alike l ls seen-then = refl
 print-alike l ls seen-assign = refl
 print-alike l ls seen-nothing = refl
 
-operand-alike : (a : ℕ) (l : Level) (ls : List Level) (k : Part) → cond (ofPart k .an-operand?) (some (outlined (past false (unnested 3)) (layersOf (l ∷ ls)))) none ≡ outlineIf (reading.assignedBy a l ls k)
+operand-alike : (a : ℕ) (l : ListLevel) (ls : List ListLevel) (k : ConditionPart) → cond (ofPart k .an-operand?) (some (outlined (past false (unnested 3)) (layersOf (l ∷ ls)))) none ≡ outlineIf (reading.assignedBy a l ls k)
 operand-alike a l ls (operand x) = ap (λ e. some (outlined (past false e) (layersOf (l ∷ ls)))) (sym (assigned-extent a x))
 operand-alike a l ls a-not = refl
 operand-alike a l ls an-and = refl
@@ -312,7 +312,7 @@ abbrev stepThen : Bool → Option Extent → List Layer → Option Outline
 stepThen b none ls = none
 stepThen b (some c) ls = cond b (some (outlined (at branching) (then-of c ∷ ls))) none
 
-then-alike : (o : Option Condition) (l : Level) (ls : List Level) {q : Follows} {k : Behind} → NextSeen q k → stepThen (q .then?) (extentIf o) (layersOf (l ∷ ls)) ≡ outlineIf (reading.thenned o l ls k)
+then-alike : (o : Option Condition) (l : ListLevel) (ls : List ListLevel) {q : Follows} {k : Behind} → NextSeen q k → stepThen (q .then?) (extentIf o) (layersOf (l ∷ ls)) ≡ outlineIf (reading.thenned o l ls k)
 then-alike none l ls s = refl
 then-alike (some c) l ls (short-item e) = refl
 then-alike (some c) l ls (long-item e) = refl
@@ -327,10 +327,10 @@ then-kind : (o : Option Extent) (ls : List Layer) (k : ℕ) → thenAt o ls k �
 then-kind none ls k = refl
 then-kind (some c) ls k = refl
 
-tested-alike : (r : Option Reading) (o : Option Condition) (l : Level) (ls : List Level) (t : Token) → TokenFits t
-    → stepTested (conditionIf r) (extentIf o) (layersOf (l ∷ ls)) (kindOf t) ≡ outlineIf (reading.tested r o l ls (nextOf t))
+tested-alike : (r : Option Reading) (o : Option Condition) (l : ListLevel) (ls : List ListLevel) (t : TextToken) → TokenFits t
+    → stepTested (conditionIf r) (extentIf o) (layersOf (l ∷ ls)) (tokenKind t) ≡ outlineIf (reading.tested r o l ls (behindOf t))
 tested-alike (some r) o l ls t h = refl
-tested-alike none o l ls t h = then-kind (extentIf o) (layersOf (l ∷ ls)) (kindOf t) ∙ then-alike o l ls (next-seen t h)
+tested-alike none o l ls t h = then-kind (extentIf o) (layersOf (l ∷ ls)) (tokenKind t) ∙ then-alike o l ls (next-seen t h)
 
 pub steps-alike : StepsAlike
 steps-alike v (wants w l ls) t h = wants-alike v w l ls t h
@@ -338,6 +338,6 @@ steps-alike v (target a l ls) t h = assign-alike a l ls (next-seen t h)
 steps-alike v (assigning a l ls) t h = ap (λ b. cond b (some (outlined (past false (unnested 3)) (layersOf (l ∷ ls)))) none) (operand-asked v t h) ∙ operand-alike a l ls (partOf v t)
 steps-alike v (printing l ls) t h = print-alike l ls (next-seen t h)
 steps-alike v (testing r l ls) t h =
-    ap₂ (λ x y. stepTested x y (layersOf (l ∷ ls)) (kindOf t)) (condition-alike v r t h) (read-alike r)
-    ∙ tested-alike (stepCondition v parentheses r t) (valueOf r) l ls t h
+    ap₂ (λ x y. stepTested x y (layersOf (l ∷ ls)) (tokenKind t)) (condition-alike v r t h) (read-alike r)
+    ∙ tested-alike (stepCondition v parentheses r t) (valueOfCondition r) l ls t h
 steps-alike v (after b p l ls) t h = past-alike b p l ls t h

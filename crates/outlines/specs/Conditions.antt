@@ -9,7 +9,7 @@ use Rattle.programs.specs.Program.{Condition}
 use Rattle.programs.specs.Limits.{Visit}
 use Rattle.notation.specs.Statements.{parentheses}
 use Rattle.notation.specs.Tokens.{AND, OR, NOT, OPEN, CLOSE, EQUALS}
-use Rattle.reading.specs.Conditions.{Level, Reading, wants, compares, wants-other, after}
+use Rattle.reading.specs.Conditions.{ConditionLevel, Reading, wants, compares, wants-other, after}
 use Rattle.outlines.specs.Extents.{Extent, conditionExtent, comparison, paired, behindNots}
 use Rattle.outlines.specs.Kinds.{isWord, isSign, isOperand}
 
@@ -53,10 +53,10 @@ abbrev pub extentIf : Option Condition → Option Extent
 extentIf none = none
 extentIf (some c) = some (conditionExtent c)
 
-abbrev pub marginOf : Level → Margin
+abbrev pub marginOf : ConditionLevel → Margin
 marginOf l = margin (extentIf (l .or-left)) (extentIf (l .and-left)) (l .nots)
 
-abbrev pub marginsOf : List Level → List Margin
+abbrev pub marginsOf : List ConditionLevel → List Margin
 marginsOf [] = []
 marginsOf (l ∷ ls) = marginOf l ∷ marginsOf ls
 

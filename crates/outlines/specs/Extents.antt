@@ -5,7 +5,7 @@ use lib.ListN.{length}
 use Rattle.limits.specs.Limits.{longestProgram, deepestProgram}
 use Rattle.programs.specs.Program.{Condition, conditionBytes}
 use Rattle.programs.specs.Limits.{conditionNesting}
-use Rattle.notation.specs.Program.{Program}
+use Rattle.notation.specs.Program.{TextProgram}
 use Rattle.notation.specs.Limits.{sizeOf, nestingOf}
 
 pub record Extent : Type 0 where
@@ -19,7 +19,7 @@ abbrev pub conditionExtent : Condition → Extent
 conditionExtent c = extent (length (conditionBytes c)) (conditionNesting c)
 
 -- without the closing 0
-abbrev pub programExtent : Program → Extent
+abbrev pub programExtent : TextProgram → Extent
 programExtent p = extent (sizeOf p - 1) (nestingOf p)
 
 -- x = y

@@ -3,10 +3,10 @@ use mathlib.Core.Bool.{Bool, true, false, _&&_, _||_}
 use Prim.Native.Nat.{ℕ}
 use lib.Dec.{eqb}
 use Rattle.programs.specs.Limits.{Visit, isFirst, isSecond}
-use Rattle.notation.specs.Tokens.{plain, left, right, ECHO, ECHO-OFF, REJECT, Word, Sign}
+use Rattle.notation.specs.Tokens.{plain, left, right, ECHO, ECHO-OFF, REJECT, Keyword, Sign}
 use Rattle.lexemes.specs.Kinds.{markNumber, wordNumber, signNumber}
 
-abbrev pub isWord : Word → ℕ → Bool
+abbrev pub isWord : Keyword → ℕ → Bool
 isWord w k = eqb k (wordNumber w)
 
 abbrev pub isSign : Sign → ℕ → Bool

@@ -6,9 +6,9 @@ use mathlib.Core.Option.{Option, none, some}
 use Prim.Native.Nat.{ℕ, suc}
 use Rattle.programs.specs.Limits.{Visit}
 use Rattle.notation.specs.Limits.{sizeOf, nestingOf, ProgramWithin}
-use Rattle.notation.specs.Tokens.{Token}
+use Rattle.notation.specs.Tokens.{TextToken}
 use Rattle.reading.specs.Statements.{Listing, listStart, stepStatements, valueOfList, finishedList}
-use Rattle.lexemes.specs.Kinds.{kindOf, TokenFits}
+use Rattle.lexemes.specs.Kinds.{tokenKind, TokenFits}
 use Rattle.outlines.specs.Extents.{Extent, ExtentWithin}
 use Rattle.outlines.specs.Statements.{Outline, outline, stepOutline, endsHere, finished, outlineStart}
 
@@ -25,7 +25,7 @@ StartsAlike = outline listStart ≡ outlineStart
 
 -- a token is taken or refused by its kind alone, and leads to the outline of where the machine goes
 abbrev pub StepsAlike : Type 0
-StepsAlike = (v : Visit) (q : Listing) (t : Token) → TokenFits t → stepOutline v (outline q) (kindOf t) ≡ outlineIf (stepStatements v q t)
+StepsAlike = (v : Visit) (q : Listing) (t : TextToken) → TokenFits t → stepOutline v (outline q) (tokenKind t) ≡ outlineIf (stepStatements v q t)
 
 abbrev pub EndsAlike : Type 0
 EndsAlike = (q : Listing) → endsHere (outline q) ≡ given (valueOfList q)
@@ -34,7 +34,7 @@ abbrev pub SizesAlike : Type 0
 SizesAlike = (q : Listing) → (sizeOf (finishedList q) ≡ suc (finished (outline q) .bytes)) × (nestingOf (finishedList q) ≡ finished (outline q) .nested)
 
 -- the machine takes a token and keeps the limits
-pub record MachineKeeps (v : Visit) (q : Listing) (t : Token) (q′ : Listing) : Type 0 where
+pub record MachineKeeps (v : Visit) (q : Listing) (t : TextToken) (q′ : Listing) : Type 0 where
   pub taken : stepStatements v q t ≡ some q′
   pub within : ProgramWithin (finishedList q′)
 
@@ -44,6 +44,6 @@ pub record OutlineKeeps (v : Visit) (o : Outline) (k : ℕ) (o′ : Outline) : T
   pub within : ExtentWithin (finished o′)
 
 abbrev pub KeepsAlike : Type 0
-KeepsAlike = (v : Visit) (q : Listing) (t : Token) → TokenFits t →
-    ((q′ : Listing) → MachineKeeps v q t q′ → OutlineKeeps v (outline q) (kindOf t) (outline q′))
-    × ((o : Outline) → OutlineKeeps v (outline q) (kindOf t) o → (q′ : Listing) × MachineKeeps v q t q′ × (o ≡ outline q′))
+KeepsAlike = (v : Visit) (q : Listing) (t : TextToken) → TokenFits t →
+    ((q′ : Listing) → MachineKeeps v q t q′ → OutlineKeeps v (outline q) (tokenKind t) (outline q′))
+    × ((o : Outline) → OutlineKeeps v (outline q) (tokenKind t) o → (q′ : Listing) × MachineKeeps v q t q′ × (o ≡ outline q′))

@@ -18,11 +18,11 @@ InBranch (among b ∷ ls) = ⊥
 InBranch (then-of c ∷ ls) = Unit {0}
 InBranch (else-of c q ∷ ls) = Unit {0}
 
-abbrev pub Firm : List Layer → Type 0
-Firm [] = Unit {0}
-Firm (among b ∷ ls) = InBranch ls × Firm ls
-Firm (then-of c ∷ ls) = Firm ls
-Firm (else-of c q ∷ ls) = Firm ls
+abbrev pub FirmLayers : List Layer → Type 0
+FirmLayers [] = Unit {0}
+FirmLayers (among b ∷ ls) = InBranch ls × FirmLayers ls
+FirmLayers (then-of c ∷ ls) = FirmLayers ls
+FirmLayers (else-of c q ∷ ls) = FirmLayers ls
 
 -- a list opens with nothing before it; a branch is an if's
 abbrev pub PlaceFirm : Place → List Layer → Type 0
@@ -50,8 +50,8 @@ StageFirm at-item ls = Unit {0}
 StageFirm (in-condition r) ls = ConditionFirm r
 StageFirm (past b p) ls = Unit {0}
 
-pub record Sound (o : Outline) : Type 0 where
-  pub firm : Firm (o .layers)
+pub record SoundOutline (o : Outline) : Type 0 where
+  pub firm : FirmLayers (o .layers)
   pub stage-firm : StageFirm (o .stage) (o .layers)
 
 -- every part has at most so many bytes, and nests at most so deep
@@ -102,20 +102,20 @@ abbrev pub mostLayers : ℕ
 mostLayers = 17
 
 abbrev pub StartsSound : Type 0
-StartsSound = Sound outlineStart
+StartsSound = SoundOutline outlineStart
 
 abbrev pub StaysSound : Type 0
-StaysSound = (v : Visit) (o o′ : Outline) (k : ℕ) → Sound o → stepOutline v o k ≡ some o′ → Sound o′
+StaysSound = (v : Visit) (o o′ : Outline) (k : ℕ) → SoundOutline o → stepOutline v o k ≡ some o′ → SoundOutline o′
 
 abbrev pub FewLayers : Type 0
-FewLayers = (o : Outline) → Sound o → ExtentWithin (finished o) → length (o .layers) ≤ mostLayers
+FewLayers = (o : Outline) → SoundOutline o → ExtentWithin (finished o) → length (o .layers) ≤ mostLayers
 
 -- where the limits are kept no part is longer than a program, and a step more makes none that is much longer
 abbrev pub SmallParts : Type 0
-SmallParts = (o : Outline) → Sound o → ExtentWithin (finished o) → PartsUnder 255 o
+SmallParts = (o : Outline) → SoundOutline o → ExtentWithin (finished o) → PartsUnder 255 o
 
 abbrev pub PartsStaySmall : Type 0
-PartsStaySmall = (v : Visit) (o o′ : Outline) (k : ℕ) → Sound o → ExtentWithin (finished o) → stepOutline v o k ≡ some o′ → PartsUnder 1000 o′
+PartsStaySmall = (v : Visit) (o o′ : Outline) (k : ℕ) → SoundOutline o → ExtentWithin (finished o) → stepOutline v o k ≡ some o′ → PartsUnder 1000 o′
 
 abbrev pub OneLayerMore : Type 0
 OneLayerMore = (v : Visit) (o o′ : Outline) (k : ℕ) → stepOutline v o k ≡ some o′ → length (o′ .layers) ≤ suc (length (o .layers))

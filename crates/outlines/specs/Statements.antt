@@ -5,7 +5,7 @@ use mathlib.Core.List.{List, [], _∷_}
 use Prim.Native.Nat.{ℕ}
 use Rattle.programs.specs.Limits.{Visit}
 use Rattle.notation.specs.Tokens.{PRINT, IF, THEN, ELSE, BEGIN, END, ASSIGNED, SEMICOLON}
-use Rattle.reading.specs.Statements.{Pending, in-then, in-else, Level, Place, opening, separated, branching, Listing, wants, target, assigning, printing, testing, after}
+use Rattle.reading.specs.Statements.{Pending, in-then, in-else, ListLevel, Place, opening, separated, branching, Listing, wants, target, assigning, printing, testing, after}
 use Rattle.outlines.specs.Extents as extents
 use Rattle.outlines.specs.Extents.{Extent, conditionExtent, programExtent, vacant, unnested, inTurn}
 use Rattle.outlines.specs.Kinds.{isWord, isSign, isTarget, isOperand, isPlain, isShortItem, isLongItem}
@@ -68,7 +68,7 @@ abbrev pub layersOn : List Pending → List Layer → List Layer
 layersOn [] ls = ls
 layersOn (f ∷ fs) ls = layerOf f ∷ layersOn fs ls
 
-abbrev pub layersOf : List Level → List Layer
+abbrev pub layersOf : List ListLevel → List Layer
 layersOf [] = []
 layersOf (l ∷ ls) = layersOn (l .ifs) (among (programExtent (l .before)) ∷ layersOf ls)
 

@@ -24,7 +24,7 @@ use Rattle.tokens.proofs.Runs.{all-append}
 use Rattle.tokens.proofs.Reading.{utf8-most}
 use Rattle.tokens.proofs.Streams.{reads-flat}
 use Rattle.tokens.proofs.LineEnds.{no-cr-in, utf8-no-cr}
-use Rattle.output.specs.Escape.{escapedAs, escaped, Piece, start, end, character, asToken, asTokens, written, render, characters, text, PieceFits, AllFit, events, pieces, allPieces, NeverCR}
+use Rattle.output.specs.Escape.{escapedAs, escaped, Piece, start, end, character, asToken, asTokens, written, render, characters, text, PieceFits, AllFit, eventsFrom, pieces, allPieces, NeverCR}
 use Rattle.output.proofs.Writing.{each-token}
 
 -- each piece is written as a token of at most 32 bytes, whatever follows it
@@ -58,7 +58,7 @@ all-whole [] rest = tt
 all-whole (p ∷ ps) rest = (piece-whole p (render ps ++ rest), all-whole ps rest)
 
 -- Wherever our text stands in a stream, after p and before r, reading it gives the events of its pieces, and nothing else.
-pub reads-back : (ps : List Piece) (p r : List ℕ) → AllFit ps → Reads true (p ++ (render ps ++ r)) (length p) (events (length p) ps) (length p + length (render ps))
+pub reads-back : (ps : List Piece) (p r : List ℕ) → AllFit ps → Reads true (p ++ (render ps ++ r)) (length p) (eventsFrom (length p) ps) (length p + length (render ps))
 reads-back ps p r ok = reads-flat true (asTokens ps) p r (all-good ps ok) (all-short ps ok) (all-whole ps r)
 
 -- the event of a character that is read back: it is literal where it was written as it is
@@ -94,7 +94,7 @@ piece-back (end n) p r = ap (λ (l : List ℕ). end l ∷ []) (ap (λ (l : List 
 piece-back (character c) p r = ap (pieces (p ++ (escaped c ++ r))) (character-event (length p) c)
 
 -- What is read back are the same pieces, tags with their names.
-pub pieces-back : (ps : List Piece) (p r : List ℕ) → allPieces (p ++ (render ps ++ r)) (events (length p) ps) ≡ ps
+pub pieces-back : (ps : List Piece) (p r : List ℕ) → allPieces (p ++ (render ps ++ r)) (eventsFrom (length p) ps) ≡ ps
 pieces-back [] p r = refl
 pieces-back (q ∷ ps) p r =
     let w : List ℕ = written q in
@@ -102,14 +102,14 @@ pieces-back (q ∷ ps) p r =
     let e′ : (p ++ w) ++ (render ps ++ r) ≡ p ++ ((w ++ render ps) ++ r) = append-assoc p w (render ps ++ r) ∙ sym e in
     ap₂ (λ (x y : List Piece). x ++ y)
     (ap (λ (l : List ℕ). pieces l (eventOf (length p) (asToken q))) e ∙ piece-back q p (render ps ++ r))
-    (ap₂ (λ (l : List ℕ) (k : ℕ). allPieces l (events k ps)) (sym e′) (sym (length-append p w)) ∙ pieces-back ps (p ++ w) r)
+    (ap₂ (λ (l : List ℕ) (k : ℕ). allPieces l (eventsFrom k ps)) (sym e′) (sym (length-append p w)) ∙ pieces-back ps (p ++ w) r)
 
 -- Text is the case of characters alone: any text we write reads back as the same characters.
 pub characters-fit : (cs : List ℕ) → AllChar cs → AllFit (characters cs)
 characters-fit [] ok = tt
 characters-fit (c ∷ cs) ok = (ok .0, characters-fit cs (ok .1))
 
-characters-events : (at : ℕ) (cs : List ℕ) → events at (characters cs) ≡ map again cs
+characters-events : (at : ℕ) (cs : List ℕ) → eventsFrom at (characters cs) ≡ map again cs
 characters-events at [] = refl
 characters-events at (c ∷ cs) = ap₂ (λ (e : Event) (es : List Event). e ∷ es) (character-event at c) (characters-events (at + length (escaped c)) cs)
 

@@ -17,7 +17,7 @@ use Rattle.tokens.specs.declared.Answer.the-variants.{Token}
 use Rattle.tokens.specs.Tokens.{ref, lt, front, Means}
 use Rattle.tokens.specs.Stream.{Reads}
 use Rattle.tokens.proofs.Streams.{token-at}
-use Rattle.output.specs.Escape.{escapedAs, escaped, Piece, start, end, character, render, characters, AllFit, events, allPieces}
+use Rattle.output.specs.Escape.{escapedAs, escaped, Piece, start, end, character, render, characters, AllFit, eventsFrom, allPieces}
 use Rattle.output.proofs.ReadBack.{reads-back, pieces-back, characters-fit}
 
 -- title
@@ -66,14 +66,14 @@ unfolding quiz title guess escapedAs utf8
 quiz-text = refl
 
 pub quiz-back : (p r : List ℕ)
-    → Reads true (p ++ (render quiz ++ r)) (length p) (events (length p) quiz) (length p + length (render quiz)) × (allPieces (p ++ (render quiz ++ r)) (events (length p) quiz) ≡ quiz)
+    → Reads true (p ++ (render quiz ++ r)) (length p) (eventsFrom (length p) quiz) (length p + length (render quiz)) × (allPieces (p ++ (render quiz ++ r)) (eventsFrom (length p) quiz) ≡ quiz)
 unfolding quiz title guess plain
 quiz-back p r =
     (reads-back quiz p r ((title-name, omega arith), fit-append (characters guess) (end title ∷ []) (characters-fit guess (plain-chars guess refl)) ((title-name, omega arith), tt)), pieces-back quiz p r)
 
 -- An empty title is a start and an end, with no characters.
 pub empty-title : (render (start title ∷ end title ∷ []) ≡ 60 ∷ 116 ∷ 105 ∷ 116 ∷ 108 ∷ 101 ∷ 62 ∷ 60 ∷ 47 ∷ 116 ∷ 105 ∷ 116 ∷ 108 ∷ 101 ∷ 62 ∷ [])
-    × (events 0 (start title ∷ end title ∷ []) ≡ Start 1 5 ∷ End 9 5 ∷ [])
+    × (eventsFrom 0 (start title ∷ end title ∷ []) ≡ Start 1 5 ∷ End 9 5 ∷ [])
 unfolding title
 empty-title = (refl, refl)
 
@@ -84,6 +84,6 @@ reference-again = (token-at [] [] (ref lt) tt (omega arith) tt, refl)
 
 -- A CR that a reference names is written as a reference again; the LF after it is another character.
 pub cr-again : (render (character 13 ∷ character 10 ∷ []) ≡ 38 ∷ 35 ∷ 49 ∷ 51 ∷ 59 ∷ 10 ∷ [])
-    × (events 0 (character 13 ∷ character 10 ∷ []) ≡ Character 13 false ∷ Character 10 true ∷ [])
+    × (eventsFrom 0 (character 13 ∷ character 10 ∷ []) ≡ Character 13 false ∷ Character 10 true ∷ [])
 unfolding escapedAs utf8
 cr-again = (refl, refl)

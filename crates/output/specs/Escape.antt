@@ -74,8 +74,8 @@ AllFit [] = Unit {0}
 AllFit (p ∷ ps) = PieceFits p × AllFit ps
 
 -- the events of pieces that are written one after the other from `at` on
-abbrev pub events : ℕ → List Piece → List Event
-events at ps = eventsAt at (asTokens ps)
+abbrev pub eventsFrom : ℕ → List Piece → List Event
+eventsFrom at ps = eventsAt at (asTokens ps)
 
 -- what an event of the stream s stands for: a tag with the name that it points at, an empty tag being a start and an end; or a character
 abbrev pub pieces : List ℕ → Event → List Piece

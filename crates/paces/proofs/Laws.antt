@@ -15,7 +15,7 @@ use Rattle.sketches.specs.declared.Point.{Point}
 use Rattle.sketches.specs.Moves.{insideOf, outsideOf, moveAs, moveOf, wanted, dotted, barred, shut, backedBy, behindOperand, finishing, choice}
 use Rattle.sketches.specs.Figures.{beside, paren, lone, leftOf, bitOf, figure, surround, joinedIf, joinedTo, wholeIn, starredIf, sealedBy, heldIn, fronting, beyondIf, beyond, innerOf}
 use Rattle.paces.specs.Small.{tight, SmallFigure, SmallParen, SmallPoint}
-use Rattle.paces.specs.Made.{BitIs, JoinedIs, WholeIs, SealedIs, HeldIs, FrontingIs, BeyondIs}
+use Rattle.paces.specs.Made.{BitIs, JoinedIs, WholeIs, FigureSealedIs, HeldIs, FrontingIs, BeyondIs}
 
 pub joined-there : (b : Beside) (e : Figure) (m : ℕ) → b .there ≡ true → m ≡ max (b .depth) (e .depth) → JoinedIs b e (figure (b .nodes + e .nodes + 1) (m + 1) false false)
 joined-there b e m h i = record {
@@ -24,16 +24,16 @@ joined-there b e m h i = record {
   depth = omega (arith, i);
 }
 
-pub sealed-twice : (b : Bool) (e : Figure) → b ≡ true → e .first ≡ true → SealedIs b e (figure (e .nodes + 1) (e .depth + 1) true false)
+pub sealed-twice : (b : Bool) (e : Figure) → b ≡ true → e .first ≡ true → FigureSealedIs b e (figure (e .nodes + 1) (e .depth + 1) true false)
 sealed-twice b e h i = record { same = sym (ap (λ x. sealedBy x e) h ∙ ap (λ x. starredIf x e) i); nodes = omega arith; depth = omega arith }
 
-pub sealed-once : (b : Bool) (e : Figure) → b ≡ true → e .first ≡ false → SealedIs b e (figure (e .nodes) (e .depth) true (e .second))
+pub sealed-once : (b : Bool) (e : Figure) → b ≡ true → e .first ≡ false → FigureSealedIs b e (figure (e .nodes) (e .depth) true (e .second))
 sealed-once b e h i = record { same = sym (ap (λ x. sealedBy x e) h ∙ ap (λ x. starredIf x e) i); nodes = omega arith; depth = omega arith }
 
 pub whole-of : (p : Paren) (e c u : Figure) → JoinedIs (p .cat) e c → JoinedIs (p .union) c u → WholeIs p e u
 whole-of p e c u h i = record { same = i .same ∙ ap (joinedTo (p .union)) (h .same); nodes = omega arith; depth = omega arith }
 
-pub held-of : (p : Paren) (e w r : Figure) → WholeIs p e w → SealedIs (p .before) w r → HeldIs p e r
+pub held-of : (p : Paren) (e w r : Figure) → WholeIs p e w → FigureSealedIs (p .before) w r → HeldIs p e r
 held-of p e w r h i = record { same = i .same ∙ ap (sealedBy (p .before)) (h .same); nodes = omega arith; depth = omega arith }
 
 pub fronting-there : (b : Bool) (m : Surround) (s : ℕ) → b ≡ true → BitIs true (m .star) s → FrontingIs b m (surround (m .nodes + s) (m .depth + s) (m .least) true)

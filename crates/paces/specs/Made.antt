@@ -22,7 +22,7 @@ pub record WholeIs (p : Paren) (e r : Figure) : Type 0 where
   pub nodes : r .nodes ≤ p .union .nodes + p .cat .nodes + e .nodes + 2
   pub depth : r .depth ≤ p .union .depth + p .cat .depth + e .depth + 2
 
-pub record SealedIs (before : Bool) (e r : Figure) : Type 0 where
+pub record FigureSealedIs (before : Bool) (e r : Figure) : Type 0 where
   pub same : r ≡ sealedBy before e
   pub nodes : r .nodes ≤ e .nodes + 1
   pub depth : r .depth ≤ e .depth + 1

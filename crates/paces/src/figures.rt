@@ -2,7 +2,7 @@
 ghost use mathlib.Core.Path.{_≡_};
 ghost use Rattle.sketches.specs.Figures.{nodesWith, depthWith, innerOf};
 ghost use Rattle.paces.specs.Small.{tight, loose, vast, SmallFigure, SmallBeside, SmallSurround, SmallParen};
-ghost use Rattle.paces.specs.Made.{BitIs, JoinedIs, WholeIs, SealedIs, HeldIs, FrontingIs, BeyondIs};
+ghost use Rattle.paces.specs.Made.{BitIs, JoinedIs, WholeIs, FigureSealedIs, HeldIs, FrontingIs, BeyondIs};
 
 // Joined to what stands to the left.
 pub fn joined(b: sketches::Beside, e: sketches::Figure) -> sketches::Figure
@@ -34,7 +34,7 @@ pub fn whole(p: sketches::Paren, e: sketches::Figure) -> sketches::Figure
 // With the program in front, where a star makes room for a second one.
 pub fn sealed(before: bool, e: sketches::Figure) -> sketches::Figure
     requires { ⌜ SmallFigure vast e ⌝ }
-    ensures { λ r. ⌜ SealedIs before e r ⌝ }
+    ensures { λ r. ⌜ FigureSealedIs before e r ⌝ }
 {
     if before {
         if e.first {

@@ -11,10 +11,10 @@ use Rattle.programs.specs.Section.{FieldIs}
 use Rattle.layout.specs.Layout.{nodeOffset}
 use Rattle.layout.specs.Records.{kindOf, argumentOf, firstProgramOfNode, secondProgramOfNode}
 use Rattle.trees.specs.Trees.{TreeAt}
-use Rattle.sheet.specs.Fields.{Visits as SheetVisits, FieldsAre}
+use Rattle.sheet.specs.Fields.{Visits, FieldsAre}
 use Rattle.sheet.specs.Sheet.{From, NodeIs}
-use Rattle.notation.specs.Program.{Program}
-use Rattle.notation.specs.Rules.{Visits, Tree, node, Form, atom, cat, alt, star, empty, expression, expressionOf, visits, visitsOf, contentOf, visitsIn, Rules}
+use Rattle.notation.specs.Program.{TextProgram}
+use Rattle.notation.specs.Rules.{TextVisits, Tree, node, Form, atom, cat, alt, star, empty, expression, expressionOf, visits, visitsOf, contentInside, visitsInside, Rules}
 use Rattle.encoding.specs.Mentions.{inBraces, inTree, inForm, inContent}
 use Rattle.encoding.specs.Encoded.{Room, maybe, bothOf, each, sheetOf}
 use Rattle.encoding.specs.Keeps.{ProgramKeeps, VisitsKeep, AllKeep}
@@ -43,19 +43,19 @@ mutual
   form-length r (star e) = omega (arith, tree-length r e)
   form-length r empty = refl
 
-pub content-length : (r : Rules) (o : Option Tree) → length (contentBytes r o) ≡ 6 * nodesOf (contentOf o)
+pub content-length : (r : Rules) (o : Option Tree) → length (contentBytes r o) ≡ 6 * nodesOf (contentInside o)
 content-length r none = refl
 content-length r (some e) = tree-length r e
 
-each-append : (r : Rules) (us ws : List Visits) → each r (us ++ ws) ≡ each r us ++ each r ws
+each-append : (r : Rules) (us ws : List TextVisits) → each r (us ++ ws) ≡ each r us ++ each r ws
 each-append r [] ws = refl
 each-append r (u ∷ us) ws = ap (λ l. bothOf r u ∷ l) (each-append r us ws)
 
-pub keep-front : (r : Rules) (us ws : List Visits) → AllKeep (sheetOf r) (each r (us ++ ws)) → AllKeep (sheetOf r) (each r us)
+pub keep-front : (r : Rules) (us ws : List TextVisits) → AllKeep (sheetOf r) (each r (us ++ ws)) → AllKeep (sheetOf r) (each r us)
 keep-front r [] ws h = tt
 keep-front r (u ∷ us) ws h = (h .0, keep-front r us ws (h .1))
 
-pub keep-back : (r : Rules) (us ws : List Visits) → AllKeep (sheetOf r) (each r (us ++ ws)) → AllKeep (sheetOf r) (each r ws)
+pub keep-back : (r : Rules) (us ws : List TextVisits) → AllKeep (sheetOf r) (each r (us ++ ws)) → AllKeep (sheetOf r) (each r ws)
 keep-back r [] ws h = h
 keep-back r (u ∷ us) ws h = keep-back r us ws (h .1)
 
@@ -73,7 +73,7 @@ module _ (r : Rules) (room : Room r) (s : List ℕ) where
   nodes-behind i c l m e h = here-at s (nodeOffset s + 6 * i + 6 * c) (nodeOffset s + 6 * (i + c)) m (six-more (nodeOffset s) i c) (here-behind s (nodeOffset s + 6 * i) (6 * c) l m e h)
 
   -- the two fields of a node
-  fields-at : (f g : Option Program) (k : Form) (i : ℕ) → NodesFrom i (nodeRecord r f g k) → VisitsKeep (sheetOf r) (bothOf r (record { first-visit = f; second-visit = g })) → Holds r (inBraces f) → Holds r (inBraces g)
+  fields-at : (f g : Option TextProgram) (k : Form) (i : ℕ) → NodesFrom i (nodeRecord r f g k) → VisitsKeep (sheetOf r) (bothOf r (record { first-visit = f; second-visit = g })) → Holds r (inBraces f) → Holds r (inBraces g)
       → NodeIs s (storedPrograms r) i (bothOf r (record { first-visit = f; second-visit = g }))
   fields-at f g k i h v a b = record {
     first-is = subst (λ n. FieldIs (storedPrograms r) first n (maybe r f)) (sym (here-word s (nodeOffset s + 6 * i) (nodeRecord r f g k) h 2 (omega arith) ∙ two-bytes (field r f))) (field-is r room first f (v .0) a);

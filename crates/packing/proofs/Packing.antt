@@ -18,16 +18,16 @@ use Rattle.sheet.specs.Productions.{Productions}
 use Rattle.sheet.specs.Fields.{Programs}
 use Rattle.sheet.specs.Grounded.{Grounded}
 use Rattle.sheet.specs.Defect.{DefectIs, well-formed, its-size, its-sections, a-tag, a-production, a-tree, a-program, not-grounded}
-use Rattle.sheet.specs.Sheet.{Rule as SheetRule, Sheet, From, NodeIs, RuleAt, IsSheet}
+use Rattle.sheet.specs.Sheet.{Rule, Sheet, From, NodeIs, RuleAt, IsSheet}
 use Rattle.sheet.proofs.SheetLaws.{one-name}
-use Rattle.notation.specs.Rules.{Visits, Tree, node, Form, atom, cat, alt, star, empty, visits, visitsOf, visitsIn, Rule, Rules}
+use Rattle.notation.specs.Rules.{TextVisits, Tree, node, Form, atom, cat, alt, star, empty, visits, visitsOf, visitsInside, TextRule, Rules}
 use Rattle.notation.specs.Limits.{nodesInAll}
-use Rattle.notation.specs.Tokens.{Token, TagName}
+use Rattle.notation.specs.Tokens.{TextToken, TagName}
 use Rattle.notation.specs.Productions.{ProductionsAre, one, more, RulesAre, start-alone, start-first}
 use Rattle.notation.specs.RuleText.{RuleText}
 use Rattle.encoding.specs.Mentions.{inBraces, inTree, inForm, inContent, inRule, inRules}
 use Rattle.encoding.specs.Distinct.{equal, has, AllDifferent, run-together}
-use Rattle.encoding.specs.Encoded.{tagsOf, stringsOf, programsOf, Room, each, rulesOf, sheetOf}
+use Rattle.encoding.specs.Encoded.{tagsStored, stringsStored, programsStored, Room, each, rulesOf, sheetOf}
 use Rattle.encoding.specs.Keeps.{AllNames, AllKeep, RuleKeeps, EachKeeps, SheetKeeps}
 use Rattle.encoding.specs.Sound.{AllSound}
 use Rattle.encoding.proofs.Sound.{rules-sound}
@@ -54,11 +54,11 @@ module _ (r : Rules) where
     good-form (star e) h = good-tree e h
     good-form empty h = tt
 
-  good-content : (o : Option Tree) → AllKeep (sheetOf r) (each r (visitsIn o)) → Good r (inContent o)
+  good-content : (o : Option Tree) → AllKeep (sheetOf r) (each r (visitsInside o)) → Good r (inContent o)
   good-content none h = tt
   good-content (some e) h = good-tree e h
 
-  good-rules : (ds : List Rule) → EachKeeps (sheetOf r) (rulesOf r ds) → Good r (inRules ds)
+  good-rules : (ds : List TextRule) → EachKeeps (sheetOf r) (rulesOf r ds) → Good r (inRules ds)
   good-rules [] h = tt
   good-rules (d ∷ ds) h =
       good-append r (inRule d) (inRules ds)
@@ -136,60 +136,60 @@ tags-are s ns h d = record {
 
 -- where each section lies
 module _ (r : Rules) (room : Room r) (keeps : SheetKeeps (sheetOf r)) (sound : AllSound (r .productions)) (s : List ℕ)
-    (is : s ≡ tagsSection (tagsOf r) ++ (productionsSection r 0 (r .productions) ++ (nodesSection r (r .productions) ++ (run-together (programsOf r) ++ (run-together (stringsOf r) ++ trailerOf r))))) where
-  tags-there : Here s 0 (tagsSection (tagsOf r) ++ (productionsSection r 0 (r .productions) ++ (nodesSection r (r .productions) ++ (run-together (programsOf r) ++ (run-together (stringsOf r) ++ trailerOf r)))))
-  tags-there = record { front = []; back = []; are = is ∙ sym (append-nil (tagsSection (tagsOf r) ++ (productionsSection r 0 (r .productions) ++ (nodesSection r (r .productions) ++ (run-together (programsOf r) ++ (run-together (stringsOf r) ++ trailerOf r)))))); placed = refl }
+    (is : s ≡ tagsSection (tagsStored r) ++ (productionsSection r 0 (r .productions) ++ (nodesSection r (r .productions) ++ (run-together (programsStored r) ++ (run-together (stringsStored r) ++ trailerOf r))))) where
+  tags-there : Here s 0 (tagsSection (tagsStored r) ++ (productionsSection r 0 (r .productions) ++ (nodesSection r (r .productions) ++ (run-together (programsStored r) ++ (run-together (stringsStored r) ++ trailerOf r)))))
+  tags-there = record { front = []; back = []; are = is ∙ sym (append-nil (tagsSection (tagsStored r) ++ (productionsSection r 0 (r .productions) ++ (nodesSection r (r .productions) ++ (run-together (programsStored r) ++ (run-together (stringsStored r) ++ trailerOf r)))))); placed = refl }
 
-  productions-there : Here s (16 * length (tagsOf r)) (productionsSection r 0 (r .productions) ++ (nodesSection r (r .productions) ++ (run-together (programsOf r) ++ (run-together (stringsOf r) ++ trailerOf r))))
-  productions-there = here-at s (0 + 16 * length (tagsOf r)) (16 * length (tagsOf r)) (productionsSection r 0 (r .productions) ++ (nodesSection r (r .productions) ++ (run-together (programsOf r) ++ (run-together (stringsOf r) ++ trailerOf r)))) (from-zero 0 (16 * length (tagsOf r)) refl) (here-behind s 0 (16 * length (tagsOf r)) (tagsSection (tagsOf r)) (productionsSection r 0 (r .productions) ++ (nodesSection r (r .productions) ++ (run-together (programsOf r) ++ (run-together (stringsOf r) ++ trailerOf r)))) (tags-length (tagsOf r) (keeps .names)) tags-there)
+  productions-there : Here s (16 * length (tagsStored r)) (productionsSection r 0 (r .productions) ++ (nodesSection r (r .productions) ++ (run-together (programsStored r) ++ (run-together (stringsStored r) ++ trailerOf r))))
+  productions-there = here-at s (0 + 16 * length (tagsStored r)) (16 * length (tagsStored r)) (productionsSection r 0 (r .productions) ++ (nodesSection r (r .productions) ++ (run-together (programsStored r) ++ (run-together (stringsStored r) ++ trailerOf r)))) (from-zero 0 (16 * length (tagsStored r)) refl) (here-behind s 0 (16 * length (tagsStored r)) (tagsSection (tagsStored r)) (productionsSection r 0 (r .productions) ++ (nodesSection r (r .productions) ++ (run-together (programsStored r) ++ (run-together (stringsStored r) ++ trailerOf r)))) (tags-length (tagsStored r) (keeps .names)) tags-there)
 
-  nodes-there : Here s (16 * length (tagsOf r) + 12 * length (r .productions)) (nodesSection r (r .productions) ++ (run-together (programsOf r) ++ (run-together (stringsOf r) ++ trailerOf r)))
-  nodes-there = here-behind s (16 * length (tagsOf r)) (12 * length (r .productions)) (productionsSection r 0 (r .productions)) (nodesSection r (r .productions) ++ (run-together (programsOf r) ++ (run-together (stringsOf r) ++ trailerOf r))) (productions-length r 0 (r .productions)) productions-there
+  nodes-there : Here s (16 * length (tagsStored r) + 12 * length (r .productions)) (nodesSection r (r .productions) ++ (run-together (programsStored r) ++ (run-together (stringsStored r) ++ trailerOf r)))
+  nodes-there = here-behind s (16 * length (tagsStored r)) (12 * length (r .productions)) (productionsSection r 0 (r .productions)) (nodesSection r (r .productions) ++ (run-together (programsStored r) ++ (run-together (stringsStored r) ++ trailerOf r))) (productions-length r 0 (r .productions)) productions-there
 
-  programs-there : Here s (16 * length (tagsOf r) + 12 * length (r .productions) + 6 * nodesInAll (r .productions)) (run-together (programsOf r) ++ (run-together (stringsOf r) ++ trailerOf r))
-  programs-there = here-behind s (16 * length (tagsOf r) + 12 * length (r .productions)) (6 * nodesInAll (r .productions)) (nodesSection r (r .productions)) (run-together (programsOf r) ++ (run-together (stringsOf r) ++ trailerOf r)) (nodes-length r (r .productions)) nodes-there
+  programs-there : Here s (16 * length (tagsStored r) + 12 * length (r .productions) + 6 * nodesInAll (r .productions)) (run-together (programsStored r) ++ (run-together (stringsStored r) ++ trailerOf r))
+  programs-there = here-behind s (16 * length (tagsStored r) + 12 * length (r .productions)) (6 * nodesInAll (r .productions)) (nodesSection r (r .productions)) (run-together (programsStored r) ++ (run-together (stringsStored r) ++ trailerOf r)) (nodes-length r (r .productions)) nodes-there
 
-  strings-there : Here s (16 * length (tagsOf r) + 12 * length (r .productions) + 6 * nodesInAll (r .productions) + length (run-together (programsOf r))) (run-together (stringsOf r) ++ trailerOf r)
-  strings-there = here-behind s (16 * length (tagsOf r) + 12 * length (r .productions) + 6 * nodesInAll (r .productions)) (length (run-together (programsOf r))) (run-together (programsOf r)) (run-together (stringsOf r) ++ trailerOf r) refl programs-there
+  strings-there : Here s (16 * length (tagsStored r) + 12 * length (r .productions) + 6 * nodesInAll (r .productions) + length (run-together (programsStored r))) (run-together (stringsStored r) ++ trailerOf r)
+  strings-there = here-behind s (16 * length (tagsStored r) + 12 * length (r .productions) + 6 * nodesInAll (r .productions)) (length (run-together (programsStored r))) (run-together (programsStored r)) (run-together (stringsStored r) ++ trailerOf r) refl programs-there
 
-  trailer-there : Here s (16 * length (tagsOf r) + 12 * length (r .productions) + 6 * nodesInAll (r .productions) + length (run-together (programsOf r)) + length (run-together (stringsOf r))) (trailerOf r)
-  trailer-there = here-behind s (16 * length (tagsOf r) + 12 * length (r .productions) + 6 * nodesInAll (r .productions) + length (run-together (programsOf r))) (length (run-together (stringsOf r))) (run-together (stringsOf r)) (trailerOf r) refl strings-there
+  trailer-there : Here s (16 * length (tagsStored r) + 12 * length (r .productions) + 6 * nodesInAll (r .productions) + length (run-together (programsStored r)) + length (run-together (stringsStored r))) (trailerOf r)
+  trailer-there = here-behind s (16 * length (tagsStored r) + 12 * length (r .productions) + 6 * nodesInAll (r .productions) + length (run-together (programsStored r))) (length (run-together (stringsStored r))) (run-together (stringsStored r)) (trailerOf r) refl strings-there
 
-  counted : length s ≡ 16 * length (tagsOf r) + 12 * length (r .productions) + 6 * nodesInAll (r .productions) + length (run-together (programsOf r)) + length (run-together (stringsOf r)) + 24
-  counted = ap length is ∙ simp length-append (omega (arith, tags-length (tagsOf r) (keeps .names), productions-length r 0 (r .productions), nodes-length r (r .productions)))
+  counted : length s ≡ 16 * length (tagsStored r) + 12 * length (r .productions) + 6 * nodesInAll (r .productions) + length (run-together (programsStored r)) + length (run-together (stringsStored r)) + 24
+  counted = ap length is ∙ simp length-append (omega (arith, tags-length (tagsStored r) (keeps .names), productions-length r 0 (r .productions), nodes-length r (r .productions)))
 
   trailer-at : Here s (length s - 24) (trailerOf r)
-  trailer-at = here-at s (16 * length (tagsOf r) + 12 * length (r .productions) + 6 * nodesInAll (r .productions) + length (run-together (programsOf r)) + length (run-together (stringsOf r))) (length s - 24) (trailerOf r) (omega (arith, counted)) trailer-there
+  trailer-at = here-at s (16 * length (tagsStored r) + 12 * length (r .productions) + 6 * nodesInAll (r .productions) + length (run-together (programsStored r)) + length (run-together (stringsStored r))) (length s - 24) (trailerOf r) (omega (arith, counted)) trailer-there
 
   tag-offset-is : tagOffset s ≡ 0
   tag-offset-is = here-word s (length s - 24) (trailerOf r) trailer-at 0 (omega arith) ∙ two-bytes (0)
 
-  tag-count-is : tagCount s ≡ length (tagsOf r)
-  tag-count-is = here-word s (length s - 24) (trailerOf r) trailer-at 2 (omega arith) ∙ two-bytes (length (tagsOf r))
+  tag-count-is : tagCount s ≡ length (tagsStored r)
+  tag-count-is = here-word s (length s - 24) (trailerOf r) trailer-at 2 (omega arith) ∙ two-bytes (length (tagsStored r))
 
-  production-offset-is : productionOffset s ≡ 16 * length (tagsOf r)
-  production-offset-is = here-word s (length s - 24) (trailerOf r) trailer-at 4 (omega arith) ∙ two-bytes (16 * length (tagsOf r))
+  production-offset-is : productionOffset s ≡ 16 * length (tagsStored r)
+  production-offset-is = here-word s (length s - 24) (trailerOf r) trailer-at 4 (omega arith) ∙ two-bytes (16 * length (tagsStored r))
 
   production-count-is : productionCount s ≡ length (r .productions)
   production-count-is = here-word s (length s - 24) (trailerOf r) trailer-at 6 (omega arith) ∙ two-bytes (length (r .productions))
 
-  node-offset-is : nodeOffset s ≡ 16 * length (tagsOf r) + 12 * length (r .productions)
-  node-offset-is = here-word s (length s - 24) (trailerOf r) trailer-at 8 (omega arith) ∙ two-bytes (16 * length (tagsOf r) + 12 * length (r .productions))
+  node-offset-is : nodeOffset s ≡ 16 * length (tagsStored r) + 12 * length (r .productions)
+  node-offset-is = here-word s (length s - 24) (trailerOf r) trailer-at 8 (omega arith) ∙ two-bytes (16 * length (tagsStored r) + 12 * length (r .productions))
 
   node-count-is : nodeCount s ≡ nodesInAll (r .productions)
   node-count-is = here-word s (length s - 24) (trailerOf r) trailer-at 10 (omega arith) ∙ two-bytes (nodesInAll (r .productions))
 
-  program-offset-is : programOffset s ≡ 16 * length (tagsOf r) + 12 * length (r .productions) + 6 * nodesInAll (r .productions)
-  program-offset-is = here-word s (length s - 24) (trailerOf r) trailer-at 12 (omega arith) ∙ two-bytes (16 * length (tagsOf r) + 12 * length (r .productions) + 6 * nodesInAll (r .productions))
+  program-offset-is : programOffset s ≡ 16 * length (tagsStored r) + 12 * length (r .productions) + 6 * nodesInAll (r .productions)
+  program-offset-is = here-word s (length s - 24) (trailerOf r) trailer-at 12 (omega arith) ∙ two-bytes (16 * length (tagsStored r) + 12 * length (r .productions) + 6 * nodesInAll (r .productions))
 
-  program-length-is : programLength s ≡ length (run-together (programsOf r))
-  program-length-is = here-word s (length s - 24) (trailerOf r) trailer-at 14 (omega arith) ∙ two-bytes (length (run-together (programsOf r)))
+  program-length-is : programLength s ≡ length (run-together (programsStored r))
+  program-length-is = here-word s (length s - 24) (trailerOf r) trailer-at 14 (omega arith) ∙ two-bytes (length (run-together (programsStored r)))
 
-  string-offset-is : stringOffset s ≡ 16 * length (tagsOf r) + 12 * length (r .productions) + 6 * nodesInAll (r .productions) + length (run-together (programsOf r))
-  string-offset-is = here-word s (length s - 24) (trailerOf r) trailer-at 16 (omega arith) ∙ two-bytes (16 * length (tagsOf r) + 12 * length (r .productions) + 6 * nodesInAll (r .productions) + length (run-together (programsOf r)))
+  string-offset-is : stringOffset s ≡ 16 * length (tagsStored r) + 12 * length (r .productions) + 6 * nodesInAll (r .productions) + length (run-together (programsStored r))
+  string-offset-is = here-word s (length s - 24) (trailerOf r) trailer-at 16 (omega arith) ∙ two-bytes (16 * length (tagsStored r) + 12 * length (r .productions) + 6 * nodesInAll (r .productions) + length (run-together (programsStored r)))
 
-  string-length-is : stringLength s ≡ length (run-together (stringsOf r))
-  string-length-is = here-word s (length s - 24) (trailerOf r) trailer-at 18 (omega arith) ∙ two-bytes (length (run-together (stringsOf r)))
+  string-length-is : stringLength s ≡ length (run-together (stringsStored r))
+  string-length-is = here-word s (length s - 24) (trailerOf r) trailer-at 18 (omega arith) ∙ two-bytes (length (run-together (stringsStored r)))
 
   start-is : start s ≡ r .start
   start-is = here-word s (length s - 24) (trailerOf r) trailer-at 20 (omega arith) ∙ two-bytes (r .start)
@@ -200,8 +200,8 @@ module _ (r : Rules) (room : Room r) (keeps : SheetKeeps (sheetOf r)) (sound : A
   all-laid : From (Laid s r) 0 (0 + length (r .productions)) (rulesOf r (r .productions)) × (nodesBefore s (0 + length (r .productions)) ≡ 0 + nodesInAll (r .productions)) × From (NodeIs s (storedPrograms r)) 0 (0 + nodesInAll (r .productions)) (allVisits r (r .productions))
   all-laid =
       rules-at r room s tag-count-is 0 0 (r .productions)
-      (here-at s (16 * length (tagsOf r)) (productionOffset s + 12 * 0) (productionsSection r 0 (r .productions)) (omega (arith, production-offset-is)) (here-front s (16 * length (tagsOf r)) (productionsSection r 0 (r .productions)) _ productions-there))
-      (here-at s (16 * length (tagsOf r) + 12 * length (r .productions)) (nodeOffset s + 6 * 0) (nodesSection r (r .productions)) (omega (arith, node-offset-is)) (here-front s (16 * length (tagsOf r) + 12 * length (r .productions)) (nodesSection r (r .productions)) _ nodes-there))
+      (here-at s (16 * length (tagsStored r)) (productionOffset s + 12 * 0) (productionsSection r 0 (r .productions)) (omega (arith, production-offset-is)) (here-front s (16 * length (tagsStored r)) (productionsSection r 0 (r .productions)) _ productions-there))
+      (here-at s (16 * length (tagsStored r) + 12 * length (r .productions)) (nodeOffset s + 6 * 0) (nodesSection r (r .productions)) (omega (arith, node-offset-is)) (here-front s (16 * length (tagsStored r) + 12 * length (r .productions)) (nodesSection r (r .productions)) _ nodes-there))
       refl sound (keeps .rules) (holds-all r)
 
   laid : From (Laid s r) 0 (productionCount s) (rulesOf r (r .productions))
@@ -210,18 +210,18 @@ module _ (r : Rules) (room : Room r) (keeps : SheetKeeps (sheetOf r)) (sound : A
   noded : From (NodeIs s (storedPrograms r)) 0 (nodeCount s) (allVisits r (r .productions))
   noded = from-to (NodeIs s (storedPrograms r)) 0 (0 + nodesInAll (r .productions)) (nodeCount s) (allVisits r (r .productions)) (omega (arith, node-count-is)) (all-laid .2)
 
-  strings-are : run-together (stringsOf r) ≡ stringsIn s
+  strings-are : run-together (stringsStored r) ≡ stringsIn s
   strings-are =
       sym (ap₂ (λ n o. take n (drop o s)) string-length-is string-offset-is
-      ∙ here-cut s (16 * length (tagsOf r) + 12 * length (r .productions) + 6 * nodesInAll (r .productions) + length (run-together (programsOf r))) (length (run-together (stringsOf r))) (run-together (stringsOf r)) refl (here-front s _ (run-together (stringsOf r)) (trailerOf r) strings-there))
+      ∙ here-cut s (16 * length (tagsStored r) + 12 * length (r .productions) + 6 * nodesInAll (r .productions) + length (run-together (programsStored r))) (length (run-together (stringsStored r))) (run-together (stringsStored r)) refl (here-front s _ (run-together (stringsStored r)) (trailerOf r) strings-there))
 
-  programs-fill : programsIn s ≡ run-together (programsOf r)
+  programs-fill : programsIn s ≡ run-together (programsStored r)
   programs-fill =
       ap₂ (λ n o. take n (drop o s)) program-length-is program-offset-is
-      ∙ here-cut s (16 * length (tagsOf r) + 12 * length (r .productions) + 6 * nodesInAll (r .productions)) (length (run-together (programsOf r))) (run-together (programsOf r)) refl (here-front s _ (run-together (programsOf r)) (run-together (stringsOf r) ++ trailerOf r) programs-there)
+      ∙ here-cut s (16 * length (tagsStored r) + 12 * length (r .productions) + 6 * nodesInAll (r .productions)) (length (run-together (programsStored r))) (run-together (programsStored r)) refl (here-front s _ (run-together (programsStored r)) (run-together (stringsStored r) ++ trailerOf r) programs-there)
 
-  named : From (TagAt s) 0 (tagCount s) (tagsOf r)
-  named = from-to (TagAt s) 0 (0 + length (tagsOf r)) (tagCount s) (tagsOf r) (omega (arith, tag-count-is)) (tags-at s tag-offset-is 0 (tagsOf r) (keeps .names) (here-front s 0 (tagsSection (tagsOf r)) _ tags-there))
+  named : From (TagAt s) 0 (tagCount s) (tagsStored r)
+  named = from-to (TagAt s) 0 (0 + length (tagsStored r)) (tagCount s) (tagsStored r) (omega (arith, tag-count-is)) (tags-at s tag-offset-is 0 (tagsStored r) (keeps .names) (here-front s 0 (tagsSection (tagsStored r)) _ tags-there))
 
   its-programs : Programs s
   its-programs = record {
@@ -231,7 +231,7 @@ module _ (r : Rules) (room : Room r) (keeps : SheetKeeps (sheetOf r)) (sound : A
     of-nodes = λ i l. from-get (NodeIs s (storedPrograms r)) 0 (nodeCount s) (allVisits r (r .productions)) noded i (omega arith) l;
   }
 
-  packs : 1 ≤ length (r .productions) → length (r .productions) ≤ 64 → nodesInAll (r .productions) ≤ 256 → 1 ≤ length (tagsOf r) → r .start < 64 → Packs s (sheetOf r)
+  packs : 1 ≤ length (r .productions) → length (r .productions) ≤ 64 → nodesInAll (r .productions) ≤ 256 → 1 ≤ length (tagsStored r) → r .start < 64 → Packs s (sheetOf r)
   unfolding its-programs
   packs some-rules few-rules few-nodes some-tags start-small = record {
     size = record { least = omega (arith, counted); most = omega (arith, counted, room .few-tags, room .short-programs, room .short-strings) };
@@ -251,7 +251,7 @@ module _ (r : Rules) (room : Room r) (keeps : SheetKeeps (sheetOf r)) (sound : A
       short-strings = omega (arith, string-length-is, room .short-strings);
       trailer-at = omega (arith, counted, string-offset-is, string-length-is);
     };
-    tags = tags-are s (tagsOf r) named (keeps .different);
+    tags = tags-are s (tagsStored r) named (keeps .different);
     productions = record {
       each = λ q l. from-get (Laid s r) 0 (productionCount s) (rulesOf r (r .productions)) laid q (omega arith) l .1 .fits;
       every-node = ap (nodesBefore s) (production-count-is ∙ sym (from-zero 0 (length (r .productions)) refl)) ∙ all-laid .1 ∙ from-zero 0 (nodesInAll (r .productions)) refl ∙ sym node-count-is;
@@ -266,16 +266,16 @@ module _ (r : Rules) (room : Room r) (keeps : SheetKeeps (sheetOf r)) (sound : A
   }
 
 -- a text has a production
-some-productions : {ts : List Token} {rs : List Rule} → ProductionsAre ts rs → 1 ≤ length rs
+some-productions : {ts : List TextToken} {rs : List TextRule} → ProductionsAre ts rs → 1 ≤ length rs
 some-productions (one p) = omega arith
 some-productions (more p ps) = omega arith
 
-some-rules : {ts : List Token} {r : Rules} → RulesAre ts r → 1 ≤ length (r .productions)
+some-rules : {ts : List TextToken} {r : Rules} → RulesAre ts r → 1 ≤ length (r .productions)
 some-rules (start-alone i ps) = some-productions ps
 some-rules (start-first ps) = some-productions ps
 
 -- so it has a tag
-some-tags : (r : Rules) (ds : List Rule) → 1 ≤ length ds → EachKeeps (sheetOf r) (rulesOf r ds) → 1 ≤ length (tagsOf r)
+some-tags : (r : Rules) (ds : List TextRule) → 1 ≤ length ds → EachKeeps (sheetOf r) (rulesOf r ds) → 1 ≤ length (tagsStored r)
 some-tags r [] l h = absurd (omega arith)
 some-tags r (d ∷ ds) l h = omega (arith, h .0 .tag)
 

@@ -12,13 +12,13 @@ use Rattle.programs.specs.Section.{FieldIs}
 use Rattle.layout.specs.Layout.{tagCount, productionOffset}
 use Rattle.layout.specs.Records.{firstNodeOf, nodeCountOf, nodesBefore, firstProgramOf, secondProgramOf}
 use Rattle.trees.specs.Trees.{ContentAt}
-use Rattle.sheet.specs.Fields.{Visits as SheetVisits, FieldsAre}
+use Rattle.sheet.specs.Fields.{Visits, FieldsAre}
 use Rattle.sheet.specs.Productions.{ProductionFits}
-use Rattle.sheet.specs.Sheet.{Rule as SheetRule, From, NodeIs, RuleAt}
-use Rattle.notation.specs.Rules.{Visits, Tree, expression, contentOf, visitsIn, Rule, Rules}
-use Rattle.notation.specs.Limits.{depthOf, nodesInAll}
+use Rattle.sheet.specs.Sheet.{Rule, From, NodeIs, RuleAt}
+use Rattle.notation.specs.Rules.{TextVisits, Tree, expression, contentInside, visitsInside, TextRule, Rules}
+use Rattle.notation.specs.Limits.{contentDepth, nodesInAll}
 use Rattle.encoding.specs.Mentions.{a-tag, inBraces, inTree, inContent, inRule, inRules}
-use Rattle.encoding.specs.Encoded.{tagsOf, Room, maybe, bothOf, each, ruleOf, rulesOf, sheetOf}
+use Rattle.encoding.specs.Encoded.{tagsStored, Room, maybe, bothOf, each, ruleOf, rulesOf, sheetOf}
 use Rattle.encoding.specs.Keeps.{AllKeep, RuleKeeps, EachKeeps}
 use Rattle.encoding.specs.Sound.{SoundContent, SoundRule, AllSound}
 use Rattle.packing.specs.Packed.{field, contentBytes, nodesSection, nodesOfRule, productionRecord, productionsSection}
@@ -27,23 +27,23 @@ use Rattle.packing.proofs.Store.{storedPrograms, Holds, holds-front, ho
 use Rattle.packing.proofs.Nodes.{from-append, from-to, content-length, NodesFrom, nodes-behind, tree-at}
 
 -- twelve bytes for each
-pub productions-length : (r : Rules) (k : ℕ) (ds : List Rule) → length (productionsSection r k ds) ≡ 12 * length ds
+pub productions-length : (r : Rules) (k : ℕ) (ds : List TextRule) → length (productionsSection r k ds) ≡ 12 * length ds
 productions-length r k [] = refl
 productions-length r k (d ∷ ds) = omega (arith, productions-length r (k + nodesOfRule d) ds)
 
-pub nodes-length : (r : Rules) (ds : List Rule) → length (nodesSection r ds) ≡ 6 * nodesInAll ds
+pub nodes-length : (r : Rules) (ds : List TextRule) → length (nodesSection r ds) ≡ 6 * nodesInAll ds
 nodes-length r [] = refl
 nodes-length r (d ∷ ds) = simp length-append (omega (arith, content-length r (d .inside), nodes-length r ds))
 
 -- a production, and what number 4 asks of it
-pub record Laid (s : List ℕ) (r : Rules) (q : ℕ) (d : SheetRule) : Type 0 where
+pub record Laid (s : List ℕ) (r : Rules) (q : ℕ) (d : Rule) : Type 0 where
   pub is : RuleAt s (storedPrograms r) q d
   pub fits : ProductionFits s q
 
 -- the visits of all nodes
-abbrev pub allVisits : Rules → List Rule → List SheetVisits
+abbrev pub allVisits : Rules → List TextRule → List Visits
 allVisits r [] = []
-allVisits r (d ∷ ds) = each r (visitsIn (d .inside)) ++ allVisits r ds
+allVisits r (d ∷ ds) = each r (visitsInside (d .inside)) ++ allVisits r ds
 
 none-more : (n : ℕ) → n + 0 ≡ n
 none-more n = omega arith
@@ -51,18 +51,18 @@ none-more n = omega arith
 twelve-more : (o q : ℕ) → o + 12 * q + 12 ≡ o + 12 * suc q
 twelve-more o q = omega arith
 
-module _ (r : Rules) (room : Room r) (s : List ℕ) (tags : tagCount s ≡ length (tagsOf r)) where
+module _ (r : Rules) (room : Room r) (s : List ℕ) (tags : tagCount s ≡ length (tagsStored r)) where
   abbrev pub ProductionsFrom : ℕ → List ℕ → Type 0
   ProductionsFrom q l = Here s (productionOffset s + 12 * q) l
 
   -- the expression of a production and its nodes' programs
-  content-at : (q k : ℕ) (o : Option Tree) → NodesFrom r room s k (contentBytes r o) → SoundContent o → AllKeep (sheetOf r) (each r (visitsIn o)) → Holds r (inContent o) → firstNodeOf s q ≡ k → nodeCountOf s q ≡ nodesOf (contentOf o)
-      → depthOf (contentOf o) ≤ 12 → ContentAt s q (contentOf o) × From (NodeIs s (storedPrograms r)) k (k + nodesOf (contentOf o)) (each r (visitsIn o))
+  content-at : (q k : ℕ) (o : Option Tree) → NodesFrom r room s k (contentBytes r o) → SoundContent o → AllKeep (sheetOf r) (each r (visitsInside o)) → Holds r (inContent o) → firstNodeOf s q ≡ k → nodeCountOf s q ≡ nodesOf (contentInside o)
+      → contentDepth (contentInside o) ≤ 12 → ContentAt s q (contentInside o) × From (NodeIs s (storedPrograms r)) k (k + nodesOf (contentInside o)) (each r (visitsInside o))
   content-at q k none h c w m e n d = (n, omega arith)
   content-at q k (some t) h c w m e n d = let z = tree-at r room s t k h c w m in ((rw e (z .0), sym n, d), z .1)
 
-  record-at : (q k : ℕ) (d : Rule) → ProductionsFrom q (productionRecord r k d) → NodesFrom r room s k (contentBytes r (d .inside)) → nodesBefore s q ≡ k → SoundRule d → RuleKeeps (sheetOf r) (ruleOf r d) → Holds r (inRule d)
-      → Laid s r q (ruleOf r d) × From (NodeIs s (storedPrograms r)) k (k + nodesOfRule d) (each r (visitsIn (d .inside)))
+  record-at : (q k : ℕ) (d : TextRule) → ProductionsFrom q (productionRecord r k d) → NodesFrom r room s k (contentBytes r (d .inside)) → nodesBefore s q ≡ k → SoundRule d → RuleKeeps (sheetOf r) (ruleOf r d) → Holds r (inRule d)
+      → Laid s r q (ruleOf r d) × From (NodeIs s (storedPrograms r)) k (k + nodesOfRule d) (each r (visitsInside (d .inside)))
   record-at q k d h n e z w m =
       let at = productionOffset s + 12 * q in
       let l = productionRecord r k d in
@@ -94,7 +94,7 @@ module _ (r : Rules) (room : Room r) (s : List ℕ) (tags : tagCount s ≡ lengt
         c .1,
       )
 
-  pub rules-at : (q k : ℕ) (ds : List Rule) → ProductionsFrom q (productionsSection r k ds) → NodesFrom r room s k (nodesSection r ds) → nodesBefore s q ≡ k → AllSound ds → EachKeeps (sheetOf r) (rulesOf r ds) → Holds r (inRules ds)
+  pub rules-at : (q k : ℕ) (ds : List TextRule) → ProductionsFrom q (productionsSection r k ds) → NodesFrom r room s k (nodesSection r ds) → nodesBefore s q ≡ k → AllSound ds → EachKeeps (sheetOf r) (rulesOf r ds) → Holds r (inRules ds)
       → From (Laid s r) q (q + length ds) (rulesOf r ds) × (nodesBefore s (q + length ds) ≡ k + nodesInAll ds) × From (NodeIs s (storedPrograms r)) k (k + nodesInAll ds) (allVisits r ds)
   rules-at q k [] h n e z w m = (omega arith, ap (nodesBefore s) (none-more q) ∙ e ∙ sym (none-more k), omega arith)
   rules-at q k (d ∷ ds) h n e z w m =
@@ -107,7 +107,7 @@ module _ (r : Rules) (room : Room r) (s : List ℕ) (tags : tagCount s ≡ lengt
       (ap₂ _+_ e count) (z .1) (w .1) (holds-back r (inRule d) (inRules ds) m) in (
         (x .0, from-to (Laid s r) (suc q) (suc q + length ds) (q + suc (length ds)) (rulesOf r ds) (omega arith) (y .0)),
         ap (nodesBefore s) (shift q (length ds)) ∙ y .1 ∙ add k (nodesOfRule d) (nodesInAll ds),
-        from-append (NodeIs s (storedPrograms r)) k (k + nodesOfRule d) (k + (nodesOfRule d + nodesInAll ds)) (each r (visitsIn (d .inside))) (allVisits r ds) (x .1)
+        from-append (NodeIs s (storedPrograms r)) k (k + nodesOfRule d) (k + (nodesOfRule d + nodesInAll ds)) (each r (visitsInside (d .inside))) (allVisits r ds) (x .1)
             (from-to (NodeIs s (storedPrograms r)) (k + nodesOfRule d) (k + nodesOfRule d + nodesInAll ds) (k + (nodesOfRule d + nodesInAll ds)) (allVisits r ds) (add k (nodesOfRule d) (nodesInAll ds)) (y .2)),
       )
     where

@@ -6,22 +6,22 @@ use lib.ListN.{length}
 use Rattle.expressions.specs.Expr.{Atom, nonterminal, anychar, nodesOf}
 use Rattle.programs.specs.Program.{programBytes}
 use Rattle.sheet.specs.Tags.{tagRecord}
-use Rattle.notation.specs.Program.{Program}
-use Rattle.notation.specs.Rules.{Visits, Tree, node, Form, atom, cat, alt, star, empty, contentOf, Rule, Rules}
+use Rattle.notation.specs.Program.{TextProgram}
+use Rattle.notation.specs.Rules.{TextVisits, Tree, node, Form, atom, cat, alt, star, empty, contentInside, TextRule, Rules}
 use Rattle.notation.specs.Limits.{nodesInAll}
 use Rattle.encoding.specs.Distinct.{placeOf, offsetOf, run-together}
-use Rattle.encoding.specs.Encoded.{tagsOf, stringsOf, programsOf, programOf}
+use Rattle.encoding.specs.Encoded.{tagsStored, stringsStored, programsStored, programOf}
 
 -- a number of two bytes, little-endian, in front of others
 abbrev pub word : ℕ → List ℕ → List ℕ
 word n l = (n % 256) ∷ (n / 256) ∷ l
 
 -- the field of a program: where it is stored; FFFF where there is none
-abbrev pub field : Rules → Option Program → ℕ
+abbrev pub field : Rules → Option TextProgram → ℕ
 field r none = 0xFFFF
-field r (some p) = offsetOf (programsOf r) (programBytes (programOf r p))
+field r (some p) = offsetOf (programsStored r) (programBytes (programOf r p))
 
-abbrev pub fields : Rules → Option Program → Option Program → List ℕ → List ℕ
+abbrev pub fields : Rules → Option TextProgram → Option TextProgram → List ℕ → List ℕ
 fields r f g l = word (field r f) (word (field r g) l)
 
 -- a node: kind, argument, fields
@@ -41,7 +41,7 @@ argument (alt l m) = 0
 argument (star e) = 0
 argument empty = 0
 
-abbrev pub nodeRecord : Rules → Option Program → Option Program → Form → List ℕ
+abbrev pub nodeRecord : Rules → Option TextProgram → Option TextProgram → Form → List ℕ
 nodeRecord r f g k = kind k ∷ argument k ∷ fields r f g []
 
 -- in preorder
@@ -60,18 +60,18 @@ abbrev pub contentBytes : Rules → Option Tree → List ℕ
 contentBytes r none = []
 contentBytes r (some e) = treeBytes r e
 
-abbrev pub nodesSection : Rules → List Rule → List ℕ
+abbrev pub nodesSection : Rules → List TextRule → List ℕ
 nodesSection r [] = []
 nodesSection r (d ∷ ds) = contentBytes r (d .inside) ++ nodesSection r ds
 
-abbrev pub nodesOfRule : Rule → ℕ
-nodesOfRule d = nodesOf (contentOf (d .inside))
+abbrev pub nodesOfRule : TextRule → ℕ
+nodesOfRule d = nodesOf (contentInside (d .inside))
 
 -- a production, whose first node has that number: nonterminal, tag, first node, count of nodes, 0, fields, 0, 0
-abbrev pub productionRecord : Rules → ℕ → Rule → List ℕ
-productionRecord r first d = d .nonterminal ∷ placeOf (tagsOf r) (d .tag) ∷ word first (nodesOfRule d ∷ 0 ∷ fields r (d .own .first-visit) (d .own .second-visit) (0 ∷ 0 ∷ []))
+abbrev pub productionRecord : Rules → ℕ → TextRule → List ℕ
+productionRecord r first d = d .nonterminal ∷ placeOf (tagsStored r) (d .tag) ∷ word first (nodesOfRule d ∷ 0 ∷ fields r (d .own .first-visit) (d .own .second-visit) (0 ∷ 0 ∷ []))
 
-abbrev pub productionsSection : Rules → ℕ → List Rule → List ℕ
+abbrev pub productionsSection : Rules → ℕ → List TextRule → List ℕ
 productionsSection r first [] = []
 productionsSection r first (d ∷ ds) = productionRecord r first d ++ productionsSection r (first + nodesOfRule d) ds
 
@@ -90,8 +90,8 @@ trailer tags productions nodes programs strings start =
     (word start (word 0x5358 [])))))))))))
 
 abbrev pub trailerOf : Rules → List ℕ
-trailerOf r = trailer (length (tagsOf r)) (length (r .productions)) (nodesInAll (r .productions)) (length (run-together (programsOf r))) (length (run-together (stringsOf r))) (r .start)
+trailerOf r = trailer (length (tagsStored r)) (length (r .productions)) (nodesInAll (r .productions)) (length (run-together (programsStored r))) (length (run-together (stringsStored r))) (r .start)
 
 -- the sheet
 unfoldable pub sheetBytes : Rules → List ℕ
-sheetBytes r = tagsSection (tagsOf r) ++ (productionsSection r 0 (r .productions) ++ (nodesSection r (r .productions) ++ (run-together (programsOf r) ++ (run-together (stringsOf r) ++ trailerOf r))))
+sheetBytes r = tagsSection (tagsStored r) ++ (productionsSection r 0 (r .productions) ++ (nodesSection r (r .productions) ++ (run-together (programsStored r) ++ (run-together (stringsStored r) ++ trailerOf r))))

@@ -10,8 +10,8 @@ use Rattle.pages.specs.declared.Page.{Page}
 use Rattle.pages.specs.declared.Stack.{Stack}
 use Rattle.pages.specs.declared.Ends.{Ends}
 
-abbrev pub textOf : Page → List ℕ
-textOf p = take (p .len) (p .bytes)
+abbrev pub pageText : Page → List ℕ
+pageText p = take (p .len) (p .bytes)
 
 -- the last of them first
 abbrev pub stackAt : List ℕ → ℕ → List ℕ
@@ -22,7 +22,7 @@ stackOf s = stackAt (s .items) (s .count)
 
 pub record PageIs (xs : List ℕ) (r : Page) : Type 0 where
   pub short : r .len ≤ longestProgram
-  pub text : textOf r ≡ xs
+  pub text : pageText r ≡ xs
 
 pub record StackIs (ms : List ℕ) (r : Stack) : Type 0 where
   pub few : r .count ≤ mostStacked

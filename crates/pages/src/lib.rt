@@ -5,7 +5,7 @@ ghost use Prim.Native.Nat.{_≤_, _%_};
 ghost use lib.ListN.{length, replicate};
 ghost use Rattle.limits.specs.Limits.{longestProgram};
 ghost use Rattle.strokes.specs.Strokes.{mostStacked, writtenOn, insertedAt, stacked, topped, firstOf, restOf, zerosOf};
-ghost use Rattle.pages.specs.Pages.{textOf, stackAt, stackOf, PageIs, StackIs, Unwound, Skipped};
+ghost use Rattle.pages.specs.Pages.{pageText, stackAt, stackOf, PageIs, StackIs, Unwound, Skipped};
 
 // The first len bytes of a page are its text.
 pub struct Page {
@@ -44,7 +44,7 @@ impl Page {
     // How many bytes the text has.
     pub fn size(self) -> usize
         requires { ⌜ self .len ≤ longestProgram ⌝ }
-        ensures { λ r. ⌜ r ≡ length (textOf self) ⌝ }
+        ensures { λ r. ⌜ r ≡ length (pageText self) ⌝ }
     {
         self.len
     }
@@ -52,7 +52,7 @@ impl Page {
     // One byte more, where there is room.
     pub fn push(self, b: u8) -> Page
         requires { ⌜ self .len ≤ longestProgram ⌝ }
-        ensures { λ r. ⌜ PageIs (writtenOn (textOf self) (b ∷ [])) r ⌝ }
+        ensures { λ r. ⌜ PageIs (writtenOn (pageText self) (b ∷ [])) r ⌝ }
     {
         let len = self.len;
         if 256 <= len {
@@ -68,7 +68,7 @@ impl Page {
 
     pub fn zeros(self, n: usize) -> Page
         requires { ⌜ self .len ≤ longestProgram ⌝ }
-        ensures { λ r. ⌜ PageIs (writtenOn (textOf self) (replicate n 0)) r ⌝ }
+        ensures { λ r. ⌜ PageIs (writtenOn (pageText self) (replicate n 0)) r ⌝ }
     {
         let mut page = self;
         let mut left = n;
@@ -82,7 +82,7 @@ impl Page {
     // One byte more at a place among the others: each of those behind it goes one on.
     pub fn insert(self, at: usize, b: u8) -> Page
         requires { ⌜ self .len ≤ longestProgram ⌝ }
-        ensures { λ r. ⌜ PageIs (insertedAt at b (textOf self)) r ⌝ }
+        ensures { λ r. ⌜ PageIs (insertedAt at b (pageText self)) r ⌝ }
     {
         let len = self.len;
         if 256 <= len {

@@ -12,7 +12,7 @@ use Rattle.expressions.specs.Fault.{GoesOn, Fault}
 use Rattle.expressions.proofs.Strings.{Str, Text}
 use Rattle.expressions.proofs.Rule.{Rest, Paths, begin, fault-many}
 use Rattle.parting.specs.Firsts.{Firsts, no-string, one-string, two-strings, firsts}
-use Rattle.parting.specs.Laws.{FaultBy, Tells, FirstsTellFaults}
+use Rattle.parting.specs.Laws.{FaultBy, TellsFault, FirstsTellFaults}
 use Rattle.parting.proofs.Listed.{Listed, listed-firsts}
 use Rattle.parting.proofs.Tallied.{tally, tally-firsts}
 
@@ -33,7 +33,7 @@ module _ (tags : ℕ → List ℕ) (e : Content) (p : ℕ) where
   rest-text character α g = (_, g .4)
   rest-text end α g = (_, g)
 
-  tells : (x : Next) (f : Firsts) → firsts tags e p x ≡ f → Listed (Paths tags (Rest e p) x) f → Tells tags e p x f
+  tells : (x : Next) (f : Firsts) → firsts tags e p x ≡ f → Listed (Paths tags (Rest e p) x) f → TellsFault tags e p x f
   tells x no-string q l = λ h. none-many (let c = tally-firsts tags e p x in let m = fault-many tags e p x h in cc)
   tells x (one-string α) q l = λ h. one-many (let c = tally-firsts tags e p x in let m = fault-many tags e p x h in cc)
   tells x (two-strings α β) q l =

@@ -17,7 +17,7 @@ use Rattle.expressions.proofs.Strings.{Str, Text, ▷-append, ▷-left, Ends, u
 use Rattle.expressions.proofs.Counted.{End, Go, Upto, upto}
 use Rattle.expressions.proofs.Tree.{After, word-ends, word-starts, after-ends, some-word, nodes-pos, no-both, cat-left, opening-inj}
 use Rattle.expressions.proofs.Rule.{Rest, Paths}
-use Rattle.parting.specs.Firsts.{Firsts, no-string, one-string, two-strings, either, each, both, turned, when, opened, closed, enclosed, through, into, out-of, across, toEnd, toAtom, firsts}
+use Rattle.parting.specs.Firsts.{Firsts, no-string, one-string, two-strings, either, eachChanged, both, goesRound, when, eachOpened, eachClosed, eachEnclosed, firstsThrough, firstsInto, firstsOutOf, firstsAcross, firstsToEnd, firstsToAtom, firsts}
 
 -- they have the property, and differ
 abbrev pub Listed : Strings → Firsts → Type 0
@@ -25,7 +25,7 @@ Listed P no-string = Unit {0}
 Listed P (one-string α) = P α
 Listed P (two-strings α β) = P α × P β × (α ≡ β → ⊥)
 
-listed-each : (P Q : Strings) (h : Str → Str) → ((α β : Str) → h α ≡ h β → α ≡ β) → ((α : Str) → P α → Q (h α)) → (f : Firsts) → Listed P f → Listed Q (each h f)
+listed-each : (P Q : Strings) (h : Str → Str) → ((α β : Str) → h α ≡ h β → α ≡ β) → ((α : Str) → P α → Q (h α)) → (f : Firsts) → Listed P f → Listed Q (eachChanged h f)
 listed-each P Q h inj to no-string l = tt
 listed-each P Q h inj to (one-string α) l = to α l
 listed-each P Q h inj to (two-strings α β) l = (to α (l .0), to β (l .1), λ e. l .2 (inj α β e))
@@ -58,7 +58,7 @@ module _ (P Q R : Strings) (unique : (α α′ β β′ : Str) → P α → P α
       (make α γ (p .0) (q .0), make α δ (p .0) (q .1), λ e. q .2 (unique α α γ δ (p .0) (p .0) e .1))
 
 module _ (P Q R : Strings) (plain : (γ : Str) → Q γ → R γ) (again : (α γ : Str) → P α → Q γ → R (α ++ γ)) (apart : (α γ : Str) → P α → Q γ → γ ≡ α ++ γ → ⊥) where
-  listed-turned : (f g : Firsts) → Listed P f → Listed Q g → Listed R (turned f g)
+  listed-turned : (f g : Firsts) → Listed P f → Listed Q g → Listed R (goesRound f g)
   listed-turned no-string g p q = listed-weak Q R plain g q
   listed-turned (one-string α) no-string p q = tt
   listed-turned (one-string α) (one-string γ) p q = (plain γ q, again α γ p q, apart α γ p q)
@@ -81,12 +81,12 @@ upto-within i A w (upto m a) = within m a
 end-upto : (c : Bracket) (A : Lang) (α : Str) → End A α → End (Upto c A) (α ++ c ∷ [])
 end-upto c A α a = subst (Upto c A) (▷-left α [] (br c ∷ []) ∙ sym (▷-append α (c ∷ []) [])) (upto (α ▷ []) a)
 
-listed-closed : (i : ℕ) (A : Lang) (f : Firsts) → Listed (End A) f → Listed (End (Upto (closing i) A)) (closed i f)
+listed-closed : (i : ℕ) (A : Lang) (f : Firsts) → Listed (End A) f → Listed (End (Upto (closing i) A)) (eachClosed i f)
 listed-closed i A = listed-each (End A) (End (Upto (closing i) A)) (λ α. α ++ closing i ∷ []) (snoc-inj (closing i)) (end-upto (closing i) A)
 
-listed-enclosed : (i : ℕ) (A : Lang) (f : Firsts) → Listed (End A) f → Listed (End (Within i A)) (enclosed i f)
+listed-enclosed : (i : ℕ) (A : Lang) (f : Firsts) → Listed (End A) f → Listed (End (Within i A)) (eachEnclosed i f)
 listed-enclosed i A f l =
-    listed-each (End (Upto (closing i) A)) (End (Within i A)) (λ α. opening i ∷ α) (cons-inj (opening i)) (λ α a. upto-within i A (α ▷ []) a) (closed i f)
+    listed-each (End (Upto (closing i) A)) (End (Within i A)) (λ α. opening i ∷ α) (cons-inj (opening i)) (λ α a. upto-within i A (α ▷ []) a) (eachClosed i f)
     (listed-closed i A f l)
 
 module _ (tags : ℕ → List ℕ) (x : Next) where
@@ -99,7 +99,7 @@ module _ (tags : ℕ → List ℕ) (x : Next) where
       let k = go-upto (closing i) A α h in
       (k .0, k .1, k .2, k .3, upto-within i A (α ▷ at (k .0) (k .1) ∷ k .2) (k .4))
 
-  listed-opened : (i : ℕ) (A : Lang) (f : Firsts) → Listed (Go tags A x) f → Listed (Go tags (Within i A) x) (opened i f)
+  listed-opened : (i : ℕ) (A : Lang) (f : Firsts) → Listed (Go tags A x) f → Listed (Go tags (Within i A) x) (eachOpened i f)
   listed-opened i A = listed-each (Go tags A x) (Go tags (Within i A) x) (λ α. opening i ∷ α) (cons-inj (opening i)) (go-within i A)
 
   go-left : (A B : Lang) → (w : Text) × B w → (α : Str) → Go tags A x α → Go tags (Cat A B) x α
@@ -145,7 +145,7 @@ module _ (A : Lang) (c : Bracket) (marked : (w : Text) → A w → Ends c w) whe
   not-empty [] γ a e q = marked [] a
   not-empty (d ∷ α) γ a e q = let z : _≡_ {A = ℕ} 0 1 = cc in omega arith
 
-  listed-turns : (f : Firsts) → Listed (End A) f → Listed (End (Star A)) (turned f (one-string []))
+  listed-turns : (f : Firsts) → Listed (End A) f → Listed (End (Star A)) (goesRound f (one-string []))
   listed-turns f l =
       listed-turned (End A) (λ γ. γ ≡ []) (End (Star A)) (λ γ e. subst (End (Star A)) (sym e) stop)
       (λ α γ a e. subst (λ (z : Str). End (Star A) (α ++ z)) (sym e) (subst (End (Star A)) (sym (append-nil α)) (star-one (α ▷ []) a)))
@@ -160,7 +160,7 @@ module _ (A : Lang) (c : Bracket) (marked : (w : Text) → A w → Ends c w) whe
         let t : Text = at (h .0) (h .1) ∷ h .2 in
         (h .0, h .1, h .2, h .3, subst (Star A) (▷-left α [] (γ ▷ t) ∙ sym (▷-append α γ t)) (more (α ▷ []) (γ ▷ t) a (star-one (γ ▷ t) (h .4))))
 
-    listed-star : (f g : Firsts) → Listed (End A) f → Listed (Go tags A x) g → Listed (Go tags (Star A) x) (turned f g)
+    listed-star : (f g : Firsts) → Listed (End A) f → Listed (Go tags A x) g → Listed (Go tags (Star A) x) (goesRound f g)
     listed-star =
         listed-turned (End A) (Go tags A x) (Go tags (Star A) x) go-star go-again
         (λ α γ a h e. before-end c γ α γ (at (h .0) (h .1)) (h .2) (marked _ (h .4)) (marked _ a) e)
@@ -198,56 +198,56 @@ module _ (A B : Lang) where
       (λ α h. (h .0, h .1, h .2, h .3, left (h .4))) (λ α h. (h .0, h .1, h .2, h .3, right (h .4)))
 
 -- by the tree
-pub listed-through : (e : Exp) (i j : ℕ) → Listed (End (Word e i j)) (through e i)
+pub listed-through : (e : Exp) (i j : ℕ) → Listed (End (Word e i j)) (firstsThrough e i)
 listed-through (atom k) i j = tt
 listed-through (cat l r) i j =
     let L : Lang = Word l (suc i) j in
     let R : Lang = Word r (suc i + nodes l) (j + atoms l) in
-    listed-enclosed i (Cat L R) (both (through l (suc i)) (through r (suc i + nodes l)))
-    (listed-cat L R (closing (suc i)) (word-ends l (suc i) j) (through l (suc i)) (through r (suc i + nodes l))
+    listed-enclosed i (Cat L R) (both (firstsThrough l (suc i)) (firstsThrough r (suc i + nodes l)))
+    (listed-cat L R (closing (suc i)) (word-ends l (suc i) j) (firstsThrough l (suc i)) (firstsThrough r (suc i + nodes l))
     (listed-through l (suc i) j) (listed-through r (suc i + nodes l) (j + atoms l)))
 listed-through (alt l r) i j =
     let L : Lang = Word l (suc i) j in
     let R : Lang = Word r (suc i + nodes l) (j + atoms l) in
-    listed-enclosed i (Either L R) (either (through l (suc i)) (through r (suc i + nodes l)))
-    (listed-end-either L R (sides-end (λ n. []) l r i j (j + atoms l)) (through l (suc i)) (through r (suc i + nodes l))
+    listed-enclosed i (Either L R) (either (firstsThrough l (suc i)) (firstsThrough r (suc i + nodes l)))
+    (listed-end-either L R (sides-end (λ n. []) l r i j (j + atoms l)) (firstsThrough l (suc i)) (firstsThrough r (suc i + nodes l))
     (listed-through l (suc i) j) (listed-through r (suc i + nodes l) (j + atoms l)))
 listed-through (star e) i j =
     let A : Lang = Word e (suc i) j in
-    listed-enclosed i (Star A) (turned (through e (suc i)) (one-string []))
-    (listed-turns A (closing (suc i)) (word-ends e (suc i) j) (through e (suc i)) (listed-through e (suc i) j))
+    listed-enclosed i (Star A) (goesRound (firstsThrough e (suc i)) (one-string []))
+    (listed-turns A (closing (suc i)) (word-ends e (suc i) j) (firstsThrough e (suc i)) (listed-through e (suc i) j))
 listed-through empty i j = within [] only
 
 module _ (tags : ℕ → List ℕ) (x : Next) where
-  pub listed-into : (e : Exp) (i j : ℕ) → Listed (Go tags (Word e i j) x) (into tags e i x)
+  pub listed-into : (e : Exp) (i j : ℕ) → Listed (Go tags (Word e i j) x) (firstsInto tags e i x)
   listed-into (atom k) i j =
       let A : Lang = Only (at j k ∷ []) in
       listed-opened tags x i A (when (canBe tags k x)) (listed-when (Go tags A x) (canBe tags k x) (λ c. (j, k, [], c, only)))
   listed-into (cat l r) i j =
       let L : Lang = Word l (suc i) j in
       let R : Lang = Word r (suc i + nodes l) (j + atoms l) in
-      let f = into tags l (suc i) x in
-      let h = through l (suc i) in
-      let g = into tags r (suc i + nodes l) x in
+      let f = firstsInto tags l (suc i) x in
+      let h = firstsThrough l (suc i) in
+      let g = firstsInto tags r (suc i + nodes l) x in
       listed-opened tags x i (Cat L R) (either f (both h g))
       (listed-then L R (closing (suc i)) (word-ends l (suc i) j) tags x (some-word r (suc i + nodes l) (j + atoms l)) f h g
       (listed-into l (suc i) j) (listed-through l (suc i) j) (listed-into r (suc i + nodes l) (j + atoms l)))
   listed-into (alt l r) i j =
       let L : Lang = Word l (suc i) j in
       let R : Lang = Word r (suc i + nodes l) (j + atoms l) in
-      let f = into tags l (suc i) x in
-      let g = into tags r (suc i + nodes l) x in
+      let f = firstsInto tags l (suc i) x in
+      let g = firstsInto tags r (suc i + nodes l) x in
       listed-opened tags x i (Either L R) (either f g)
       (listed-go-either L R tags x (sides-go tags l r i j (j + atoms l) x) f g (listed-into l (suc i) j) (listed-into r (suc i + nodes l) (j + atoms l)))
   listed-into (star e) i j =
       let A : Lang = Word e (suc i) j in
-      let f = through e (suc i) in
-      let g = into tags e (suc i) x in
-      listed-opened tags x i (Star A) (turned f g)
+      let f = firstsThrough e (suc i) in
+      let g = firstsInto tags e (suc i) x in
+      listed-opened tags x i (Star A) (goesRound f g)
       (listed-star A (closing (suc i)) (word-ends e (suc i) j) tags x f g (listed-through e (suc i) j) (listed-into e (suc i) j))
   listed-into empty i j = tt
 
-pub listed-out : (e : Exp) (i j p : ℕ) → Listed (End (After e i j p)) (out-of e i j p)
+pub listed-out : (e : Exp) (i j p : ℕ) → Listed (End (After e i j p)) (firstsOutOf e i j p)
 listed-out (atom k) i j p =
     let A : Lang = λ w. (p ≡ j) × Only [] w in
     listed-closed i A (when (eqb p j)) (listed-when (End A) (eqb p j) (λ c. (eqb-true p j c, only)))
@@ -255,9 +255,9 @@ listed-out (cat l r) i j p =
     let L : Lang = After l (suc i) j p in
     let R : Lang = Word r (suc i + nodes l) (j + atoms l) in
     let R′ : Lang = After r (suc i + nodes l) (j + atoms l) p in
-    let f = out-of l (suc i) j p in
-    let h = through r (suc i + nodes l) in
-    let g = out-of r (suc i + nodes l) (j + atoms l) p in
+    let f = firstsOutOf l (suc i) j p in
+    let h = firstsThrough r (suc i + nodes l) in
+    let g = firstsOutOf r (suc i + nodes l) (j + atoms l) p in
     listed-closed i (Either (Cat L R) R′) (either (both f h) g)
     (listed-end-either (Cat L R) R′ (λ α a b. let t = cat-left _ _ _ a in no-both l r _ _ j p (t .0) _ (t .1) b) (both f h) g
     (listed-cat L R (closing (suc i)) (after-ends l (suc i) j p) f h (listed-out l (suc i) j p) (listed-through r (suc i + nodes l) (j + atoms l)))
@@ -265,32 +265,32 @@ listed-out (cat l r) i j p =
 listed-out (alt l r) i j p =
     let L : Lang = After l (suc i) j p in
     let R : Lang = After r (suc i + nodes l) (j + atoms l) p in
-    let f = out-of l (suc i) j p in
-    let g = out-of r (suc i + nodes l) (j + atoms l) p in
+    let f = firstsOutOf l (suc i) j p in
+    let g = firstsOutOf r (suc i + nodes l) (j + atoms l) p in
     listed-closed i (Either L R) (either f g)
     (listed-end-either L R (λ α a b. no-both l r _ _ j p _ _ a b) f g (listed-out l (suc i) j p) (listed-out r (suc i + nodes l) (j + atoms l) p))
 listed-out (star e) i j p =
     let A : Lang = After e (suc i) j p in
     let W : Lang = Word e (suc i) j in
-    let f = out-of e (suc i) j p in
-    let h = through e (suc i) in
-    listed-closed i (Cat A (Star W)) (both f (turned h (one-string [])))
-    (listed-cat A (Star W) (closing (suc i)) (after-ends e (suc i) j p) f (turned h (one-string [])) (listed-out e (suc i) j p)
+    let f = firstsOutOf e (suc i) j p in
+    let h = firstsThrough e (suc i) in
+    listed-closed i (Cat A (Star W)) (both f (goesRound h (one-string [])))
+    (listed-cat A (Star W) (closing (suc i)) (after-ends e (suc i) j p) f (goesRound h (one-string [])) (listed-out e (suc i) j p)
     (listed-turns W (closing (suc i)) (word-ends e (suc i) j) h (listed-through e (suc i) j)))
 listed-out empty i j p = tt
 
 module _ (tags : ℕ → List ℕ) (x : Next) where
-  pub listed-across : (e : Exp) (i j p : ℕ) → Listed (Go tags (After e i j p) x) (across tags e i j p x)
+  pub listed-across : (e : Exp) (i j p : ℕ) → Listed (Go tags (After e i j p) x) (firstsAcross tags e i j p x)
   listed-across (atom k) i j p = tt
   listed-across (cat l r) i j p =
       let L : Lang = After l (suc i) j p in
       let R : Lang = Word r (suc i + nodes l) (j + atoms l) in
       let R′ : Lang = After r (suc i + nodes l) (j + atoms l) p in
       let A : Lang = Either (Cat L R) R′ in
-      let f = across tags l (suc i) j p x in
-      let o = out-of l (suc i) j p in
-      let n = into tags r (suc i + nodes l) x in
-      let g = across tags r (suc i + nodes l) (j + atoms l) p x in
+      let f = firstsAcross tags l (suc i) j p x in
+      let o = firstsOutOf l (suc i) j p in
+      let n = firstsInto tags r (suc i + nodes l) x in
+      let g = firstsAcross tags r (suc i + nodes l) (j + atoms l) p x in
       listed-weak (Go tags A x) (Go tags (Upto (closing i) A) x) (go-upto tags x (closing i) A) (either (either f (both o n)) g)
       (listed-go-either (Cat L R) R′ tags x (λ α a b. let t = cat-left _ _ _ (a .4) in no-both l r _ _ j p (t .0) _ (t .1) (b .4)) (either f (both o n)) g
       (listed-then L R (closing (suc i)) (after-ends l (suc i) j p) tags x (some-word r (suc i + nodes l) (j + atoms l)) f o n
@@ -299,31 +299,31 @@ module _ (tags : ℕ → List ℕ) (x : Next) where
   listed-across (alt l r) i j p =
       let L : Lang = After l (suc i) j p in
       let R : Lang = After r (suc i + nodes l) (j + atoms l) p in
-      let f = across tags l (suc i) j p x in
-      let g = across tags r (suc i + nodes l) (j + atoms l) p x in
+      let f = firstsAcross tags l (suc i) j p x in
+      let g = firstsAcross tags r (suc i + nodes l) (j + atoms l) p x in
       listed-weak (Go tags (Either L R) x) (Go tags (Upto (closing i) (Either L R)) x) (go-upto tags x (closing i) (Either L R)) (either f g)
       (listed-go-either L R tags x (λ α a b. no-both l r _ _ j p _ _ (a .4) (b .4)) f g (listed-across l (suc i) j p)
       (listed-across r (suc i + nodes l) (j + atoms l) p))
   listed-across (star e) i j p =
       let A : Lang = After e (suc i) j p in
       let W : Lang = Word e (suc i) j in
-      let f = across tags e (suc i) j p x in
-      let o = out-of e (suc i) j p in
-      let h = through e (suc i) in
-      let n = into tags e (suc i) x in
+      let f = firstsAcross tags e (suc i) j p x in
+      let o = firstsOutOf e (suc i) j p in
+      let h = firstsThrough e (suc i) in
+      let n = firstsInto tags e (suc i) x in
       listed-weak (Go tags (Cat A (Star W)) x) (Go tags (Upto (closing i) (Cat A (Star W))) x) (go-upto tags x (closing i) (Cat A (Star W)))
-      (either f (both o (turned h n)))
-      (listed-then A (Star W) (closing (suc i)) (after-ends e (suc i) j p) tags x ([], stop) f o (turned h n) (listed-across e (suc i) j p) (listed-out e (suc i) j p)
+      (either f (both o (goesRound h n)))
+      (listed-then A (Star W) (closing (suc i)) (after-ends e (suc i) j p) tags x ([], stop) f o (goesRound h n) (listed-across e (suc i) j p) (listed-out e (suc i) j p)
       (listed-star W (closing (suc i)) (word-ends e (suc i) j) tags x h n (listed-through e (suc i) j) (listed-into tags x e (suc i) j)))
   listed-across empty i j p = tt
 
-listed-end : (e : Content) (p : ℕ) → Listed (End (Rest e p)) (toEnd e p)
+listed-end : (e : Content) (p : ℕ) → Listed (End (Rest e p)) (firstsToEnd e p)
 listed-end nothing zero = only
 listed-end nothing (suc p) = tt
 listed-end (tree e) zero = listed-through e 1 1
 listed-end (tree e) (suc p) = listed-out e 1 1 (suc p)
 
-listed-atom : (tags : ℕ → List ℕ) (e : Content) (p : ℕ) (x : Next) → Listed (Go tags (Rest e p) x) (toAtom tags e p x)
+listed-atom : (tags : ℕ → List ℕ) (e : Content) (p : ℕ) (x : Next) → Listed (Go tags (Rest e p) x) (firstsToAtom tags e p x)
 listed-atom tags nothing p x = tt
 listed-atom tags (tree e) zero x = listed-into tags x e 1 1
 listed-atom tags (tree e) (suc p) x = listed-across tags x e 1 1 (suc p)

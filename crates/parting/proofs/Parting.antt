@@ -13,7 +13,7 @@ use Rattle.expressions.proofs.Strings.{Str, Text}
 use Rattle.expressions.proofs.Counted.{Upto, upto, End, Go, only-inv}
 use Rattle.expressions.proofs.Tree.{After, word-starts, no-both}
 use Rattle.expressions.proofs.Rule.{Rest, Paths, to-path}
-use Rattle.parting.specs.Parting.{Node, itself, cat-left, cat-right, alt-left, alt-right, star-part, Sign, round-or-end, end-or-round, left-or-right, right-or-left, SignOf, PartAt}
+use Rattle.parting.specs.Parting.{Node, itself, cat-left, cat-right, alt-left, alt-right, star-part, PartingSign, round-or-end, end-or-round, left-or-right, right-or-left, PartingSignOf, PartAt}
 use Rattle.parting.specs.Laws.{PartAtOneSign}
 
 -- what two texts have in common, and the brackets at which they part
@@ -123,31 +123,31 @@ module _ (C : Signs) (i : ℕ) (A : Lang) (same : (w w′ : Text) → A w → A 
 
 -- the signs of a part are signs of the whole
 module _ {e f : Exp} {i i′ : ℕ} (up : (n : ℕ) (h : Exp) → Node e i n h → Node f i′ n h) where
-  raised : (n : ℕ) (c d : Bracket) → Sign e i n c d → Sign f i′ n c d
+  raised : (n : ℕ) (c d : Bracket) → PartingSign e i n c d → PartingSign f i′ n c d
   raised n c d (round-or-end {f = g} h) = round-or-end {f = g} (up n (star g) h)
   raised n c d (end-or-round {f = g} h) = end-or-round {f = g} (up n (star g) h)
   raised n c d (left-or-right {l = l} {r = r} h) = left-or-right {l = l} {r = r} (up n (alt l r) h)
   raised n c d (right-or-left {l = l} {r = r} h) = right-or-left {l = l} {r = r} (up n (alt l r) h)
 
 module _ (l r : Exp) (i : ℕ) where
-  in-cat-left : (n : ℕ) (c d : Bracket) → Sign l (suc i) n c d → Sign (cat l r) i n c d
+  in-cat-left : (n : ℕ) (c d : Bracket) → PartingSign l (suc i) n c d → PartingSign (cat l r) i n c d
   in-cat-left = raised (λ n h k. cat-left k)
 
-  in-cat-right : (n : ℕ) (c d : Bracket) → Sign r (suc i + nodes l) n c d → Sign (cat l r) i n c d
+  in-cat-right : (n : ℕ) (c d : Bracket) → PartingSign r (suc i + nodes l) n c d → PartingSign (cat l r) i n c d
   in-cat-right = raised (λ n h k. cat-right k)
 
-  in-alt-left : (n : ℕ) (c d : Bracket) → Sign l (suc i) n c d → Sign (alt l r) i n c d
+  in-alt-left : (n : ℕ) (c d : Bracket) → PartingSign l (suc i) n c d → PartingSign (alt l r) i n c d
   in-alt-left = raised (λ n h k. alt-left k)
 
-  in-alt-right : (n : ℕ) (c d : Bracket) → Sign r (suc i + nodes l) n c d → Sign (alt l r) i n c d
+  in-alt-right : (n : ℕ) (c d : Bracket) → PartingSign r (suc i + nodes l) n c d → PartingSign (alt l r) i n c d
   in-alt-right = raised (λ n h k. alt-right k)
 
-in-star : (e : Exp) (i n : ℕ) (c d : Bracket) → Sign e (suc i) n c d → Sign (star e) i n c d
+in-star : (e : Exp) (i n : ℕ) (c d : Bracket) → PartingSign e (suc i) n c d → PartingSign (star e) i n c d
 in-star e i = raised (λ n h k. star-part k)
 
 -- words
 module _ (l r : Exp) (i j : ℕ) where
-  union-parts : (m m′ : Text) → Word l (suc i) j m → Word r (suc i + nodes l) (j + atoms l) m′ → Parted (Sign (alt l r) i) m m′
+  union-parts : (m m′ : Text) → Word l (suc i) j m → Word r (suc i + nodes l) (j + atoms l) m′ → Parted (PartingSign (alt l r) i) m m′
   union-parts m m′ a b =
       let s = word-starts l (suc i) j m a in
       let t = word-starts r (suc i + nodes l) (j + atoms l) m′ b in
@@ -163,7 +163,7 @@ module _ (l r : Exp) (i j : ℕ) where
         sign = left-or-right {l = l} {r = r} itself;
       }
 
-  union-parts′ : (m m′ : Text) → Word r (suc i + nodes l) (j + atoms l) m → Word l (suc i) j m′ → Parted (Sign (alt l r) i) m m′
+  union-parts′ : (m m′ : Text) → Word r (suc i + nodes l) (j + atoms l) m → Word l (suc i) j m′ → Parted (PartingSign (alt l r) i) m m′
   union-parts′ m m′ b a =
       let s = word-starts l (suc i) j m′ a in
       let t = word-starts r (suc i + nodes l) (j + atoms l) m b in
@@ -179,74 +179,74 @@ module _ (l r : Exp) (i j : ℕ) where
         sign = right-or-left {l = l} {r = r} itself;
       }
 
-compared-turns : (e : Exp) (i j : ℕ) → ((w w′ : Text) → Word e (suc i) j w → Word e (suc i) j w′ → Compared (Sign e (suc i)) w w′) →
+compared-turns : (e : Exp) (i j : ℕ) → ((w w′ : Text) → Word e (suc i) j w → Word e (suc i) j w′ → Compared (PartingSign e (suc i)) w w′) →
     (m m′ : Text) → Star (Word e (suc i) j) m → Star (Word e (suc i) j) m′ →
-    Compared (Sign (star e) i) (m ++ br (closing i) ∷ []) (m′ ++ br (closing i) ∷ [])
+    Compared (PartingSign (star e) i) (m ++ br (closing i) ∷ []) (m′ ++ br (closing i) ∷ [])
 compared-turns e i j same m m′ a b =
-    compared-star (Sign (star e) i) i (Word e (suc i) j)
-    (λ w w′ a b. compared-weak (Sign e (suc i)) (Sign (star e) i) (in-star e i) w w′ (same w w′ a b))
+    compared-star (PartingSign (star e) i) i (Word e (suc i) j)
+    (λ w w′ a b. compared-weak (PartingSign e (suc i)) (PartingSign (star e) i) (in-star e i) w w′ (same w w′ a b))
     (λ w a. word-starts e (suc i) j w a)
     (round-or-end {f = e} itself) (end-or-round {f = e} itself) m m′ a b
 
-pub compared-word : (e : Exp) (i j : ℕ) (w w′ : Text) → Word e i j w → Word e i j w′ → Compared (Sign e i) w w′
+pub compared-word : (e : Exp) (i j : ℕ) (w w′ : Text) → Word e i j w → Word e i j w′ → Compared (PartingSign e i) w w′
 compared-word (atom k) i j w w′ (within m only) (within m′ only) = inl refl
 compared-word (cat l r) i j w w′ (within m (both u v a b)) (within m′ (both u′ v′ a′ b′)) =
-    let C : Signs = Sign (cat l r) i in
+    let C : Signs = PartingSign (cat l r) i in
     opened-both C i (u ++ v) (u′ ++ v′) (compared-upto C i (u ++ v) (u′ ++ v′)
     (compared-both C u u′ v v′
-    (compared-weak (Sign l (suc i)) C (in-cat-left l r i) u u′ (compared-word l (suc i) j u u′ a a′))
-    (compared-weak (Sign r (suc i + nodes l)) C (in-cat-right l r i) v v′ (compared-word r (suc i + nodes l) (j + atoms l) v v′ b b′))))
+    (compared-weak (PartingSign l (suc i)) C (in-cat-left l r i) u u′ (compared-word l (suc i) j u u′ a a′))
+    (compared-weak (PartingSign r (suc i + nodes l)) C (in-cat-right l r i) v v′ (compared-word r (suc i + nodes l) (j + atoms l) v v′ b b′))))
 compared-word (alt l r) i j w w′ (within m (left a)) (within m′ (left a′)) =
-    let C : Signs = Sign (alt l r) i in
+    let C : Signs = PartingSign (alt l r) i in
     opened-both C i m m′ (compared-upto C i m m′
-    (compared-weak (Sign l (suc i)) C (in-alt-left l r i) m m′ (compared-word l (suc i) j m m′ a a′)))
+    (compared-weak (PartingSign l (suc i)) C (in-alt-left l r i) m m′ (compared-word l (suc i) j m m′ a a′)))
 compared-word (alt l r) i j w w′ (within m (left a)) (within m′ (right b)) =
-    opened-both (Sign (alt l r) i) i m m′ (compared-upto (Sign (alt l r) i) i m m′ (inr (union-parts l r i j m m′ a b)))
+    opened-both (PartingSign (alt l r) i) i m m′ (compared-upto (PartingSign (alt l r) i) i m m′ (inr (union-parts l r i j m m′ a b)))
 compared-word (alt l r) i j w w′ (within m (right b)) (within m′ (left a)) =
-    opened-both (Sign (alt l r) i) i m m′ (compared-upto (Sign (alt l r) i) i m m′ (inr (union-parts′ l r i j m m′ b a)))
+    opened-both (PartingSign (alt l r) i) i m m′ (compared-upto (PartingSign (alt l r) i) i m m′ (inr (union-parts′ l r i j m m′ b a)))
 compared-word (alt l r) i j w w′ (within m (right b)) (within m′ (right b′)) =
-    let C : Signs = Sign (alt l r) i in
+    let C : Signs = PartingSign (alt l r) i in
     opened-both C i m m′ (compared-upto C i m m′
-    (compared-weak (Sign r (suc i + nodes l)) C (in-alt-right l r i) m m′ (compared-word r (suc i + nodes l) (j + atoms l) m m′ b b′)))
+    (compared-weak (PartingSign r (suc i + nodes l)) C (in-alt-right l r i) m m′ (compared-word r (suc i + nodes l) (j + atoms l) m m′ b b′)))
 compared-word (star e) i j w w′ (within m a) (within m′ b) =
-    opened-both (Sign (star e) i) i m m′ (compared-turns e i j (λ w w′ a b. compared-word e (suc i) j w w′ a b) m m′ a b)
+    opened-both (PartingSign (star e) i) i m m′ (compared-turns e i j (λ w w′ a b. compared-word e (suc i) j w w′ a b) m m′ a b)
 compared-word empty i j w w′ (within m only) (within m′ only) = inl refl
 
 -- what words have after one atom
-pub compared-after : (e : Exp) (i j p : ℕ) (w w′ : Text) → After e i j p w → After e i j p w′ → Compared (Sign e i) w w′
+pub compared-after : (e : Exp) (i j p : ℕ) (w w′ : Text) → After e i j p w → After e i j p w′ → Compared (PartingSign e i) w w′
 compared-after (atom k) i j p w w′ (upto m (q, only)) (upto m′ (q′, only)) = inl refl
 compared-after (cat l r) i j p w w′ (upto m (left (both u v a b))) (upto m′ (left (both u′ v′ a′ b′))) =
-    let C : Signs = Sign (cat l r) i in
+    let C : Signs = PartingSign (cat l r) i in
     compared-upto C i (u ++ v) (u′ ++ v′)
     (compared-both C u u′ v v′
-    (compared-weak (Sign l (suc i)) C (in-cat-left l r i) u u′ (compared-after l (suc i) j p u u′ a a′))
-    (compared-weak (Sign r (suc i + nodes l)) C (in-cat-right l r i) v v′ (compared-word r (suc i + nodes l) (j + atoms l) v v′ b b′)))
+    (compared-weak (PartingSign l (suc i)) C (in-cat-left l r i) u u′ (compared-after l (suc i) j p u u′ a a′))
+    (compared-weak (PartingSign r (suc i + nodes l)) C (in-cat-right l r i) v v′ (compared-word r (suc i + nodes l) (j + atoms l) v v′ b b′)))
 compared-after (cat l r) i j p w w′ (upto m (left (both u v a b))) (upto m′ (right a′)) = absurd (no-both l r _ _ j p u m′ a a′)
 compared-after (cat l r) i j p w w′ (upto m (right a)) (upto m′ (left (both u v a′ b))) = absurd (no-both l r _ _ j p u m a′ a)
 compared-after (cat l r) i j p w w′ (upto m (right a)) (upto m′ (right a′)) =
-    let C : Signs = Sign (cat l r) i in
+    let C : Signs = PartingSign (cat l r) i in
     compared-upto C i m m′
-    (compared-weak (Sign r (suc i + nodes l)) C (in-cat-right l r i) m m′ (compared-after r (suc i + nodes l) (j + atoms l) p m m′ a a′))
+    (compared-weak (PartingSign r (suc i + nodes l)) C (in-cat-right l r i) m m′ (compared-after r (suc i + nodes l) (j + atoms l) p m m′ a a′))
 compared-after (alt l r) i j p w w′ (upto m (left a)) (upto m′ (left a′)) =
-    let C : Signs = Sign (alt l r) i in
-    compared-upto C i m m′ (compared-weak (Sign l (suc i)) C (in-alt-left l r i) m m′ (compared-after l (suc i) j p m m′ a a′))
+    let C : Signs = PartingSign (alt l r) i in
+    compared-upto C i m m′ (compared-weak (PartingSign l (suc i)) C (in-alt-left l r i) m m′ (compared-after l (suc i) j p m m′ a a′))
 compared-after (alt l r) i j p w w′ (upto m (left a)) (upto m′ (right a′)) = absurd (no-both l r _ _ j p m m′ a a′)
 compared-after (alt l r) i j p w w′ (upto m (right a)) (upto m′ (left a′)) = absurd (no-both l r _ _ j p m′ m a′ a)
 compared-after (alt l r) i j p w w′ (upto m (right a)) (upto m′ (right a′)) =
-    let C : Signs = Sign (alt l r) i in
+    let C : Signs = PartingSign (alt l r) i in
     compared-upto C i m m′
-    (compared-weak (Sign r (suc i + nodes l)) C (in-alt-right l r i) m m′ (compared-after r (suc i + nodes l) (j + atoms l) p m m′ a a′))
+    (compared-weak (PartingSign r (suc i + nodes l)) C (in-alt-right l r i) m m′ (compared-after r (suc i + nodes l) (j + atoms l) p m m′ a a′))
 compared-after (star e) i j p w w′ (upto m (both u v a b)) (upto m′ (both u′ v′ a′ b′)) =
-    let C : Signs = Sign (star e) i in
+    let C : Signs = PartingSign (star e) i in
     let c : Text = br (closing i) ∷ [] in
     subst (λ (z : Text). Compared C z ((u′ ++ v′) ++ c)) (sym (append-assoc u v c))
     (subst (λ (z : Text). Compared C (u ++ (v ++ c)) z) (sym (append-assoc u′ v′ c))
     (compared-both C u u′ (v ++ c) (v′ ++ c)
-    (compared-weak (Sign e (suc i)) C (in-star e i) u u′ (compared-after e (suc i) j p u u′ a a′))
+    (compared-weak (PartingSign e (suc i)) C (in-star e i) u u′ (compared-after e (suc i) j p u u′ a a′))
     (compared-turns e i j (λ w w′ a b. compared-word e (suc i) j w w′ a b) v v′ b b′)))
 compared-after empty i j p w w′ (upto m h) k = absurd h
 
-compared-rest : (e : Content) (p : ℕ) (w w′ : Text) → Rest e p w → Rest e p w′ → Compared (SignOf e) w w′
+compared-rest : (e : Content) (p : ℕ) (w w′ : Text) → Rest e p w → Rest e p w′ → Compared (PartingSignOf e) w w′
 compared-rest nothing zero w w′ only only = inl refl
 compared-rest nothing (suc p) w w′ a b = absurd a
 compared-rest (tree e) zero w w′ a b = compared-word e 1 1 w w′ a b
@@ -274,7 +274,7 @@ module _ (e : Content) (t t′ : Text) (stops : NoBracket t) (stops′ : NoBrack
       let i : α ≡ β = same-strings α β r in
       cc
 
-  parted-strings : (n : ℕ) (γ : Text) (c d : Bracket) (s s′ : Text) → SignOf e n c d → (α β : Str) → α ▷ t ≡ γ ++ br c ∷ s → β ▷ t′ ≡ γ ++ br d ∷ s′ →
+  parted-strings : (n : ℕ) (γ : Text) (c d : Bracket) (s s′ : Text) → PartingSignOf e n c d → (α β : Str) → α ▷ t ≡ γ ++ br c ∷ s → β ▷ t′ ≡ γ ++ br d ∷ s′ →
       (α ≡ β) ⊎ PartAt e n α β
   parted-strings n [] c d s s′ h [] β q q′ = absurd (stops c s q)
   parted-strings n [] c d s s′ h (a ∷ α) [] q q′ = absurd (stops′ d s′ q′)
@@ -315,7 +315,7 @@ module _ (e : Content) (t t′ : Text) (stops : NoBracket t) (stops′ : NoBrack
       }))
       (parted-strings n γ c d s s′ h α β r r′)
 
-  strings-part : (α β : Str) → Compared (SignOf e) (α ▷ t) (β ▷ t′) → (α ≡ β → ⊥) → (n : ℕ) × PartAt e n α β
+  strings-part : (α β : Str) → Compared (PartingSignOf e) (α ▷ t) (β ▷ t′) → (α ≡ β → ⊥) → (n : ℕ) × PartAt e n α β
   strings-part α β (inl q) differ = absurd (differ (same-strings α β q))
   strings-part α β (inr h) differ =
       ⊎-elim (λ (q : α ≡ β). absurd (differ q)) (λ (i : PartAt e (h .number) α β). (h .number, i))

@@ -22,10 +22,10 @@ pub record FaultBy (tags : ℕ → List ℕ) (e : Content) (p : ℕ) (x : Next) 
   pub second-is : fault .second-string ≡ β
 
 -- where there are two strings they make a fault; where there are not, there is no fault
-abbrev pub Tells : (ℕ → List ℕ) → Content → ℕ → Next → Firsts → Type 0
-Tells tags e p x no-string = Fault tags e p x → ⊥
-Tells tags e p x (one-string α) = Fault tags e p x → ⊥
-Tells tags e p x (two-strings α β) = FaultBy tags e p x α β
+abbrev pub TellsFault : (ℕ → List ℕ) → Content → ℕ → Next → Firsts → Type 0
+TellsFault tags e p x no-string = Fault tags e p x → ⊥
+TellsFault tags e p x (one-string α) = Fault tags e p x → ⊥
+TellsFault tags e p x (two-strings α β) = FaultBy tags e p x α β
 
 abbrev pub FirstsTellFaults : Type 0
-FirstsTellFaults = (tags : ℕ → List ℕ) (e : Content) (p : ℕ) (x : Next) → Tells tags e p x (firsts tags e p x)
+FirstsTellFaults = (tags : ℕ → List ℕ) (e : Content) (p : ℕ) (x : Next) → TellsFault tags e p x (firsts tags e p x)

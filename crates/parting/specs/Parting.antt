@@ -16,15 +16,15 @@ pub data Node : Exp → ℕ → ℕ → Exp → Type 0 where
   star-part : {e f : Exp} {i n : ℕ} → Node e (suc i) n f → Node (star e) i n f
 
 -- at sign n one string has the first bracket next and the other the second: a star goes round or ends, a union goes left or right
-pub data Sign (e : Exp) (i n : ℕ) : Bracket → Bracket → Type 0 where
-  round-or-end : {f : Exp} → Node e i n (star f) → Sign e i n (opening (suc n)) (closing n)
-  end-or-round : {f : Exp} → Node e i n (star f) → Sign e i n (closing n) (opening (suc n))
-  left-or-right : {l r : Exp} → Node e i n (alt l r) → Sign e i n (opening (suc n)) (opening (suc n + nodes l))
-  right-or-left : {l r : Exp} → Node e i n (alt l r) → Sign e i n (opening (suc n + nodes l)) (opening (suc n))
+pub data PartingSign (e : Exp) (i n : ℕ) : Bracket → Bracket → Type 0 where
+  round-or-end : {f : Exp} → Node e i n (star f) → PartingSign e i n (opening (suc n)) (closing n)
+  end-or-round : {f : Exp} → Node e i n (star f) → PartingSign e i n (closing n) (opening (suc n))
+  left-or-right : {l r : Exp} → Node e i n (alt l r) → PartingSign e i n (opening (suc n)) (opening (suc n + nodes l))
+  right-or-left : {l r : Exp} → Node e i n (alt l r) → PartingSign e i n (opening (suc n + nodes l)) (opening (suc n))
 
-abbrev pub SignOf : Content → ℕ → Bracket → Bracket → Type 0
-SignOf nothing n c d = ⊥
-SignOf (tree e) n c d = Sign e 1 n c d
+abbrev pub PartingSignOf : Content → ℕ → Bracket → Bracket → Type 0
+PartingSignOf nothing n c d = ⊥
+PartingSignOf (tree e) n c d = PartingSign e 1 n c d
 
 -- the two strings are the same up to sign n, and part there
 pub record PartAt (e : Content) (n : ℕ) (α β : List Bracket) : Type 0 where
@@ -35,4 +35,4 @@ pub record PartAt (e : Content) (n : ℕ) (α β : List Bracket) : Type 0 where
   pub second-rest : List Bracket
   pub first-is : α ≡ shared ++ first-next ∷ first-rest
   pub second-is : β ≡ shared ++ second-next ∷ second-rest
-  pub sign : SignOf e n first-next second-next
+  pub sign : PartingSignOf e n first-next second-next

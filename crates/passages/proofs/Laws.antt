@@ -13,7 +13,7 @@ use Rattle.programs.specs.Program.{Condition, Statement, branch, statementBytes
 use Rattle.programs.specs.Limits.{StatementFits, StatementsFit}
 use Rattle.sheet.specs.Sheet.{Sheet}
 use Rattle.output.proofs.Writing.{put-then, same-bytes}
-use Rattle.notation.specs.Program.{Program as NamedProgram}
+use Rattle.notation.specs.Program.{TextProgram}
 use Rattle.printed.specs.Programs.{isItem, isIf, isDone, isOne, Preceding, nothing-yet, betweenStatements, afterIt, branchText, statementText, listText}
 use Rattle.printed.specs.Conditions.{conditionText}
 use Rattle.naming.specs.ByName.{statementNamed, programNamed}
@@ -28,7 +28,7 @@ use Rattle.clauses.proofs.Laws.{dry-put, never-in-parentheses}
 use Rattle.sentences.specs.Sentences.{PlainText, precedingAt, itemAt}
 use Rattle.glances.specs.Glances.{shapeOf, ShapeIs}
 use Rattle.glances.proofs.Laws.{nothing-lies, BranchLies, branch-lies, rest-lies, first-lies, item-lies, not-done}
-use Rattle.passages.specs.Passages.{standsBare, branchOf, bareAt, openingOf, closingOf, mostOfAProgram, statements, lists, branches, PassagePut, ProgramTextAt}
+use Rattle.passages.specs.Passages.{standsBare, branchOf, bareAt, openingOf, endWord, mostOfAProgram, statements, lists, branches, PassagePut, ProgramTextAt}
 
 -- ---- words around a branch
 pub bare-one : (e : Bool) (k : ℕ) → k ≡ 1 → true ≡ bareAt e k
@@ -46,20 +46,20 @@ opened b e = rw e refl
 pub opened-begin : (b : Bool) → b ≡ false → 98 ∷ 101 ∷ 103 ∷ 105 ∷ 110 ∷ 32 ∷ [] ≡ openingOf b
 opened-begin b e = rw e refl
 
-pub closed : (b e : Bool) → b ≡ true → [] ≡ closingOf b e
+pub closed : (b e : Bool) → b ≡ true → [] ≡ endWord b e
 closed b e f = rw f refl
 
-pub closed-empty : (b e : Bool) → b ≡ false → e ≡ true → 101 ∷ 110 ∷ 100 ∷ [] ≡ closingOf b e
+pub closed-empty : (b e : Bool) → b ≡ false → e ≡ true → 101 ∷ 110 ∷ 100 ∷ [] ≡ endWord b e
 closed-empty b e f g = rw (f, g) refl
 
-pub closed-end : (b e : Bool) → b ≡ false → e ≡ false → 32 ∷ 101 ∷ 110 ∷ 100 ∷ [] ≡ closingOf b e
+pub closed-end : (b e : Bool) → b ≡ false → e ≡ false → 32 ∷ 101 ∷ 110 ∷ 100 ∷ [] ≡ endWord b e
 closed-end b e f g = rw (f, g) refl
 
 pub opening-short : (b : Bool) → length (openingOf b) ≤ 6
 opening-short true = omega arith
 opening-short false = omega arith
 
-pub closing-short : (b e : Bool) → length (closingOf b e) ≤ 4
+pub closing-short : (b e : Bool) → length (endWord b e) ≤ 4
 closing-short true e = omega arith
 closing-short false true = omega arith
 closing-short false false = omega arith
@@ -79,10 +79,10 @@ pub behind-other : (b : Bool) → b ≡ false → precedingAt 1 ≡ afterIt b
 behind-other b e = rw e refl
 
 -- ---- the shape of a list tells how its branch is written
-bare-is : (e : Bool) (p : NamedProgram) → bareAt e (shapeOf p) ≡ standsBare e p
-bare-is true NamedProgram.done = refl
-bare-is false NamedProgram.done = refl
-bare-is e (NamedProgram.step t p) = on e (isIf t) (isOne (NamedProgram.step t p))
+bare-is : (e : Bool) (p : TextProgram) → bareAt e (shapeOf p) ≡ standsBare e p
+bare-is true TextProgram.done = refl
+bare-is false TextProgram.done = refl
+bare-is e (TextProgram.step t p) = on e (isIf t) (isOne (TextProgram.step t p))
   where
     on : (e x y : Bool) → bareAt e (cond (not x && y) 1 (cond y 2 3)) ≡ cond e y (not x && y)
     on true true true = refl
@@ -94,9 +94,9 @@ bare-is e (NamedProgram.step t p) = on e (isIf t) (isOne (NamedProgram.step t p)
     on false false true = refl
     on false false false = refl
 
-empty-is : (p : NamedProgram) → eqb (shapeOf p) 0 ≡ isDone p
-empty-is NamedProgram.done = refl
-empty-is (NamedProgram.step t p) = on (isIf t) (isOne (NamedProgram.step t p))
+empty-is : (p : TextProgram) → eqb (shapeOf p) 0 ≡ isDone p
+empty-is TextProgram.done = refl
+empty-is (TextProgram.step t p) = on (isIf t) (isOne (TextProgram.step t p))
   where
     on : (x y : Bool) → eqb (cond (not x && y) 1 (cond y 2 3)) 0 ≡ false
     on true true = refl
@@ -104,12 +104,12 @@ empty-is (NamedProgram.step t p) = on (isIf t) (isOne (NamedProgram.step t p))
     on false true = refl
     on false false = refl
 
-around : (e : Bool) (p : NamedProgram) → openingOf (standsBare e p) ++ (listText nothing-yet p ++ closingOf (standsBare e p) (isDone p)) ≡ branchOf e p
-around true NamedProgram.done = refl
-around false NamedProgram.done = refl
-around e (NamedProgram.step t p) = on (standsBare e (NamedProgram.step t p)) (listText nothing-yet (NamedProgram.step t p))
+around : (e : Bool) (p : TextProgram) → openingOf (standsBare e p) ++ (listText nothing-yet p ++ endWord (standsBare e p) (isDone p)) ≡ branchOf e p
+around true TextProgram.done = refl
+around false TextProgram.done = refl
+around e (TextProgram.step t p) = on (standsBare e (TextProgram.step t p)) (listText nothing-yet (TextProgram.step t p))
   where
-    on : (b : Bool) (x : List ℕ) → openingOf b ++ (x ++ closingOf b false) ≡ branchText b (NamedProgram.step t p) x
+    on : (b : Bool) (x : List ℕ) → openingOf b ++ (x ++ endWord b false) ≡ branchText b (TextProgram.step t p) x
     on true x = append-nil x
     on false x = refl
 
@@ -126,7 +126,7 @@ module _ (g : Ground) (i : ℕ) (p : Pen) where
 
   -- ---- a branch
   pub branch-put : (e : Bool) (k : ℕ) → ShapeIs s i k → (b : Bool) → b ≡ bareAt e k → (z : Bool) → z ≡ eqb k 0 → (d₁ d₂ d₃ : List ℕ) (n₁ n₃ : ℕ) (r : Put)
-      → PutAs (p .write) (p .lent) (p .at) (openingOf b) d₁ n₁ → PassagePut (lists nothing-yet) g i (pen-at p d₁ n₁) r d₂ → PutAs (p .write) d₂ (r .at) (closingOf b z) d₃ n₃
+      → PutAs (p .write) (p .lent) (p .at) (openingOf b) d₁ n₁ → PassagePut (lists nothing-yet) g i (pen-at p d₁ n₁) r d₂ → PutAs (p .write) d₂ (r .at) (endWord b z) d₃ n₃
       → PassagePut (branches e) g i p (record { next = r .next; at = n₃ }) d₃
   branch-put e k S b bis z zis d₁ d₂ d₃ n₁ n₃ r O R C =
       record {
@@ -144,8 +144,8 @@ module _ (g : Ground) (i : ℕ) (p : Pen) where
           let w = R .right a src q st fits in
           let bare : b ≡ standsBare e m = bis ∙ ap (bareAt e) (S a q st) ∙ bare-is e m in
           let none : z ≡ isDone m = zis ∙ ap (λ (n : ℕ). eqb n 0) (S a q st) ∙ empty-is m in
-          let same : openingOf b ++ (listText nothing-yet m ++ closingOf b z) ≡ branchOf e m
-          = ap (λ (x : Bool). openingOf x ++ (listText nothing-yet m ++ closingOf x z)) bare ∙ ap (λ (x : Bool). openingOf (standsBare e m) ++ (listText nothing-yet m ++ closingOf (standsBare e m) x)) none ∙ around e m in
+          let same : openingOf b ++ (listText nothing-yet m ++ endWord b z) ≡ branchOf e m
+          = ap (λ (x : Bool). openingOf x ++ (listText nothing-yet m ++ endWord x z)) bare ∙ ap (λ (x : Bool). openingOf (standsBare e m) ++ (listText nothing-yet m ++ endWord (standsBare e m) x)) none ∙ around e m in
           (w .0, same-bytes _ _ _ _ (branchOf e m) _ _ same (put-then _ _ _ _ _ _ _ _ _ O (put-then _ _ _ _ _ _ _ _ _ (w .1) C)))
 
   -- ---- lists

@@ -10,7 +10,7 @@ use Rattle.lent.specs.Put.{PutAs}
 use Rattle.programs.specs.Program.{Statement, statementBytes, Program, programBytes}
 use Rattle.programs.specs.Limits.{StatementFits, StatementsFit}
 use Rattle.sheet.specs.Sheet.{Sheet}
-use Rattle.notation.specs.Program.{Program as NamedProgram}
+use Rattle.notation.specs.Program.{TextProgram}
 use Rattle.notation.specs.Tokens.{BEGIN, END, wordBytes}
 use Rattle.printed.specs.Programs.{isOne, isPlainOne, Preceding, nothing-yet, branchText, statementText, listText, programText}
 use Rattle.naming.specs.ByName.{statementNamed, programNamed}
@@ -20,10 +20,10 @@ use Rattle.visits.specs.Ran.{Ground}
 use Rattle.clauses.specs.declared.Put.{Put}
 
 -- a branch of an if: one statement stands bare, and after else also an if
-abbrev pub standsBare : Bool → NamedProgram → Bool
+abbrev pub standsBare : Bool → TextProgram → Bool
 standsBare after-else p = cond after-else (isOne p) (isPlainOne p)
 
-abbrev pub branchOf : Bool → NamedProgram → List ℕ
+abbrev pub branchOf : Bool → TextProgram → List ℕ
 branchOf after-else p = branchText (standsBare after-else p) p (listText nothing-yet p)
 
 -- by the shape of its list
@@ -34,8 +34,8 @@ bareAt after-else k = cond (eqb k 1) true (cond after-else (eqb k 2) false)
 abbrev pub openingOf : Bool → List ℕ
 openingOf bare = cond bare [] (wordBytes BEGIN ++ 32 ∷ [])
 
-abbrev pub closingOf : Bool → Bool → List ℕ
-closingOf bare empty = cond bare [] (cond empty (wordBytes END) (32 ∷ wordBytes END))
+abbrev pub endWord : Bool → Bool → List ℕ
+endWord bare empty = cond bare [] (cond empty (wordBytes END) (32 ∷ wordBytes END))
 
 -- more than the text of a program has for each of its bytes: what a statement prints, and the words of an if
 abbrev pub mostOfAByte : ℕ

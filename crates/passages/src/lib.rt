@@ -7,7 +7,7 @@ ghost use Rattle.output.specs.Reach.{farthest};
 ghost use Rattle.printed.specs.Programs.{afterIt};
 ghost use Rattle.visits.specs.Written.{Written};
 ghost use Rattle.sentences.specs.Sentences.{precedingAt};
-ghost use Rattle.passages.specs.Passages.{bareAt, openingOf, closingOf, mostOfAByte, mostAround, mostOfAProgram, statements, lists, branches, PassagePut, ProgramTextAt};
+ghost use Rattle.passages.specs.Passages.{bareAt, openingOf, endWord, mostOfAByte, mostAround, mostOfAProgram, statements, lists, branches, PassagePut, ProgramTextAt};
 
 // Whether a branch with a list of that shape stands bare: one statement does, and after else an if.
 fn is_bare(otherwise: bool, shape: u8) -> bool
@@ -36,7 +36,7 @@ fn put_opening(bare: bool, out: &mut [u8], at: usize, write: bool) -> usize
 // Writes what stands behind a branch.
 fn put_closing(bare: bool, empty: bool, out: &mut [u8], at: usize, write: bool) -> usize
     requires { ⌜ at ≤ farthest ⌝ }
-    ensures { λ r. ⌜ PutAs write (now (out .entry)) at (closingOf bare empty) (now (out .exit)) r ⌝ }
+    ensures { λ r. ⌜ PutAs write (now (out .entry)) at (endWord bare empty) (now (out .exit)) r ⌝ }
 {
     if bare {
         return lent::put_bytes(out, at, b"", write);

@@ -10,26 +10,26 @@ use lib.ListN.{length, take, drop, length-append, length-take}
 use lib.Seq.{sets, sets-eq, length-sets, take-at, length-take-le, take-append-seam}
 use borrow.Author.Tests.{ltb-true, leb-true, lt-ltb, le-leb}
 use Rattle.lent.specs.Put.{put, PutAs}
-use Rattle.notation.specs.Program.{Program}
-use Rattle.notation.specs.Rules.{Tree, Rule, Rules, contentOf}
+use Rattle.notation.specs.Program.{TextProgram}
+use Rattle.notation.specs.Rules.{Tree, TextRule, Rules, contentInside}
 use Rattle.notation.specs.Limits.{nodesInAll}
 use Rattle.expressions.specs.Expr.{nodesOf}
 use Rattle.packing.specs.Packed.{field, contentBytes, nodesSection, nodesOfRule, productionRecord, productionsSection}
 use Rattle.beds.specs.declared.Row.{Row}
 use Rattle.beds.specs.Bedded.{Lays}
 use Rattle.beds.proofs.Promises.{sheet-nodes, six-each}
-use Rattle.records.specs.Records.{productionBytes, ProductionFits}
+use Rattle.records.specs.Records.{recordBytes, FitsRecord}
 use Rattle.records.proofs.Promises.{one-more-production, more-nodes, nodes-counted}
 use Rattle.desks.specs.Kept.{tagIn}
 use Rattle.slips.specs.declared.Slip.{Slip}
 use Rattle.pasts.specs.declared.Past.{Past}
-use Rattle.pasts.specs.Pasts.{fitting, Fit, SlipOf, PastOf, EndIs, LayIs}
+use Rattle.pasts.specs.Pasts.{fitting, PastFits, SlipOf, PastKept, PastEndIs, LayIs}
 
 both : (a b : Bool) → a && b ≡ true → (a ≡ true) × (b ≡ true)
 both true b e = (refl, e)
 both false b e = absurd (true≢false (sym e))
 
-pub fitting-fit : (o : Past) (s : Slip) → fitting o s ≡ true → Fit o s
+pub fitting-fit : (o : Past) (s : Slip) → fitting o s ≡ true → PastFits o s
 fitting-fit o s e =
     let a = both (ltb (o .productions) 64) _ e in
     let b = both (leb (o .before) (o .nodes)) _ (a .1) in
@@ -52,22 +52,22 @@ fitting-fit o s e =
 and-true : (a b : Bool) → a ≡ true → b ≡ true → a && b ≡ true
 and-true a b e f = ap₂ (λ (x y : Bool). x && y) e f
 
-fit-fitting : (o : Past) (s : Slip) → Fit o s → fitting o s ≡ true
+fit-fitting : (o : Past) (s : Slip) → PastFits o s → fitting o s ≡ true
 fit-fitting o s f =
     and-true _ _ (lt-ltb _ _ (f .few)) (and-true _ _ (le-leb _ _ (f .nodes-behind)) (and-true _ _ (le-leb _ _ (f .few-nodes)) (and-true _ _ (le-leb _ _ (f .nodes-within))
     (and-true _ _ (lt-ltb _ _ (f .nonterm-small)) (and-true _ _ (lt-ltb _ _ (f .tag-small)) (and-true _ _ (le-leb _ _ (f .front-small)) (le-leb _ _ (f .back-small))))))))
 
-pub end-unfit : (o : Past) (s : Slip) (memory : List ℕ) (b : Bool) → b ≡ fitting o s → b ≡ false → EndIs o s memory memory o
+pub end-unfit : (o : Past) (s : Slip) (memory : List ℕ) (b : Bool) → b ≡ fitting o s → b ≡ false → PastEndIs o s memory memory o
 end-unfit o s memory b e h = record { is = λ r earlier d nodes f. absurd (true≢false (sym (fit-fitting o s f) ∙ sym e ∙ h)) }
 
-pub end-far : (o : Past) (s : Slip) (memory : List ℕ) → 2000 ≤ o .before → EndIs o s memory memory o
+pub end-far : (o : Past) (s : Slip) (memory : List ℕ) → 2000 ≤ o .before → PastEndIs o s memory memory o
 end-far o s memory h = record { is = λ r earlier d nodes f. absurd (omega (arith, h, f .nodes-behind, f .nodes-within)) }
 
-pub fit-of : (o : Past) (s : Slip) (b : Bool) → b ≡ fitting o s → b ≡ true → Fit o s
+pub fit-of : (o : Past) (s : Slip) (b : Bool) → b ≡ fitting o s → b ≡ true → PastFits o s
 fit-of o s b e h = fitting-fit o s (sym e ∙ h)
 
 -- what the record asks
-pub record-fits : (o : Past) (s : Slip) (b : Bool) → b ≡ fitting o s → b ≡ true → ProductionFits (s .nonterm) (s .tag) (o .before / 6) ((o .nodes - o .before) / 6) (s .front) (s .back)
+pub record-fits : (o : Past) (s : Slip) (b : Bool) → b ≡ fitting o s → b ≡ true → FitsRecord (s .nonterm) (s .tag) (o .before / 6) ((o .nodes - o .before) / 6) (s .front) (s .back)
 record-fits o s b e h =
     let f = fitting-fit o s (sym e ∙ h) in
     record {
@@ -90,25 +90,25 @@ behind memory after new front at r p e l h =
     let k : length (take at memory ++ new) ≡ at + length new = length-append (take at memory) new ∙ ap (λ (n : ℕ). n + length new) (length-take-le at memory l) in
     ap (take (at + length new)) z ∙ take-at (take at memory ++ new) (drop (at + length new) memory) (at + length new) k ∙ ap (λ (x : List ℕ). x ++ new) e
 
-pub six-bytes : (r : Rules) (e : Option Tree) → length (contentBytes r e) ≡ 6 * nodesOf (contentOf e)
+pub six-bytes : (r : Rules) (e : Option Tree) → length (contentBytes r e) ≡ 6 * nodesOf (contentInside e)
 six-bytes r e = ap length (sym (sheet-nodes r e)) ∙ six-each (λ p. field r (some p)) e
 
 pub ended-as : (o : Past) (s : Slip) (memory after : List ℕ) (n : ℕ) (b : Bool) → b ≡ fitting o s → b ≡ true
-    → PutAs true memory (12 * o .productions) (productionBytes (s .nonterm) (s .tag) (o .before / 6) ((o .nodes - o .before) / 6) (s .front) (s .back)) after n
-    → EndIs o s memory after (record { productions = o .productions + 1; before = o .nodes; nodes = o .nodes })
+    → PutAs true memory (12 * o .productions) (recordBytes (s .nonterm) (s .tag) (o .before / 6) ((o .nodes - o .before) / 6) (s .front) (s .back)) after n
+    → PastEndIs o s memory after (record { productions = o .productions + 1; before = o .nodes; nodes = o .nodes })
 ended-as o s memory after n b e h p = record { is = λ r earlier d nodes f m w k. on r earlier d nodes f m w k }
   where
-    on : (r : Rules) (earlier : List Rule) (d : Rule) (nodes : List ℕ) → Fit o s → length memory ≡ 768 → SlipOf r d s → PastOf r earlier (contentBytes r (d .inside)) o memory nodes
-        → PastOf r (earlier ++ d ∷ []) [] (record { productions = o .productions + 1; before = o .nodes; nodes = o .nodes }) after nodes
+    on : (r : Rules) (earlier : List TextRule) (d : TextRule) (nodes : List ℕ) → PastFits o s → length memory ≡ 768 → SlipOf r d s → PastKept r earlier (contentBytes r (d .inside)) o memory nodes
+        → PastKept r (earlier ++ d ∷ []) [] (record { productions = o .productions + 1; before = o .nodes; nodes = o .nodes }) after nodes
     on r earlier d nodes f m w k =
         let six = six-bytes r (d .inside) in
         let first : o .before / 6 ≡ 0 + nodesInAll earlier = omega (arith, k .before-is) in
         let count : (o .nodes - o .before) / 6 ≡ nodesOfRule d = omega (arith, k .nodes-are, six) in
-        let new : List ℕ = productionBytes (s .nonterm) (s .tag) (o .before / 6) ((o .nodes - o .before) / 6) (s .front) (s .back) in
+        let new : List ℕ = recordBytes (s .nonterm) (s .tag) (o .before / 6) ((o .nodes - o .before) / 6) (s .front) (s .back) in
         let same : new ≡ productionRecord r (0 + nodesInAll earlier) d =
-        ap₂ (λ (a c : ℕ). productionBytes a c (o .before / 6) ((o .nodes - o .before) / 6) (s .front) (s .back)) (w .nonterm-is) (w .tag-is)
-        ∙ ap₂ (λ (a c : ℕ). productionBytes (d .nonterminal) (tagIn r (d .tag)) a c (s .front) (s .back)) first count
-        ∙ ap₂ (λ (a c : ℕ). productionBytes (d .nonterminal) (tagIn r (d .tag)) (0 + nodesInAll earlier) (nodesOfRule d) a c) (w .front-is) (w .back-is) in
+        ap₂ (λ (a c : ℕ). recordBytes a c (o .before / 6) ((o .nodes - o .before) / 6) (s .front) (s .back)) (w .nonterm-is) (w .tag-is)
+        ∙ ap₂ (λ (a c : ℕ). recordBytes (d .nonterminal) (tagIn r (d .tag)) a c (s .front) (s .back)) first count
+        ∙ ap₂ (λ (a c : ℕ). recordBytes (d .nonterminal) (tagIn r (d .tag)) (0 + nodesInAll earlier) (nodesOfRule d) a c) (w .front-is) (w .back-is) in
         let at : ℕ = 12 * o .productions in
         let far : 12 * (o .productions + 1) ≡ at + length new = omega arith in
         record {
@@ -130,8 +130,8 @@ pub laid-as : (o : Past) (row : Row) (memory after : List ℕ) (n : ℕ) → Put
     → LayIs o row memory after (record { productions = o .productions; before = o .before; nodes = n })
 laid-as o row memory after n p = record { is = λ r earlier e productions l h m k. on r earlier e productions l h m k }
   where
-    on : (r : Rules) (earlier : List Rule) (e : Option Tree) (productions : List ℕ) → Lays (contentBytes r e) row → o .nodes + row .length ≤ 1536 → length memory ≡ 1536
-        → PastOf r earlier [] o productions memory → PastOf r earlier (contentBytes r e) (record { productions = o .productions; before = o .before; nodes = n }) productions after
+    on : (r : Rules) (earlier : List TextRule) (e : Option Tree) (productions : List ℕ) → Lays (contentBytes r e) row → o .nodes + row .length ≤ 1536 → length memory ≡ 1536
+        → PastKept r earlier [] o productions memory → PastKept r earlier (contentBytes r e) (record { productions = o .productions; before = o .before; nodes = n }) productions after
     on r earlier e productions l h m k =
         let p′ = subst (λ (z : List ℕ). PutAs true memory (o .nodes) z after n) (l .bytes-are) p in
         let there : o .nodes + length (contentBytes r e) ≤ length memory = omega (arith, h, m, l .length-is) in

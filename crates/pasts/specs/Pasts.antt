@@ -6,7 +6,7 @@ use mathlib.Core.List.{List, [], _∷_, _++_}
 use Prim.Native.Nat.{ℕ, _+_, _≤_, _<_}
 use lib.Dec.{ltb, leb}
 use lib.ListN.{length}
-use Rattle.notation.specs.Rules.{Tree, Rule, Rules}
+use Rattle.notation.specs.Rules.{Tree, TextRule, Rules}
 use Rattle.packing.specs.Packed.{field, contentBytes}
 use Rattle.beds.specs.declared.Row.{Row}
 use Rattle.beds.specs.Bedded.{Lays}
@@ -20,7 +20,7 @@ fitting o s =
     && (leb (o .before) (o .nodes) && (leb (o .nodes) (o .before + 192) && (leb (o .nodes) 1536 && (ltb (s .nonterm) 256 && (ltb (s .tag) 256 && (leb (s .front) 65535 && leb (s .back) 65535))))))
 
 -- a record can hold the numbers, and there is room for it
-pub record Fit (o : Past) (s : Slip) : Type 0 where
+pub record PastFits (o : Past) (s : Slip) : Type 0 where
   pub few : o .productions < 64
   pub nodes-behind : o .before ≤ o .nodes
   pub few-nodes : o .nodes ≤ o .before + 192
@@ -31,19 +31,19 @@ pub record Fit (o : Past) (s : Slip) : Type 0 where
   pub back-small : s .back ≤ 65535
 
 -- the numbers are those of a rule
-pub record SlipOf (r : Rules) (d : Rule) (s : Slip) : Type 0 where
+pub record SlipOf (r : Rules) (d : TextRule) (s : Slip) : Type 0 where
   pub nonterm-is : s .nonterm ≡ d .nonterminal
   pub tag-is : s .tag ≡ tagIn r (d .tag)
   pub front-is : s .front ≡ field r (d .own .first-visit)
   pub back-is : s .back ≡ field r (d .own .second-visit)
 
-abbrev pub PastOf : Rules → List Rule → List ℕ → Past → List ℕ → List ℕ → Type 0
-PastOf r earlier more o productions nodes = PastHeld r earlier more (o .productions) (o .before) (o .nodes) productions nodes
+abbrev pub PastKept : Rules → List TextRule → List ℕ → Past → List ℕ → List ℕ → Type 0
+PastKept r earlier more o productions nodes = PastHeld r earlier more (o .productions) (o .before) (o .nodes) productions nodes
 
-pub record EndIs (o : Past) (s : Slip) (memory after : List ℕ) (a : Past) : Type 0 where
-  pub is : (r : Rules) (earlier : List Rule) (d : Rule) (nodes : List ℕ) → Fit o s → length memory ≡ 768 → SlipOf r d s → PastOf r earlier (contentBytes r (d .inside)) o memory nodes
-      → PastOf r (earlier ++ d ∷ []) [] a after nodes
+pub record PastEndIs (o : Past) (s : Slip) (memory after : List ℕ) (a : Past) : Type 0 where
+  pub is : (r : Rules) (earlier : List TextRule) (d : TextRule) (nodes : List ℕ) → PastFits o s → length memory ≡ 768 → SlipOf r d s → PastKept r earlier (contentBytes r (d .inside)) o memory nodes
+      → PastKept r (earlier ++ d ∷ []) [] a after nodes
 
 pub record LayIs (o : Past) (row : Row) (memory after : List ℕ) (a : Past) : Type 0 where
-  pub is : (r : Rules) (earlier : List Rule) (e : Option Tree) (productions : List ℕ) → Lays (contentBytes r e) row → o .nodes + row .length ≤ 1536 → length memory ≡ 1536
-      → PastOf r earlier [] o productions memory → PastOf r earlier (contentBytes r e) a productions after
+  pub is : (r : Rules) (earlier : List TextRule) (e : Option Tree) (productions : List ℕ) → Lays (contentBytes r e) row → o .nodes + row .length ≤ 1536 → length memory ≡ 1536
+      → PastKept r earlier [] o productions memory → PastKept r earlier (contentBytes r e) a productions after

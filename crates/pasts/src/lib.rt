@@ -2,7 +2,7 @@
 // behind the others when its tag's parentheses close.
 ghost use mathlib.Core.Path.{_≡_};
 ghost use Prim.Native.Nat.{_<_};
-ghost use Rattle.pasts.specs.Pasts.{fitting, EndIs, LayIs};
+ghost use Rattle.pasts.specs.Pasts.{fitting, PastEndIs, LayIs};
 
 // How many productions have their records, how many bytes their nodes have, and how many bytes nodes have in all.
 pub struct Past {
@@ -26,7 +26,7 @@ fn fits(old: Past, slip: slips::Slip) -> bool
 
 // A production ends.
 pub fn end(old: Past, slip: slips::Slip, memory: &mut [u8]) -> Past
-    ensures { λ r. ⌜ EndIs old slip (now (memory .entry)) (now (memory .exit)) r ⌝ }
+    ensures { λ r. ⌜ PastEndIs old slip (now (memory .entry)) (now (memory .exit)) r ⌝ }
 {
     if old.before < 2000 {
         if fits(old, slip) {

@@ -11,7 +11,7 @@ use lib.ListN.{length, getD, drop, length-append, length-drop, drop-of-length-le
 use lib.Seq.{drop-length, drop-cons, drop-append-seam}
 use lib.Dec.{eqb}
 use borrow.Author.Tests.{eq-eqb, ne-eqb, eqb-true, eqb-false, lt-ltb, le-ltb}
-use Rattle.places.specs.Lines.{goesOn, lineFeedFirst, endsLine, count, lineEnds, lastLine, LastLineAt, starts, charactersIn, leading, LeadingIs, characterStart, uncut, UncutIs, PlaceIs}
+use Rattle.places.specs.Lines.{goesOn, lineFeedFirst, endsLine, howMany, lineEnds, lastLine, LastLineAt, starts, charactersIn, leading, LeadingIs, characterStart, uncut, UncutIs, PlaceIs}
 use Rattle.places.specs.declared.Place.{Place}
 
 -- a line ends with an LF, with no other byte but CR, with a CR that is the last byte, and with one behind which no LF stands
@@ -39,44 +39,44 @@ module _ (test : ℕ → List ℕ → Bool) where
   one-few true = omega arith
   one-few false = omega arith
 
-  pub count-few : (s : List ℕ) → count test s ≤ length s
-  unfolding count
+  pub count-few : (s : List ℕ) → howMany test s ≤ length s
+  unfolding howMany
   count-few [] = omega arith
   count-few (b ∷ s) = omega (arith, one-few (test b s), count-few s)
 
-  pub count-drop : (k : ℕ) (s : List ℕ) → count test (drop k s) ≤ count test s
-  unfolding count
+  pub count-drop : (k : ℕ) (s : List ℕ) → howMany test (drop k s) ≤ howMany test s
+  unfolding howMany
   count-drop zero s = omega arith
   count-drop (suc k) [] = omega arith
   count-drop (suc k) (b ∷ s) = omega (arith, count-drop k s)
 
-  count-at : (s : List ℕ) (i : ℕ) → i < length s → count test (drop i s) ≡ cond (test (getD s i 0) (drop (suc i) s)) 1 0 + count test (drop (suc i) s)
-  unfolding count
-  count-at s i h = ap (count test) (drop-cons s i 0 h)
+  count-at : (s : List ℕ) (i : ℕ) → i < length s → howMany test (drop i s) ≡ cond (test (getD s i 0) (drop (suc i) s)) 1 0 + howMany test (drop (suc i) s)
+  unfolding howMany
+  count-at s i h = ap (howMany test) (drop-cons s i 0 h)
 
   -- a byte that keeps the test, and one that does not
-  pub kept : (s : List ℕ) (i : ℕ) → i < length s → test (getD s i 0) (drop (suc i) s) ≡ true → count test (drop i s) ≡ 1 + count test (drop (suc i) s)
-  kept s i h e = count-at s i h ∙ ap (λ t. cond t 1 0 + count test (drop (suc i) s)) e
+  pub kept : (s : List ℕ) (i : ℕ) → i < length s → test (getD s i 0) (drop (suc i) s) ≡ true → howMany test (drop i s) ≡ 1 + howMany test (drop (suc i) s)
+  kept s i h e = count-at s i h ∙ ap (λ t. cond t 1 0 + howMany test (drop (suc i) s)) e
 
-  pub left : (s : List ℕ) (i : ℕ) → i < length s → test (getD s i 0) (drop (suc i) s) ≡ false → count test (drop i s) ≡ count test (drop (suc i) s)
-  left s i h e = let all : count test (drop i s) ≡ 0 + count test (drop (suc i) s) = count-at s i h ∙ ap (λ t. cond t 1 0 + count test (drop (suc i) s)) e in omega arith
+  pub left : (s : List ℕ) (i : ℕ) → i < length s → test (getD s i 0) (drop (suc i) s) ≡ false → howMany test (drop i s) ≡ howMany test (drop (suc i) s)
+  left s i h e = let all : howMany test (drop i s) ≡ 0 + howMany test (drop (suc i) s) = count-at s i h ∙ ap (λ t. cond t 1 0 + howMany test (drop (suc i) s)) e in omega arith
 
   -- what a loop has counted, one byte on
-  pub counts-on : (s : List ℕ) (i n m : ℕ) → i < length s → length s < 2 ^ 63 → n + count test (drop i s) ≡ count test s
-      → test (getD s i 0) (drop (suc i) s) ≡ true → m ≡ (n + 1) % 2 ^ 64 → m + count test (drop (i + 1) s) ≡ count test s
+  pub counts-on : (s : List ℕ) (i n m : ℕ) → i < length s → length s < 2 ^ 63 → n + howMany test (drop i s) ≡ howMany test s
+      → test (getD s i 0) (drop (suc i) s) ≡ true → m ≡ (n + 1) % 2 ^ 64 → m + howMany test (drop (i + 1) s) ≡ howMany test s
   counts-on s i n m h long inv e up =
       rw (add-one i)
-      (let one : count test (drop i s) ≡ 1 + count test (drop (suc i) s) = kept s i h e in
+      (let one : howMany test (drop i s) ≡ 1 + howMany test (drop (suc i) s) = kept s i h e in
       let fits : (n + 1) % 2 ^ 64 ≡ n + 1 = mod-eq-of-lt (omega (arith, count-few s)) in
       omega arith)
 
-  pub passes-on : (s : List ℕ) (i n m : ℕ) → i < length s → n + count test (drop i s) ≡ count test s
-      → test (getD s i 0) (drop (suc i) s) ≡ false → m ≡ n → m + count test (drop (i + 1) s) ≡ count test s
+  pub passes-on : (s : List ℕ) (i n m : ℕ) → i < length s → n + howMany test (drop i s) ≡ howMany test s
+      → test (getD s i 0) (drop (suc i) s) ≡ false → m ≡ n → m + howMany test (drop (i + 1) s) ≡ howMany test s
   passes-on s i n m h inv e same = rw (add-one i) (omega (arith, left s i h e))
 
-  pub counts-all : (s : List ℕ) (i n : ℕ) → length s ≤ i → n + count test (drop i s) ≡ count test s → n ≡ count test s
-  unfolding count
-  counts-all s i n end inv = omega (arith, ap (count test) (drop-of-length-le s {i = i} end))
+  pub counts-all : (s : List ℕ) (i n : ℕ) → length s ≤ i → n + howMany test (drop i s) ≡ howMany test s → n ≡ howMany test s
+  unfolding howMany
+  counts-all s i n end inv = omega (arith, ap (howMany test) (drop-of-length-le s {i = i} end))
 
 -- the bytes at the start that keep a test, one byte on, and where they end
 
@@ -128,7 +128,7 @@ uncut-none s n k i high none inv = record { within = omega arith; most = omega a
 -- the last line
 
 ends-empty : lineEnds [] ≡ 0
-unfolding count
+unfolding howMany
 ends-empty = refl
 
 pub ends-none : (s : List ℕ) → lineEnds (drop (length s) s) ≡ 0
@@ -188,12 +188,12 @@ last-short (b ∷ s) = by (eqb (lineEnds (b ∷ s)) 0) (last-short s)
 
 -- bytes in which no line ends lengthen the last line
 no-feed : (v : List ℕ) → lineEnds v ≡ 0 → lineFeedFirst v ≡ false
-unfolding count endsLine
+unfolding howMany endsLine
 no-feed [] h = refl
 no-feed (b ∷ s) h = by (eqb b 10) refl
   where
     by : (t : Bool) → eqb b 10 ≡ t → t ≡ false
-    by true e = let some : 1 + count endsLine s ≡ 0 = subst (λ t. cond (t || (eqb b 13 && not (lineFeedFirst s))) 1 0 + count endsLine s ≡ 0) e h in absurd (omega arith)
+    by true e = let some : 1 + howMany endsLine s ≡ 0 = subst (λ t. cond (t || (eqb b 13 && not (lineFeedFirst s))) 1 0 + howMany endsLine s ≡ 0) e h in absurd (omega arith)
     by false e = refl
 
 ends-same : (b : ℕ) (u v : List ℕ) → lineFeedFirst v ≡ false → endsLine b (u ++ v) ≡ endsLine b u
@@ -202,9 +202,9 @@ ends-same b [] v e = ap (λ t. eqb b 10 || (eqb b 13 && not t)) e
 ends-same b (a ∷ u) v e = refl
 
 ends-append : (u v : List ℕ) → lineEnds v ≡ 0 → lineEnds (u ++ v) ≡ lineEnds u
-unfolding count
+unfolding howMany
 ends-append [] v none = none
-ends-append (b ∷ u) v none = ap (λ t. cond t 1 0 + count endsLine (u ++ v)) (ends-same b u v (no-feed v none)) ∙ ap (λ n. cond (endsLine b u) 1 0 + n) (ends-append u v none)
+ends-append (b ∷ u) v none = ap (λ t. cond t 1 0 + howMany endsLine (u ++ v)) (ends-same b u v (no-feed v none)) ∙ ap (λ n. cond (endsLine b u) 1 0 + n) (ends-append u v none)
 
 last-append : (u v : List ℕ) → lineEnds v ≡ 0 → lastLine (u ++ v) ≡ lastLine u ++ v
 unfolding lastLine
@@ -237,14 +237,14 @@ new-line u v r is at = by (eqb (lineEnds v) 0) refl
         last-from (length u) (u ++ v) (subst (λ l. 1 ≤ lineEnds l) (sym behind) (omega arith)) ∙ ap lastLine behind ∙ sym (is .line)
 
 pub characters-append : (u v : List ℕ) → charactersIn (u ++ v) ≡ charactersIn u + charactersIn v
-unfolding count
+unfolding howMany
 characters-append [] v = omega arith
 characters-append (b ∷ u) v = omega (arith, characters-append u v)
 
 -- places
 
 pub at-start : (p : Place) → p .offset ≡ 0 → p .line ≡ 1 → p .column ≡ 1 → PlaceIs [] p
-unfolding count lastLine
+unfolding howMany lastLine
 at-start p o l c = record { offset = o; line = omega arith; column = omega arith }
 
 -- the column behind v more bytes, whose own last line starts at r: counted on from the place's, or from 1

@@ -22,13 +22,13 @@ unfoldable pub endsLine : ℕ → List ℕ → Bool
 endsLine b s = eqb b 10 || (eqb b 13 && not (lineFeedFirst s))
 
 -- how many of some bytes keep a test of a byte and of the bytes behind it
-unfoldable pub count : (ℕ → List ℕ → Bool) → List ℕ → ℕ
-count test [] = 0
-count test (b ∷ s) = cond (test b s) 1 0 + count test s
+unfoldable pub howMany : (ℕ → List ℕ → Bool) → List ℕ → ℕ
+howMany test [] = 0
+howMany test (b ∷ s) = cond (test b s) 1 0 + howMany test s
 
 -- how many lines end in some bytes
 abbrev pub lineEnds : List ℕ → ℕ
-lineEnds s = count endsLine s
+lineEnds s = howMany endsLine s
 
 -- the bytes behind the last line's end
 unfoldable pub lastLine : List ℕ → List ℕ
@@ -46,7 +46,7 @@ starts b s = not (goesOn b)
 
 -- how many characters start in some bytes
 abbrev pub charactersIn : List ℕ → ℕ
-charactersIn s = count starts s
+charactersIn s = howMany starts s
 
 -- how many bytes at the start keep a test
 unfoldable pub leading : (ℕ → Bool) → List ℕ → ℕ

@@ -3,15 +3,15 @@ use mathlib.Core.Path.{_≡_, refl, sym, _∙_, ap, ap₂}
 use mathlib.Core.Bool.{Bool, cond, _&&_}
 use Prim.Native.Nat.{ℕ}
 use lib.Dec.{eqb}
-use Rattle.notation.specs.Tokens.{plain, left, right, Token, nonterminal, value, attribute, name, start-tag, end-tag, empty-tag, string, word, CHAR, ECHO, ECHO-OFF, REJECT, PRINT, IF, THEN, ELSE, BEGIN, END, AND, OR, NOT, EMPTY, sign, DEFINED, ASSIGNED, OPEN, CLOSE, BRACE, UNBRACE, DOT, BAR, STAR, SEMICOLON, EQUALS}
-use Rattle.lexemes.specs.Kinds.{kindOf, numberOf}
+use Rattle.notation.specs.Tokens.{plain, left, right, TextToken, nonterminal, value, attribute, name, start-tag, end-tag, empty-tag, string, word, CHAR, ECHO, ECHO-OFF, REJECT, PRINT, IF, THEN, ELSE, BEGIN, END, AND, OR, NOT, EMPTY, sign, DEFINED, ASSIGNED, OPEN, CLOSE, BRACE, UNBRACE, DOT, BAR, STAR, SEMICOLON, EQUALS}
+use Rattle.lexemes.specs.Kinds.{tokenKind, tokenNumber}
 use Rattle.posts.specs.declared.Milestone.{Milestone}
 use Rattle.posts.specs.declared.Wanted.{Wanted}
 use Rattle.posts.specs.declared.Wanted.the-variants.{Post, Nonterminal}
 use Rattle.posts.specs.Posts.{isPost, isDefined, nextProduction, onePost, passed, isNonterminal, isWanted}
 use Rattle.posts.specs.ByKind.{isPostKind, passedKind, isWantedKind}
 
-post-kind : (t : Token) → isPost t ≡ isPostKind (kindOf t)
+post-kind : (t : TextToken) → isPost t ≡ isPostKind (tokenKind t)
 post-kind (nonterminal n) = refl
 post-kind (value v) = refl
 post-kind (attribute plain a) = refl
@@ -48,7 +48,7 @@ post-kind (sign STAR) = refl
 post-kind (sign SEMICOLON) = refl
 post-kind (sign EQUALS) = refl
 
-defined-kind : (t : Token) → isDefined t ≡ eqb (kindOf t) 23
+defined-kind : (t : TextToken) → isDefined t ≡ eqb (tokenKind t) 23
 defined-kind (nonterminal n) = refl
 defined-kind (value v) = refl
 defined-kind (attribute plain a) = refl
@@ -85,7 +85,7 @@ defined-kind (sign STAR) = refl
 defined-kind (sign SEMICOLON) = refl
 defined-kind (sign EQUALS) = refl
 
-nonterminal-kind : (n : ℕ) (t : Token) → isNonterminal n t ≡ eqb (kindOf t) 0 && eqb (numberOf t) n
+nonterminal-kind : (n : ℕ) (t : TextToken) → isNonterminal n t ≡ eqb (tokenKind t) 0 && eqb (tokenNumber t) n
 nonterminal-kind n (nonterminal k) = refl
 nonterminal-kind n (value v) = refl
 nonterminal-kind n (attribute plain a) = refl
@@ -122,9 +122,9 @@ nonterminal-kind n (sign STAR) = refl
 nonterminal-kind n (sign SEMICOLON) = refl
 nonterminal-kind n (sign EQUALS) = refl
 
-pub passed-kind : (m : Milestone) (t : Token) → passed m t ≡ passedKind m (kindOf t)
+pub passed-kind : (m : Milestone) (t : TextToken) → passed m t ≡ passedKind m (tokenKind t)
 passed-kind m t = ap₂ (λ (a b : Bool). cond a (nextProduction m) (cond b (onePost m) m)) (defined-kind t) (post-kind t)
 
-pub wanted-kind : (w : Wanted) (m : Milestone) (t : Token) → isWanted w m t ≡ isWantedKind w m (kindOf t) (numberOf t)
+pub wanted-kind : (w : Wanted) (m : Milestone) (t : TextToken) → isWanted w m t ≡ isWantedKind w m (tokenKind t) (tokenNumber t)
 wanted-kind (Post b k) m t = ap (λ (a : Bool). a && (eqb (m .productions) b && eqb (m .posts) k)) (post-kind t)
 wanted-kind (Nonterminal n) m t = nonterminal-kind n t

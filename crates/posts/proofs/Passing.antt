@@ -6,18 +6,18 @@ use Prim.Native.Nat.{ℕ, suc, _+_, _≤_, _<_}
 use native.Mathlib.Omega.{arith}
 use lib.Dec.{eqb}
 use borrow.Author.Tests.{eq-eqb, ne-eqb}
-use Rattle.notation.specs.Tokens.{Token}
+use Rattle.notation.specs.Tokens.{TextToken}
 use Rattle.posts.specs.declared.Milestone.{Milestone}
 use Rattle.posts.specs.declared.Wanted.{Wanted}
 use Rattle.posts.specs.declared.Wanted.the-variants.{Post, Nonterminal}
 use Rattle.posts.specs.Posts.{nextProduction, onePost, passed, passedAll, isWanted, NoneWanted}
 use Rattle.posts.specs.ByKind.{isPostKind, passedKind, isWantedKind}
 
-pub passed-more : (m : Milestone) (ts : List Token) (t : Token) → passedAll m (ts ++ t ∷ []) ≡ passed (passedAll m ts) t
+pub passed-more : (m : Milestone) (ts : List TextToken) (t : TextToken) → passedAll m (ts ++ t ∷ []) ≡ passed (passedAll m ts) t
 passed-more m [] t = refl
 passed-more m (u ∷ ts) t = passed-more (passed m u) ts t
 
-pub none-more : (w : Wanted) (m : Milestone) (ts : List Token) (t : Token) → NoneWanted w m ts → isWanted w (passedAll m ts) t ≡ false → NoneWanted w m (ts ++ t ∷ [])
+pub none-more : (w : Wanted) (m : Milestone) (ts : List TextToken) (t : TextToken) → NoneWanted w m ts → isWanted w (passedAll m ts) t ≡ false → NoneWanted w m (ts ++ t ∷ [])
 none-more w m [] t h e = (e, tt)
 none-more w m (u ∷ ts) t h e = (h .0, none-more w (passed m u) ts t (h .1) e)
 

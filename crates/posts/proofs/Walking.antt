@@ -7,9 +7,9 @@ use Prim.Native.Nat.{ℕ, _+_, _≤_, _<_}
 use native.Mathlib.Omega.{arith}
 use lib.ListN.{length, drop, length-drop}
 use Rattle.notation.specs.Rules.{Rules}
-use Rattle.notation.specs.Tokens.{Token, bytesOf}
+use Rattle.notation.specs.Tokens.{TextToken, tokenBytes}
 use Rattle.notation.specs.Gaps.{Ending}
-use Rattle.notation.specs.Spelled.{Spelled, end, token}
+use Rattle.notation.specs.Spelled.{TypedAs, end, token}
 use Rattle.notation.specs.RuleText.{RuleText}
 use Rattle.notation.proofs.Refusals.{none-where-written}
 use Rattle.reading.specs.Machine.{walk}
@@ -17,7 +17,7 @@ use Rattle.reading.specs.Rules.{Progress, beginning, stepRules}
 use Rattle.reading.proofs.Rules.{reads-rules}
 use Rattle.telling.proofs.OneRules.{one-token, gap-one, first-step, end-no-token, token-solid}
 use Rattle.lexing.proofs.Spellings.{part, part-is}
-use Rattle.lexemes.specs.Kinds.{kindOf, numberOf}
+use Rattle.lexemes.specs.Kinds.{tokenKind, tokenNumber}
 use Rattle.verdicts.specs.Judged.{Verdict, refused-at, later, Judged}
 use Rattle.verdicts.proofs.Judging.{judged-right}
 use Rattle.rulings.specs.declared.Reader.{Reader}
@@ -32,15 +32,15 @@ use Rattle.posts.specs.declared.Wanted.{Wanted}
 use Rattle.posts.specs.declared.Halt.{Halt}
 use Rattle.posts.specs.Posts.{setOut, passed, passedAll, isWanted, NoneWanted}
 use Rattle.posts.specs.ByKind.{passedKind, isWantedKind}
-use Rattle.posts.specs.Found.{StandsAt, next, behind, FirstWanted, Told, there, nowhere, HaltIs}
+use Rattle.posts.specs.Found.{StandsAt, next, behind, FirstWanted, WantedTold, there, nowhere, HaltIs}
 use Rattle.posts.proofs.KindTests.{passed-kind, wanted-kind}
 use Rattle.posts.proofs.Passing.{passed-more, none-more, few-passed}
 
 -- what is left of the tokens of a rule text
-pub record Left (tokens before : List Token) (x : List ℕ) (s : Progress) : Type 0 where
-  pub after : List Token
+pub record Left (tokens before : List TextToken) (x : List ℕ) (s : Progress) : Type 0 where
+  pub after : List TextToken
   pub are : tokens ≡ before ++ after
-  pub spelled : Spelled after x
+  pub spelled : TypedAs after x
   pub last : Progress
   pub walked : walk stepRules s after ≡ some last
 
@@ -51,11 +51,11 @@ pub record Onward (text : List ℕ) (w : Wanted) (from : ℕ) (m : Milestone) (g
   pub few-posts : m .posts ≤ from
   pub state : Progress
   pub seen : Seen state (drop from text) g
-  pub before : List Token
+  pub before : List TextToken
   pub milestone : m ≡ passedAll setOut before
   pub none-wanted : NoneWanted w setOut before
   pub judged : (v : Verdict) → Judged state (drop from text) v → Judged beginning text (later from v)
-  pub stands : (us : List Token) (t : Token) (i : ℕ) → StandsAt us t (drop from text) i → StandsAt (before ++ us) t text (from + i)
+  pub stands : (us : List TextToken) (t : TextToken) (i : ℕ) → StandsAt us t (drop from text) i → StandsAt (before ++ us) t text (from + i)
   pub left : (v : Rules) (h : RuleText text v) → Left (h .tokens) before (drop from text) state
 
 pub onward-first : (text : List ℕ) (w : Wanted) (r : Reader) (g : Glance) → StartIs r → GlanceIs text r g → Onward text w 0 setOut g
@@ -75,30 +75,30 @@ onward-first text w r g h i = record {
 }
 
 -- the first token that is left is the one that is met
-pub record Heads (tokens before : List Token) (t : Token) (x : List ℕ) (s : Progress) : Type 0 where
-  pub behind-it : List Token
+pub record Heads (tokens before : List TextToken) (t : TextToken) (x : List ℕ) (s : Progress) : Type 0 where
+  pub behind-it : List TextToken
   pub are : tokens ≡ before ++ t ∷ behind-it
-  pub spelled : Spelled behind-it x
+  pub spelled : TypedAs behind-it x
   pub last : Progress
   pub walked : walk stepRules s behind-it ≡ some last
 
-same-state : (s a b : Progress) (t u : Token) → t ≡ u → stepRules s t ≡ some a → stepRules s u ≡ some b → a ≡ b
+same-state : (s a b : Progress) (t u : TextToken) → t ≡ u → stepRules s t ≡ some a → stepRules s u ≡ some b → a ≡ b
 same-state s a b t u e i j = let f : _≡_ {A = Option Progress} (some a) (some b) = sym i ∙ ap (stepRules s) e ∙ j in cc
 
-heads-of : (s s′ z : Progress) (at long : ℕ) (t : Token) (x y : List ℕ) (a : TokenAt s x at long t s′) (tokens before after : List Token) → tokens ≡ before ++ after → Spelled after y → y ≡ x → walk stepRules s after ≡ some z
+heads-of : (s s′ z : Progress) (at long : ℕ) (t : TextToken) (x y : List ℕ) (a : TokenAt s x at long t s′) (tokens before after : List TextToken) → tokens ≡ before ++ after → TypedAs after y → y ≡ x → walk stepRules s after ≡ some z
     → Heads tokens before t (a .rest) s′
 heads-of s s′ z at long t x y a tokens before after c (end e) i w =
-    absurd (end-no-token y (a .gap) (bytesOf t ++ a .rest) e (a .is-gap) (token-solid s s′ t (a .rest) (a .goes .taken)) (i ∙ a .are))
+    absurd (end-no-token y (a .gap) (tokenBytes t ++ a .rest) e (a .is-gap) (token-solid s s′ t (a .rest) (a .goes .taken)) (i ∙ a .are))
 heads-of s s′ z at long t x y a tokens before after c (token {g = g} {rest = r} {ts = us} u h m sp) i w =
     let n = first-step s z u us w in
-    let e = gap-one h (a .is-gap) (bytesOf u ++ r) (bytesOf t ++ a .rest) (token-solid s (n .0) u r (n .1)) (token-solid s s′ t (a .rest) (a .goes .taken)) (i ∙ a .are) in
+    let e = gap-one h (a .is-gap) (tokenBytes u ++ r) (tokenBytes t ++ a .rest) (token-solid s (n .0) u r (n .1)) (token-solid s s′ t (a .rest) (a .goes .taken)) (i ∙ a .are) in
     let same : u ≡ t = one-token s (n .0) s′ u t r (a .rest) (n .1) (a .goes .taken) m (a .follows) e in
-    let rest-same : r ≡ a .rest = append-cancel-left (bytesOf t) r (a .rest) (ap (λ k. bytesOf k ++ r) (sym same) ∙ e) in
+    let rest-same : r ≡ a .rest = append-cancel-left (tokenBytes t) r (a .rest) (ap (λ k. tokenBytes k ++ r) (sym same) ∙ e) in
     let there : n .0 ≡ s′ = same-state s (n .0) s′ u t same (n .1) (a .goes .taken) in
     record {
       behind-it = us;
       are = c ∙ ap (λ k. before ++ k ∷ us) same;
-      spelled = subst (Spelled us) rest-same sp;
+      spelled = subst (TypedAs us) rest-same sp;
       last = z;
       walked = subst (λ k. walk stepRules k us ≡ some z) there (n .2);
     }
@@ -119,7 +119,7 @@ module _ (text : List ℕ) (w : Wanted) (from : ℕ) (m : Milestone) (g : Glance
 
     stands-here : StandsAt (o .before) (met .token) text (from + g .at)
     stands-here =
-        subst (λ (us : List Token). StandsAt us (met .token) text (from + g .at)) (append-nil (o .before))
+        subst (λ (us : List TextToken). StandsAt us (met .token) text (from + g .at)) (append-nil (o .before))
         (o .stands [] (met .token) (g .at) (next (met .stands .gap) (met .stands .rest) (met .stands .are) (met .stands .is-gap) (met .stands .follows) (met .stands .at-is)))
 
     pub found : (r : Halt) → isWantedKind w m (g .kind) (g .number) ≡ true → r ≡ record { found = true; at = from + g .at; from = from; reader = g .reader } → HaltIs text w r
@@ -148,13 +148,13 @@ module _ (text : List ℕ) (w : Wanted) (from : ℕ) (m : Milestone) (g : Glance
       seen-next : GlanceIs (drop n text) (g .reader) h
       seen-next = subst (λ z. GlanceIs z (g .reader) h) (part-is text n) i
 
-      stands-next : (us : List Token) (t : Token) (k : ℕ) → StandsAt us t (drop n text) k → StandsAt ((o .before ++ met .token ∷ []) ++ us) t text (n + k)
+      stands-next : (us : List TextToken) (t : TextToken) (k : ℕ) → StandsAt us t (drop n text) k → StandsAt ((o .before ++ met .token ∷ []) ++ us) t text (n + k)
       stands-next us t k s =
           let z : StandsAt (met .token ∷ us) t (drop from text) (g .at + g .long + k) =
           behind (met .stands .gap) (met .stands .rest) (met .stands .are) (met .stands .is-gap) (met .stands .follows) (subst (λ y. StandsAt us t y k) behind-met s) (ap₂ (λ (a b : ℕ). a + b + k) (met .stands .at-is) (met .stands .long-is)) in
           let far-k : from + (g .at + g .long + k) ≡ n + k = omega (arith, far) in
           subst (λ (y : ℕ). StandsAt ((o .before ++ met .token ∷ []) ++ us) t text y) far-k
-          (subst (λ (y : List Token). StandsAt y t text (from + (g .at + g .long + k))) (sym (append-assoc (o .before) (met .token ∷ []) us)) (o .stands (met .token ∷ us) t (g .at + g .long + k) z))
+          (subst (λ (y : List TextToken). StandsAt y t text (from + (g .at + g .long + k))) (sym (append-assoc (o .before) (met .token ∷ []) us)) (o .stands (met .token ∷ us) t (g .at + g .long + k) z))
 
       judged-next : (v : Verdict) → Judged (met .next) (drop n text) v → Judged beginning text (later n v)
       judged-next v j =
@@ -166,7 +166,7 @@ module _ (text : List ℕ) (w : Wanted) (from : ℕ) (m : Milestone) (g : Glance
       left-next v k = let l = heads v k in record {
         after = l .behind-it;
         are = l .are ∙ sym (append-assoc (o .before) (met .token ∷ []) (l .behind-it));
-        spelled = subst (Spelled (l .behind-it)) (sym behind-met) (l .spelled);
+        spelled = subst (TypedAs (l .behind-it)) (sym behind-met) (l .spelled);
         last = l .last;
         walked = l .walked;
       }
@@ -188,13 +188,13 @@ module _ (text : List ℕ) (w : Wanted) (from : ℕ) (m : Milestone) (g : Glance
       }
 
   module _ (stopped : g .going ≡ false) where
-    none-left : (tokens before after : List Token) (x y : List ℕ) (z : Progress) → tokens ≡ before ++ after → Spelled after y → y ≡ x → Ending x → walk stepRules (o .state) after ≡ some z → NoneWanted w setOut before → NoneWanted w setOut tokens
+    none-left : (tokens before after : List TextToken) (x y : List ℕ) (z : Progress) → tokens ≡ before ++ after → TypedAs after y → y ≡ x → Ending x → walk stepRules (o .state) after ≡ some z → NoneWanted w setOut before → NoneWanted w setOut tokens
     none-left tokens before after x y z c (end e) i f k h = subst (NoneWanted w setOut) (sym (c ∙ append-nil before)) h
     none-left tokens before after x y z c (token {g = q} {rest = r} {ts = us} u p a sp) i f k h =
         let n = first-step (o .state) z u us k in
-        absurd (end-no-token x q (bytesOf u ++ r) f p (token-solid (o .state) (n .0) u r (n .1)) (sym i))
+        absurd (end-no-token x q (tokenBytes u ++ r) f p (token-solid (o .state) (n .0) u r (n .1)) (sym i))
 
-    nowhere-told : (v : Rules) (h : RuleText text v) (i : ℕ) → Seen (o .state) (drop from text) g → Told w (h .tokens) text i false
+    nowhere-told : (v : Rules) (h : RuleText text v) (i : ℕ) → Seen (o .state) (drop from text) g → WantedTold w (h .tokens) text i false
     nowhere-told v h i (meets e k) = absurd (true≢false (sym e ∙ stopped))
     nowhere-told v h i (writes-rules e f r a k) =
         let l = o .left v h in

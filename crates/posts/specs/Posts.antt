@@ -4,13 +4,13 @@ use mathlib.Core.Bool.{Bool, true, false, cond, _&&_}
 use mathlib.Core.List.{List, [], _∷_}
 use Prim.Native.Nat.{ℕ, suc}
 use lib.Dec.{eqb}
-use Rattle.notation.specs.Tokens.{Token, nonterminal, value, attribute, name, start-tag, end-tag, empty-tag, string, word, Word, CHAR, ECHO, ECHO-OFF, REJECT, PRINT, IF, THEN, ELSE, BEGIN, END, AND, OR, NOT, EMPTY, sign, Sign, DEFINED, ASSIGNED, OPEN, CLOSE, BRACE, UNBRACE, DOT, BAR, STAR, SEMICOLON, EQUALS}
+use Rattle.notation.specs.Tokens.{TextToken, nonterminal, value, attribute, name, start-tag, end-tag, empty-tag, string, word, Keyword, CHAR, ECHO, ECHO-OFF, REJECT, PRINT, IF, THEN, ELSE, BEGIN, END, AND, OR, NOT, EMPTY, sign, Sign, DEFINED, ASSIGNED, OPEN, CLOSE, BRACE, UNBRACE, DOT, BAR, STAR, SEMICOLON, EQUALS}
 use Rattle.posts.specs.declared.Milestone.{Milestone}
 use Rattle.posts.specs.declared.Wanted.{Wanted}
 use Rattle.posts.specs.declared.Wanted.the-variants.{Post, Nonterminal}
 
 -- a nonterminal, a tag's name, CHAR, EMPTY, or a sign of an expression
-abbrev pub isPostWord : Word → Bool
+abbrev pub isPostWord : Keyword → Bool
 isPostWord CHAR = true
 isPostWord ECHO = false
 isPostWord ECHO-OFF = false
@@ -39,7 +39,7 @@ isPostSign STAR = true
 isPostSign SEMICOLON = false
 isPostSign EQUALS = false
 
-abbrev pub isPost : Token → Bool
+abbrev pub isPost : TextToken → Bool
 isPost (nonterminal n) = true
 isPost (value v) = false
 isPost (attribute m a) = false
@@ -65,7 +65,7 @@ isDefinedSign SEMICOLON = false
 isDefinedSign EQUALS = false
 
 -- ::=
-abbrev pub isDefined : Token → Bool
+abbrev pub isDefined : TextToken → Bool
 isDefined (nonterminal n) = false
 isDefined (value v) = false
 isDefined (attribute m a) = false
@@ -87,14 +87,14 @@ nextProduction m = record { productions = suc (m .productions); posts = 0 }
 abbrev pub onePost : Milestone → Milestone
 onePost m = record { productions = m .productions; posts = suc (m .posts) }
 
-abbrev pub passed : Milestone → Token → Milestone
+abbrev pub passed : Milestone → TextToken → Milestone
 passed m t = cond (isDefined t) (nextProduction m) (cond (isPost t) (onePost m) m)
 
-abbrev pub passedAll : Milestone → List Token → Milestone
+abbrev pub passedAll : Milestone → List TextToken → Milestone
 passedAll m [] = m
 passedAll m (t ∷ ts) = passedAll (passed m t) ts
 
-abbrev pub isNonterminal : ℕ → Token → Bool
+abbrev pub isNonterminal : ℕ → TextToken → Bool
 isNonterminal n (nonterminal k) = eqb k n
 isNonterminal n (value v) = false
 isNonterminal n (attribute m a) = false
@@ -107,11 +107,11 @@ isNonterminal n (word w) = false
 isNonterminal n (sign s) = false
 
 -- the post of a number behind so many ::= signs; or a nonterminal
-abbrev pub isWanted : Wanted → Milestone → Token → Bool
+abbrev pub isWanted : Wanted → Milestone → TextToken → Bool
 isWanted (Post b k) m t = isPost t && (eqb (m .productions) b && eqb (m .posts) k)
 isWanted (Nonterminal n) m t = isNonterminal n t
 
 -- none of these tokens is wanted
-abbrev pub NoneWanted : Wanted → Milestone → List Token → Type 0
+abbrev pub NoneWanted : Wanted → Milestone → List TextToken → Type 0
 NoneWanted w m [] = Unit {0}
 NoneWanted w m (t ∷ ts) = (isWanted w m t ≡ false) × NoneWanted w (passed m t) ts

@@ -6,14 +6,14 @@ use Prim.Native.Nat.{ℕ, zero, suc, _≤_, max}
 use native.Mathlib.Omega.{arith}
 use Rattle.programs.specs.Program.{Operand, constant, current, recalled, Condition, equal, negated, both, either}
 use Rattle.programs.specs.Limits.{Attribute, Value, OperandFits, ConditionFits, conditionNesting, Visit, first, second, operandAllowed, conditionAllowed}
-use Rattle.notation.specs.Tokens.{plain, left, Token, value, attribute, word, NOT, AND, OR, sign, OPEN, CLOSE, EQUALS, bytesOf}
+use Rattle.notation.specs.Tokens.{plain, left, TextToken, value, attribute, word, NOT, AND, OR, sign, OPEN, CLOSE, EQUALS, tokenBytes}
 use Rattle.notation.specs.Conditions.{CurrentIs, of-either, OperandIs, a-value, a-current, a-recalled, ConditionIs, no-or, or, BothIs, no-and, and, SingleIs, compared, not, parenthesised}
 use Rattle.encoding.proofs.Stored.{and-parts}
 use Rattle.printed.specs.Spacing.{_␣_, inParentheses, inParenthesesIf}
 use Rattle.printed.specs.Conditions.{operandToken, conditionBinds, conditionText}
 use Rattle.printed.proofs.Phrases.{Phrase, a-word, closed, closed-alone, spaced, joined, Said, said-as}
 
-pub operand-phrase : (x : Operand) → Phrase (operandToken x ∷ []) (bytesOf (operandToken x))
+pub operand-phrase : (x : Operand) → Phrase (operandToken x ∷ []) (tokenBytes (operandToken x))
 operand-phrase (constant v) = a-word (value v) (λ b. refl)
 operand-phrase (current a) = a-word (attribute plain a) (λ b. refl)
 operand-phrase (recalled a) = a-word (attribute left a) (λ b. refl)
@@ -25,13 +25,13 @@ operand-is first (recalled n) h a = absurd (let z : _≡_ {A = ℕ} 0 1 = cc in 
 operand-is second (recalled n) h a = a-recalled h
 
 -- what a condition is by itself
-abbrev Own : Visit → ℕ → Condition → List Token → Type 0
+abbrev Own : Visit → ℕ → Condition → List TextToken → Type 0
 Own v p (equal x y) ts = SingleIs v p ts (equal x y)
 Own v p (negated c) ts = SingleIs v p ts (negated c)
 Own v p (both c d) ts = BothIs v p ts (both c d)
 Own v p (either c d) ts = ConditionIs v p ts (either c d)
 
-as-condition : (v : Visit) (p : ℕ) (c : Condition) (ts : List Token) → Own v p c ts → ConditionIs v p ts c
+as-condition : (v : Visit) (p : ℕ) (c : Condition) (ts : List TextToken) → Own v p c ts → ConditionIs v p ts c
 as-condition v p (equal x y) ts h = no-or (no-and h)
 as-condition v p (negated c) ts h = no-or (no-and h)
 as-condition v p (both c d) ts h = no-or h
@@ -60,8 +60,8 @@ as-single v p (both c d) s t = in-parentheses v p (both c d) (conditionText (bot
 as-single v p (either c d) s t = in-parentheses v p (either c d) (conditionText (either c d)) s
 
 -- the parts of a row with a word between them
-between-words : (ts us : List Token) (w : Rattle.notation.specs.Tokens.Word) (x y : List ℕ) → Phrase ts x → Phrase us y → Phrase (ts ++ word w ∷ us) (x ␣ bytesOf (word w) ␣ y)
-between-words ts us w x y p q = spaced ts (word w ∷ us) x (bytesOf (word w) ␣ y) p (spaced (word w ∷ []) us (bytesOf (word w)) y (a-word (word w) (λ b. refl)) q)
+between-words : (ts us : List TextToken) (w : Rattle.notation.specs.Tokens.Keyword) (x y : List ℕ) → Phrase ts x → Phrase us y → Phrase (ts ++ word w ∷ us) (x ␣ tokenBytes (word w) ␣ y)
+between-words ts us w x y p q = spaced ts (word w ∷ us) x (tokenBytes (word w) ␣ y) p (spaced (word w ∷ []) us (tokenBytes (word w)) y (a-word (word w) (λ b. refl)) q)
 
 module _ (v : Visit) where
   own : (c : Condition) → ConditionFits c → conditionAllowed v c ≡ true → (p : ℕ) → conditionNesting c ≤ p → Said (Own v p c) (conditionText c)
@@ -70,8 +70,8 @@ module _ (v : Visit) where
       record {
         tokens = operandToken x ∷ sign EQUALS ∷ operandToken y ∷ [];
         are = compared (operand-is v x (h .0) (b .0)) (operand-is v y (h .1) (b .1));
-        phrase = spaced (operandToken x ∷ []) (sign EQUALS ∷ operandToken y ∷ []) (bytesOf (operandToken x)) (61 ∷ [] ␣ bytesOf (operandToken y)) (operand-phrase x)
-            (spaced (sign EQUALS ∷ []) (operandToken y ∷ []) (61 ∷ []) (bytesOf (operandToken y)) (closed-alone (sign EQUALS) (λ b. refl)) (operand-phrase y));
+        phrase = spaced (operandToken x ∷ []) (sign EQUALS ∷ operandToken y ∷ []) (tokenBytes (operandToken x)) (61 ∷ [] ␣ tokenBytes (operandToken y)) (operand-phrase x)
+            (spaced (sign EQUALS ∷ []) (operandToken y ∷ []) (61 ∷ []) (tokenBytes (operandToken y)) (closed-alone (sign EQUALS) (λ b. refl)) (operand-phrase y));
       }
   own (negated c) h a zero n = absurd (omega arith)
   own (negated c) h a (suc p) n =
@@ -79,7 +79,7 @@ module _ (v : Visit) where
       record {
         tokens = word NOT ∷ s .tokens;
         are = not (s .are);
-        phrase = spaced (word NOT ∷ []) (s .tokens) (bytesOf (word NOT)) (inParentheses (conditionText c)) (a-word (word NOT) (λ b. refl)) (s .phrase);
+        phrase = spaced (word NOT ∷ []) (s .tokens) (tokenBytes (word NOT)) (inParentheses (conditionText c)) (a-word (word NOT) (λ b. refl)) (s .phrase);
       }
   own (both c d) h a zero n = absurd (omega arith)
   own (both c d) h a (suc p) n =

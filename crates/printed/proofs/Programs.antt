@@ -10,8 +10,8 @@ use lib.ListN.{length}
 use Rattle.text.specs.Characters.{utf8s}
 use Rattle.programs.specs.Program.{Operand, constant, current, recalled}
 use Rattle.programs.specs.Limits.{Attribute, OperandFits, conditionNesting, Visit, first, second, isFirst, isSecond, operandAllowed, conditionAllowed}
-use Rattle.notation.specs.Program.{Statement, become, copy, recall, reject, print-start, print-end, print-text, echo, branch, Program, done, step, _then_}
-use Rattle.notation.specs.Tokens.{plain, Token, attribute, start-tag, end-tag, string, word, ECHO, ECHO-OFF, REJECT, PRINT, IF, THEN, ELSE, BEGIN, END, sign, ASSIGNED, BRACE, UNBRACE, SEMICOLON, wordBytes, bytesOf}
+use Rattle.notation.specs.Program.{TextStatement, become, copy, recall, reject, print-start, print-end, print-text, echo, branch, TextProgram, done, step, _then_}
+use Rattle.notation.specs.Tokens.{plain, TextToken, attribute, start-tag, end-tag, string, word, ECHO, ECHO-OFF, REJECT, PRINT, IF, THEN, ELSE, BEGIN, END, sign, ASSIGNED, BRACE, UNBRACE, SEMICOLON, wordBytes, tokenBytes}
 use Rattle.notation.specs.Conditions.{of-either, ConditionIs}
 use Rattle.notation.specs.Statements.{parentheses, only, ItemIs, a-start, an-end, a-text, ItemsAre, assigned, StatementIs, echo-on, echo-off, rejects, prints, assigns, if-then, if-else, BranchIs, bare, block, ListIs, SomeAre, BracesAre, absent, braces}
 use Rattle.notation.specs.Limits.{nestingOf}
@@ -24,16 +24,16 @@ use Rattle.printed.proofs.Phrases.{Quiet, Phrase, empty-phrase, a-word,
 use Rattle.printed.proofs.Conditions.{operand-phrase, operand-is, condition-said}
 use Rattle.printed.proofs.Quoted.{quoted-string}
 
-then-done : (p : Program) → p then done ≡ p
+then-done : (p : TextProgram) → p then done ≡ p
 then-done done = refl
 then-done (step t p) = ap (step t) (then-done p)
 
-then-assoc : (p q r : Program) → (p then q) then r ≡ p then (q then r)
+then-assoc : (p q r : TextProgram) → (p then q) then r ≡ p then (q then r)
 then-assoc done q r = refl
 then-assoc (step t p) q r = ap (step t) (then-assoc p q r)
 
 -- one more item behind others
-item-behind : (ts : List Token) (p : Program) (j : Token) (q : Program) → ItemsAre ts p → ItemIs j q → ItemsAre (ts ++ j ∷ []) (p then q)
+item-behind : (ts : List TextToken) (p : TextProgram) (j : TextToken) (q : TextProgram) → ItemsAre ts p → ItemIs j q → ItemsAre (ts ++ j ∷ []) (p then q)
 item-behind ts p j q (ItemsAre.one i) h = ItemsAre.more i (ItemsAre.one h)
 item-behind ts p j q (ItemsAre.more {t = t} {ts = us} {p = a} {q = b} i r) h = subst (λ z. ItemsAre (t ∷ (us ++ j ∷ [])) z) (sym (then-assoc a b q)) (ItemsAre.more i (item-behind us b j q r h))
 
@@ -41,7 +41,7 @@ item-behind ts p j q (ItemsAre.more {t = t} {ts = us} {p = a} {q = b} i r) h = s
 abbrev Opening : List ℕ → Type 0
 Opening x = (z : List ℕ) → Quiet z → Quiet (x ++ z)
 
-list-opens : (p : Program) → Opening (listText a-statement p)
+list-opens : (p : TextProgram) → Opening (listText a-statement p)
 list-opens done z q = q
 list-opens (step t p) z q = on (isItem t)
   where
@@ -51,13 +51,13 @@ list-opens (step t p) z q = on (isItem t)
 
 module _ (v : Visit) where
   -- an item, by its token
-  record Item (t : Statement) : Type 0 where
-    it : Token
+  record Item (t : TextStatement) : Type 0 where
+    it : TextToken
     is : ItemIs it (only t)
     apart : (b : ℕ) → Rattle.notation.specs.Spelled.joins it b ≡ false
-    bytes-are : bytesOf it ≡ statementText t
+    bytes-are : tokenBytes it ≡ statementText t
 
-  item : (t : Statement) → isItem t ≡ true → SoundStatement v t → Item t
+  item : (t : TextStatement) → isItem t ≡ true → SoundStatement v t → Item t
   item (print-start n) e h = record { it = start-tag n; is = a-start h; apart = λ b. refl; bytes-are = refl }
   item (print-end n) e h = record { it = end-tag n; is = an-end h; apart = λ b. refl; bytes-are = refl }
   item (print-text s) e h = record {
@@ -74,31 +74,31 @@ module _ (v : Visit) where
   item (branch c l m) e h = absurd (let z : _≡_ {A = ℕ} 0 1 = cc in omega arith)
 
   -- a statement other than an item; `true` where it ends in an if without else
-  record Stated (t : Statement) : Type 0 where
+  record Stated (t : TextStatement) : Type 0 where
     flag : Bool
-    tokens : List Token
+    tokens : List TextToken
     is : StatementIs v flag tokens (only t)
     phrase : Phrase tokens (statementText t)
     no-if : isIf t ≡ false → flag ≡ false
 
   -- what stands behind a statement, and behind an item
-  record AfterStatement (p : Program) : Type 0 where
-    tokens : List Token
-    is : (b : Bool) (ts : List Token) (q : Program) → StatementIs v b ts q → SomeAre v (ts ++ tokens) (q then p)
+  record AfterStatement (p : TextProgram) : Type 0 where
+    tokens : List TextToken
+    is : (b : Bool) (ts : List TextToken) (q : TextProgram) → StatementIs v b ts q → SomeAre v (ts ++ tokens) (q then p)
     phrase : Phrase tokens (listText a-statement p)
 
-  record AfterPrint (p : Program) : Type 0 where
-    tokens : List Token
-    is : (ts : List Token) (q : Program) → ItemsAre ts q → SomeAre v (word PRINT ∷ (ts ++ tokens)) (q then p)
+  record AfterPrint (p : TextProgram) : Type 0 where
+    tokens : List TextToken
+    is : (ts : List TextToken) (q : TextProgram) → ItemsAre ts q → SomeAre v (word PRINT ∷ (ts ++ tokens)) (q then p)
     phrase : Phrase tokens (listText an-item p)
 
-  item-phrase : (t : Statement) (p : Program) (i : Item t) (us : List Token) → Phrase us (listText an-item p) → Phrase (i .it ∷ us) (statementText t ++ listText an-item p)
+  item-phrase : (t : TextStatement) (p : TextProgram) (i : Item t) (us : List TextToken) → Phrase us (listText an-item p) → Phrase (i .it ∷ us) (statementText t ++ listText an-item p)
   item-phrase t p i us h = subst (λ x. Phrase (i .it ∷ us) (x ++ listText an-item p)) (i .bytes-are) (closed (i .it) (i .apart) us (listText an-item p) h)
 
-  print-phrase : (t : Statement) (p : Program) (i : Item t) (us : List Token) → Phrase us (listText an-item p) → Phrase (word PRINT ∷ i .it ∷ us) (wordBytes PRINT ␣ (statementText t ++ listText an-item p))
+  print-phrase : (t : TextStatement) (p : TextProgram) (i : Item t) (us : List TextToken) → Phrase us (listText an-item p) → Phrase (word PRINT ∷ i .it ∷ us) (wordBytes PRINT ␣ (statementText t ++ listText an-item p))
   print-phrase t p i us h = spaced (word PRINT ∷ []) (i .it ∷ us) (wordBytes PRINT) (statementText t ++ listText an-item p) (a-word (word PRINT) (λ b. refl)) (item-phrase t p i us h)
 
-  plain-phrase : (t : Statement) (p : Program) (s : Stated t) (a : AfterStatement p) → Phrase (s .tokens ++ a .tokens) (statementText t ++ listText a-statement p)
+  plain-phrase : (t : TextStatement) (p : TextProgram) (s : Stated t) (a : AfterStatement p) → Phrase (s .tokens ++ a .tokens) (statementText t ++ listText a-statement p)
   plain-phrase t p s a = joined (s .tokens) (a .tokens) (statementText t) (listText a-statement p) (s .phrase) (a .phrase) (list-opens p)
 
   after-statement-done : AfterStatement done
@@ -116,13 +116,13 @@ module _ (v : Visit) where
   }
 
   -- the rest of a list, from a statement on
-  some-plain : (t : Statement) (p : Program) (s : Stated t) (a : AfterStatement p) → SomeAre v (s .tokens ++ a .tokens) (step t p)
+  some-plain : (t : TextStatement) (p : TextProgram) (s : Stated t) (a : AfterStatement p) → SomeAre v (s .tokens ++ a .tokens) (step t p)
   some-plain t p s a = a .is (s .flag) (s .tokens) (only t) (s .is)
 
-  some-item : (t : Statement) (p : Program) (i : Item t) (a : AfterPrint p) → SomeAre v (word PRINT ∷ i .it ∷ a .tokens) (step t p)
+  some-item : (t : TextStatement) (p : TextProgram) (i : Item t) (a : AfterPrint p) → SomeAre v (word PRINT ∷ i .it ∷ a .tokens) (step t p)
   some-item t p i a = a .is (i .it ∷ []) (only t) (ItemsAre.one (i .is))
 
-  module _ (t : Statement) (p : Program) (h : SoundStatement v t) (st : isItem t ≡ false → Stated t) (more : AfterStatement p) (ap-print : AfterPrint p) where
+  module _ (t : TextStatement) (p : TextProgram) (h : SoundStatement v t) (st : isItem t ≡ false → Stated t) (more : AfterStatement p) (ap-print : AfterPrint p) where
     after-statement-step : AfterStatement (step t p)
     after-statement-step = on (isItem t) refl
       where
@@ -188,12 +188,12 @@ module _ (v : Visit) where
             }
 
   -- items and nothing else
-  record Items (p : Program) : Type 0 where
-    tokens : List Token
-    is : (ts : List Token) (q : Program) → ItemsAre ts q → ItemsAre (ts ++ tokens) (q then p)
+  record Items (p : TextProgram) : Type 0 where
+    tokens : List TextToken
+    is : (ts : List TextToken) (q : TextProgram) → ItemsAre ts q → ItemsAre (ts ++ tokens) (q then p)
     phrase : Phrase tokens (listText an-item p)
 
-  items : (p : Program) → allItems p ≡ true → Sound v p → Items p
+  items : (p : TextProgram) → allItems p ≡ true → Sound v p → Items p
   items done e h = record {
     tokens = [];
     is = λ ts q k. subst (λ z. ItemsAre (ts ++ []) z) (sym (then-done q)) (subst (λ z. ItemsAre z q) (sym (append-nil ts)) k);
@@ -212,9 +212,9 @@ module _ (v : Visit) where
       }
 
   -- a list of one statement, as that statement
-  record Alone (p : Program) : Type 0 where
+  record Alone (p : TextProgram) : Type 0 where
     flag : Bool
-    tokens : List Token
+    tokens : List TextToken
     is : StatementIs v flag tokens p
     phrase : Phrase tokens (listText nothing-yet p)
     no-if : isPlainOne p ≡ true → flag ≡ false
@@ -223,10 +223,10 @@ module _ (v : Visit) where
   not-both false b e = refl
   not-both true b e = sym e
 
-  alone-step : (t : Statement) (p : Program) → isOne (step t p) ≡ true → SoundStatement v t → Sound v p → (isItem t ≡ false → Stated t) → Alone (step t p)
+  alone-step : (t : TextStatement) (p : TextProgram) → isOne (step t p) ≡ true → SoundStatement v t → Sound v p → (isItem t ≡ false → Stated t) → Alone (step t p)
   alone-step t p e h k st = on (isItem t) refl
     where
-      finished : (q : Program) → isDone q ≡ true → q ≡ done
+      finished : (q : TextProgram) → isDone q ≡ true → q ≡ done
       finished done i = refl
       finished (step u q) i = absurd (let z : _≡_ {A = ℕ} 0 1 = cc in omega arith)
 
@@ -254,7 +254,7 @@ module _ (v : Visit) where
           }
 
   -- begin, the list, end
-  in-block : (p : Program) → Said (λ ts. ListIs v ts p) (listText nothing-yet p) → Said (λ ts. BranchIs v false ts p) (branchText false p (listText nothing-yet p))
+  in-block : (p : TextProgram) → Said (λ ts. ListIs v ts p) (listText nothing-yet p) → Said (λ ts. BranchIs v false ts p) (branchText false p (listText nothing-yet p))
   in-block done s = record {
     tokens = word BEGIN ∷ word END ∷ [];
     are = block ListIs.empty refl;
@@ -267,11 +267,11 @@ module _ (v : Visit) where
         (spaced (s .tokens) (word END ∷ []) (listText nothing-yet (step t p)) (wordBytes END) (s .phrase) (a-word (word END) (λ b. refl)));
   }
 
-  plain-one : (p : Program) → isPlainOne p ≡ true → isOne p ≡ true
+  plain-one : (p : TextProgram) → isPlainOne p ≡ true → isOne p ≡ true
   plain-one done e = e
   plain-one (step t p) e = and-parts (negation (isIf t)) (isOne (step t p)) e .1
 
-  then-branch : (p : Program) → Said (λ ts. ListIs v ts p) (listText nothing-yet p) → (isOne p ≡ true → Alone p) → Said (λ ts. BranchIs v false ts p) (branchText (isPlainOne p) p (listText nothing-yet p))
+  then-branch : (p : TextProgram) → Said (λ ts. ListIs v ts p) (listText nothing-yet p) → (isOne p ≡ true → Alone p) → Said (λ ts. BranchIs v false ts p) (branchText (isPlainOne p) p (listText nothing-yet p))
   then-branch p s a = on (isPlainOne p) refl
     where
       on : (b : Bool) → isPlainOne p ≡ b → Said (λ ts. BranchIs v false ts p) (branchText (isPlainOne p) p (listText nothing-yet p))
@@ -281,11 +281,11 @@ module _ (v : Visit) where
           subst (λ b. Said (λ ts. BranchIs v false ts p) (branchText b p (listText nothing-yet p))) (sym e)
           (record { tokens = x .tokens; are = bare (subst (λ b. StatementIs v b (x .tokens) p) (x .no-if e) (x .is)); phrase = x .phrase })
 
-  record Otherwise (p : Program) (x : List ℕ) : Type 0 where
+  record Otherwise (p : TextProgram) (x : List ℕ) : Type 0 where
     flag : Bool
     said : Said (λ ts. BranchIs v flag ts p) x
 
-  else-branch : (p : Program) → Said (λ ts. ListIs v ts p) (listText nothing-yet p) → (isOne p ≡ true → Alone p) → Otherwise p (branchText (isOne p) p (listText nothing-yet p))
+  else-branch : (p : TextProgram) → Said (λ ts. ListIs v ts p) (listText nothing-yet p) → (isOne p ≡ true → Alone p) → Otherwise p (branchText (isOne p) p (listText nothing-yet p))
   else-branch p s a = on (isOne p) refl
     where
       on : (b : Bool) → isOne p ≡ b → Otherwise p (branchText (isOne p) p (listText nothing-yet p))
@@ -295,12 +295,12 @@ module _ (v : Visit) where
           subst (λ b. Otherwise p (branchText b p (listText nothing-yet p))) (sym e) (record { flag = x .flag; said = record { tokens = x .tokens; are = bare (x .is); phrase = x .phrase } })
 
   -- if, then, else
-  if-phrase : (cs us : List Token) (x y : List ℕ) → Phrase cs x → Phrase us y → Phrase (word IF ∷ (cs ++ word THEN ∷ us)) (wordBytes IF ␣ x ␣ wordBytes THEN ␣ y)
+  if-phrase : (cs us : List TextToken) (x y : List ℕ) → Phrase cs x → Phrase us y → Phrase (word IF ∷ (cs ++ word THEN ∷ us)) (wordBytes IF ␣ x ␣ wordBytes THEN ␣ y)
   if-phrase cs us x y p q =
       spaced (word IF ∷ []) (cs ++ word THEN ∷ us) (wordBytes IF) (x ␣ wordBytes THEN ␣ y) (a-word (word IF) (λ b. refl))
       (spaced cs (word THEN ∷ us) x (wordBytes THEN ␣ y) p (spaced (word THEN ∷ []) us (wordBytes THEN) y (a-word (word THEN) (λ b. refl)) q))
 
-  branching : (c : Rattle.programs.specs.Program.Condition) (l m : Program) → Said (λ ts. ConditionIs v parentheses ts c) (conditionText c)
+  branching : (c : Rattle.programs.specs.Program.Condition) (l m : TextProgram) → Said (λ ts. ConditionIs v parentheses ts c) (conditionText c)
       → Said (λ ts. BranchIs v false ts l) (branchText (isPlainOne l) l (listText nothing-yet l)) → Otherwise m (branchText (isOne m) m (listText nothing-yet m)) → Stated (branch c l m)
   branching c l done a b d = record {
     flag = true;
@@ -324,22 +324,22 @@ module _ (v : Visit) where
       }
 
   -- how deep it nests
-  abbrev statementDepth : Statement → ℕ
+  abbrev statementDepth : TextStatement → ℕ
   statementDepth t = Rattle.programs.specs.Limits.statementNesting (Rattle.notation.specs.Program.statementIn (λ n. 0) (λ s. 0) t)
 
-  assigning : (a : ℕ) (x : Operand) (t : Statement) → Attribute a → OperandFits x → operandAllowed v x ≡ true → t ≡ assigned a x → isIf t ≡ false → statementText t ≡ assignment a x → Stated t
+  assigning : (a : ℕ) (x : Operand) (t : TextStatement) → Attribute a → OperandFits x → operandAllowed v x ≡ true → t ≡ assigned a x → isIf t ≡ false → statementText t ≡ assignment a x → Stated t
   assigning a x t h k e i j f = record {
     flag = false;
     tokens = attribute plain a ∷ sign ASSIGNED ∷ operandToken x ∷ [];
     is = assigns (of-either h) (operand-is v x k e) (ap only i);
     phrase = subst (λ z. Phrase (attribute plain a ∷ sign ASSIGNED ∷ operandToken x ∷ []) z) (sym f)
-        (spaced (attribute plain a ∷ []) (sign ASSIGNED ∷ operandToken x ∷ []) (bytesOf (attribute plain a)) (58 ∷ 61 ∷ [] ␣ bytesOf (operandToken x)) (a-word (attribute plain a) (λ b. refl))
-        (spaced (sign ASSIGNED ∷ []) (operandToken x ∷ []) (58 ∷ 61 ∷ []) (bytesOf (operandToken x)) (closed-alone (sign ASSIGNED) (λ b. refl)) (operand-phrase x)));
+        (spaced (attribute plain a ∷ []) (sign ASSIGNED ∷ operandToken x ∷ []) (tokenBytes (attribute plain a)) (58 ∷ 61 ∷ [] ␣ tokenBytes (operandToken x)) (a-word (attribute plain a) (λ b. refl))
+        (spaced (sign ASSIGNED ∷ []) (operandToken x ∷ []) (58 ∷ 61 ∷ []) (tokenBytes (operandToken x)) (closed-alone (sign ASSIGNED) (λ b. refl)) (operand-phrase x)));
     no-if = λ z. refl;
   }
 
   mutual
-    stated : (t : Statement) → SoundStatement v t → statementDepth t ≤ parentheses → isItem t ≡ false → Stated t
+    stated : (t : TextStatement) → SoundStatement v t → statementDepth t ≤ parentheses → isItem t ≡ false → Stated t
     stated (become a n) h d e = assigning a (constant n) (become a n) (h .0) (h .1) refl refl refl refl
     stated (copy a b) h d e = assigning a (current b) (copy a b) (h .0) (h .1) refl refl refl refl
     stated (recall a b) h d e = assigning a (recalled b) (recall a b) (h .0 .0) (h .0 .1) (h .1) refl refl refl
@@ -352,23 +352,23 @@ module _ (v : Visit) where
     stated (branch c l m) h d e =
         branching c l m (condition-said v c (h .0 .0) (h .0 .1) parentheses (omega arith)) (then-branch l (listed l (h .1 .0) (omega arith)) (λ o. alone l (h .1 .0) (omega arith) o)) (else-branch m (listed m (h .1 .1) (omega arith)) (λ o. alone m (h .1 .1) (omega arith) o))
 
-    alone : (p : Program) → Sound v p → nestingOf p ≤ parentheses → isOne p ≡ true → Alone p
+    alone : (p : TextProgram) → Sound v p → nestingOf p ≤ parentheses → isOne p ≡ true → Alone p
     alone done h d e = absurd (let z : _≡_ {A = ℕ} 0 1 = cc in omega arith)
     alone (step t p) h d e = alone-step t p e (h .0) (h .1) (λ i. stated t (h .0) (omega arith) i)
 
-    pub listed : (p : Program) → Sound v p → nestingOf p ≤ parentheses → Said (λ ts. ListIs v ts p) (listText nothing-yet p)
+    pub listed : (p : TextProgram) → Sound v p → nestingOf p ≤ parentheses → Said (λ ts. ListIs v ts p) (listText nothing-yet p)
     listed done h d = record { tokens = []; are = ListIs.empty; phrase = empty-phrase }
     listed (step t p) h d = list-step t p (h .0) (λ i. stated t (h .0) (omega arith) i) (after-statement p (h .1) (omega arith)) (after-print p (h .1) (omega arith))
 
-    after-statement : (p : Program) → Sound v p → nestingOf p ≤ parentheses → AfterStatement p
+    after-statement : (p : TextProgram) → Sound v p → nestingOf p ≤ parentheses → AfterStatement p
     after-statement done h d = after-statement-done
     after-statement (step t p) h d = after-statement-step t p (h .0) (λ i. stated t (h .0) (omega arith) i) (after-statement p (h .1) (omega arith)) (after-print p (h .1) (omega arith))
 
-    after-print : (p : Program) → Sound v p → nestingOf p ≤ parentheses → AfterPrint p
+    after-print : (p : TextProgram) → Sound v p → nestingOf p ≤ parentheses → AfterPrint p
     after-print done h d = after-print-done
     after-print (step t p) h d = after-print-step t p (h .0) (λ i. stated t (h .0) (omega arith) i) (after-statement p (h .1) (omega arith)) (after-print p (h .1) (omega arith))
 
-  pub program-said : (p : Program) → Sound v p → nestingOf p ≤ parentheses → Said (λ ts. BracesAre v ts (Option.some p)) (programText p)
+  pub program-said : (p : TextProgram) → Sound v p → nestingOf p ≤ parentheses → Said (λ ts. BracesAre v ts (Option.some p)) (programText p)
   program-said p h d =
       let s = listed p h d in
       record {

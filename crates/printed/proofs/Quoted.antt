@@ -10,7 +10,7 @@ use borrow.Author.Tests.{ne-eqb}
 use Rattle.text.specs.Chars.{utf8}
 use Rattle.text.specs.Characters.{utf8s, WholeCharacters}
 use Rattle.text.proofs.Shapes.{Range, range, shape1, shape2, shape3, shape4}
-use Rattle.notation.specs.Tokens.{Token, string, in-quotes, all-in-quotes, bytesOf, StringOf}
+use Rattle.notation.specs.Tokens.{TextToken, string, in-quotes, all-in-quotes, tokenBytes, StringOf}
 use Rattle.printed.specs.Programs.{inString, allInString, quoted}
 
 escaped-append : (a b : List ℕ) → allInString (a ++ b) ≡ allInString a ++ allInString b
@@ -57,5 +57,5 @@ characters-escaped [] = refl
 characters-escaped (c ∷ cs) = ap₂ _++_ (one-character c) (characters-escaped cs) ∙ sym (escaped-append (utf8 c) (utf8s cs))
 
 -- so a quoted string is a token
-pub quoted-string : (s : List ℕ) (w : WholeCharacters s) → bytesOf (string (w .characters)) ≡ quoted s
+pub quoted-string : (s : List ℕ) (w : WholeCharacters s) → tokenBytes (string (w .characters)) ≡ quoted s
 quoted-string s w = ap (λ l. 34 ∷ (l ++ 34 ∷ [])) (characters-escaped (w .characters) ∙ sym (ap allInString (w .spelled)))

@@ -6,13 +6,13 @@ use Prim.Native.Nat.{ℕ, suc, _≤_}
 use native.Mathlib.Omega.{arith}
 use lib.ListN.{length}
 use Rattle.programs.specs.Limits.{first, second}
-use Rattle.notation.specs.Rules.{Tree, node, Rule, Rules}
-use Rattle.notation.specs.Limits.{ContentWithin, RuleWithin, EachWithin, Within}
-use Rattle.notation.specs.Tokens.{Token, nonterminal, name, sign, DEFINED, OPEN, CLOSE, bytesOf}
+use Rattle.notation.specs.Rules.{Tree, node, TextRule, Rules}
+use Rattle.notation.specs.Limits.{ContentWithin, RuleWithin, EachWithin, WithinLimits}
+use Rattle.notation.specs.Tokens.{TextToken, nonterminal, name, sign, DEFINED, OPEN, CLOSE, tokenBytes}
 use Rattle.notation.specs.Gaps.{Gap, gap}
-use Rattle.notation.specs.Spelled.{Spelled, end, token}
+use Rattle.notation.specs.Spelled.{TypedAs, end, token}
 use Rattle.notation.specs.Statements.{parentheses}
-use Rattle.notation.specs.Productions.{ContentIs, nothing, something, ProductionIs, production, ProductionsAre, one, more, RulesAre, start-alone}
+use Rattle.notation.specs.Productions.{ContentIs, nothing, something, RuleIs, production, ProductionsAre, one, more, RulesAre, start-alone}
 use Rattle.encoding.specs.Sound.{SoundContent, SoundRule, AllSound}
 use Rattle.printed.specs.Spacing.{_␣_, inParentheses}
 use Rattle.printed.specs.Expressions.{programInFront, programBehind, contentText}
@@ -29,13 +29,13 @@ content-said (some (node f g k)) h w =
     record { tokens = s .tokens; are = something (s .are); phrase = s .phrase }
 
 -- a tag with its parentheses
-tag-phrase : (n : List ℕ) (ts : List Token) (x : List ℕ) → Phrase ts x → Phrase (name n ∷ sign OPEN ∷ (ts ++ sign CLOSE ∷ [])) (n ++ inParentheses x)
+tag-phrase : (n : List ℕ) (ts : List TextToken) (x : List ℕ) → Phrase ts x → Phrase (name n ∷ sign OPEN ∷ (ts ++ sign CLOSE ∷ [])) (n ++ inParentheses x)
 tag-phrase n ts x p = record {
-  spells = λ us y q s. subst (λ z. Spelled (name n ∷ sign OPEN ∷ ((ts ++ sign CLOSE ∷ []) ++ us)) z) (sym (append-assoc n (inParentheses x) y))
+  spells = λ us y q s. subst (λ z. TypedAs (name n ∷ sign OPEN ∷ ((ts ++ sign CLOSE ∷ []) ++ us)) z) (sym (append-assoc n (inParentheses x) y))
       (token {g = []} {rest = inParentheses x ++ y} (name n) Gap.none refl (in-parentheses ts x p .spells us y q s));
 }
 
-rule-said : (r : Rule) → SoundRule r → RuleWithin r → Said (λ ts. ProductionIs ts r) (ruleText r)
+rule-said : (r : TextRule) → SoundRule r → RuleWithin r → Said (λ ts. RuleIs ts r) (ruleText r)
 rule-said r h w =
     let f = braced first (r .own .first-visit) (h .before) (w .own .0) in
     let g = braced second (r .own .second-visit) (h .after) (w .own .1) in
@@ -48,33 +48,33 @@ rule-said r h w =
       tokens = nonterminal (r .nonterminal) ∷ sign DEFINED ∷ (f .tokens ++ name (r .tag) ∷ sign OPEN ∷ (s .tokens ++ sign CLOSE ∷ g .tokens));
       are = production (h .numbered) (f .are) (h .named) (s .are) (g .are);
       phrase = subst (λ z. Phrase (nonterminal (r .nonterminal) ∷ sign DEFINED ∷ (f .tokens ++ name (r .tag) ∷ sign OPEN ∷ z)) (ruleText r)) (append-assoc (s .tokens) (sign CLOSE ∷ []) (g .tokens))
-          (spaced (nonterminal (r .nonterminal) ∷ []) (sign DEFINED ∷ (f .tokens ++ (tagged ++ g .tokens))) (bytesOf (nonterminal (r .nonterminal))) (bytesOf (sign DEFINED) ␣ y) (a-word (nonterminal (r .nonterminal)) (λ b. refl))
-          (spaced (sign DEFINED ∷ []) (f .tokens ++ (tagged ++ g .tokens)) (bytesOf (sign DEFINED)) y (closed-alone (sign DEFINED) (λ b. refl)) whole));
+          (spaced (nonterminal (r .nonterminal) ∷ []) (sign DEFINED ∷ (f .tokens ++ (tagged ++ g .tokens))) (tokenBytes (nonterminal (r .nonterminal))) (tokenBytes (sign DEFINED) ␣ y) (a-word (nonterminal (r .nonterminal)) (λ b. refl))
+          (spaced (sign DEFINED ∷ []) (f .tokens ++ (tagged ++ g .tokens)) (tokenBytes (sign DEFINED)) y (closed-alone (sign DEFINED) (λ b. refl)) whole));
     }
 
-record Lines (rs : List Rule) : Type 0 where
-  tokens : List Token
+record Lines (rs : List TextRule) : Type 0 where
+  tokens : List TextToken
   are : ProductionsAre tokens rs
-  spelled : Spelled tokens (linesOf rs)
+  spelled : TypedAs tokens (linesOf rs)
 
 -- a phrase, then the end of its line
-on-line : (ts us : List Token) (x y : List ℕ) → Phrase ts x → Spelled us y → Spelled (ts ++ us) (x ++ 10 ∷ y)
+on-line : (ts us : List TextToken) (x y : List ℕ) → Phrase ts x → TypedAs us y → TypedAs (ts ++ us) (x ++ 10 ∷ y)
 on-line ts us x y p s = p .spells us (10 ∷ y) refl (blank-front 10 refl us y s)
 
-lines : (r : Rule) (rs : List Rule) → AllSound (r ∷ rs) → EachWithin (r ∷ rs) → Lines (r ∷ rs)
+lines : (r : TextRule) (rs : List TextRule) → AllSound (r ∷ rs) → EachWithin (r ∷ rs) → Lines (r ∷ rs)
 lines r [] h w =
     let s = rule-said r (h .0) (w .0) in
     record {
       tokens = s .tokens;
       are = one (s .are);
-      spelled = subst (λ z. Spelled z (ruleText r ++ 10 ∷ [])) (mathlib.Core.List.append-nil (s .tokens)) (on-line (s .tokens) [] (ruleText r) [] (s .phrase) (end (gap Gap.none)));
+      spelled = subst (λ z. TypedAs z (ruleText r ++ 10 ∷ [])) (mathlib.Core.List.append-nil (s .tokens)) (on-line (s .tokens) [] (ruleText r) [] (s .phrase) (end (gap Gap.none)));
     }
 lines r (q ∷ rs) h w =
     let s = rule-said r (h .0) (w .0) in
     let m = lines q rs (h .1) (w .1) in
     record { tokens = s .tokens ++ m .tokens; are = more (s .are) (m .are); spelled = on-line (s .tokens) (m .tokens) (ruleText r) (linesOf (q ∷ rs)) (s .phrase) (m .spelled) }
 
-some-lines : (rs : List Rule) → 1 ≤ length rs → AllSound rs → EachWithin rs → Lines rs
+some-lines : (rs : List TextRule) → 1 ≤ length rs → AllSound rs → EachWithin rs → Lines rs
 some-lines [] i h w = absurd (omega arith)
 some-lines (r ∷ rs) i h w = lines r rs h w
 
@@ -84,7 +84,7 @@ printed-is-text r h w =
     let m = some-lines (r .productions) (h .some-productions) (h .each) (w .each) in
     record {
       tokens = nonterminal (r .start) ∷ m .tokens;
-      spelled = on-line (nonterminal (r .start) ∷ []) (m .tokens) (bytesOf (nonterminal (r .start))) (linesOf (r .productions)) (a-word (nonterminal (r .start)) (λ b. refl)) (m .spelled);
+      spelled = on-line (nonterminal (r .start) ∷ []) (m .tokens) (tokenBytes (nonterminal (r .start))) (linesOf (r .productions)) (a-word (nonterminal (r .start)) (λ b. refl)) (m .spelled);
       grammatical = start-alone (h .its-start) (m .are);
       within = w;
     }

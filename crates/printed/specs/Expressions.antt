@@ -6,22 +6,22 @@ use mathlib.Core.Option.{Option, none, some}
 use Prim.Native.Nat.{ℕ}
 use lib.Dec.{ltb}
 use Rattle.expressions.specs.Expr.{Atom, nonterminal, anychar}
-use Rattle.notation.specs.Program.{Program}
+use Rattle.notation.specs.Program.{TextProgram}
 use Rattle.notation.specs.Rules.{Tree, node, Form, atom, cat, alt, star, empty}
-use Rattle.notation.specs.Tokens.{Token, word, CHAR, EMPTY, DOT, BAR, STAR, signBytes, bytesOf}
+use Rattle.notation.specs.Tokens.{TextToken, word, CHAR, EMPTY, DOT, BAR, STAR, signBytes, tokenBytes}
 use Rattle.printed.specs.Spacing.{_␣_, inParenthesesIf}
 use Rattle.printed.specs.Programs.{programText}
 
 -- a program in front of what is written x, and one behind it
-abbrev pub programInFront : Option Program → List ℕ → List ℕ
+abbrev pub programInFront : Option TextProgram → List ℕ → List ℕ
 programInFront none x = x
 programInFront (some p) x = programText p ␣ x
 
-abbrev pub programBehind : List ℕ → Option Program → List ℕ
+abbrev pub programBehind : List ℕ → Option TextProgram → List ℕ
 programBehind x none = x
 programBehind x (some p) = x ␣ programText p
 
-abbrev pub hasOne : Option Program → Bool
+abbrev pub hasOne : Option TextProgram → Bool
 hasOne none = false
 hasOne (some p) = true
 
@@ -33,8 +33,8 @@ binds (star e) = 2
 binds (atom k) = 3
 binds empty = 3
 
-abbrev pub atomToken : Atom → Token
-atomToken (nonterminal n) = Token.nonterminal n
+abbrev pub atomToken : Atom → TextToken
+atomToken (nonterminal n) = TextToken.nonterminal n
 atomToken anychar = word CHAR
 
 -- in a place that asks for so much binding
@@ -43,11 +43,11 @@ abbrev mutual
   treeText asked (node f g k) = inParenthesesIf ((hasOne f || hasOne g) || ltb (binds k) asked) (programInFront f (programBehind (formText k) g))
 
   pub formText : Form → List ℕ
-  formText (atom k) = bytesOf (atomToken k)
+  formText (atom k) = tokenBytes (atomToken k)
   formText (cat l r) = treeText 1 l ++ (signBytes DOT ++ treeText 2 r)
   formText (alt l r) = treeText 0 l ++ (signBytes BAR ++ treeText 1 r)
   formText (star e) = treeText 3 e ++ signBytes STAR
-  formText empty = bytesOf (word EMPTY)
+  formText empty = tokenBytes (word EMPTY)
 
 -- between a tag's parentheses
 abbrev pub contentText : Option Tree → List ℕ

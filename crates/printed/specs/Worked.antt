@@ -6,7 +6,7 @@ use mathlib.Core.Option.{Option, none, some}
 use Prim.Native.Nat.{ℕ}
 use Rattle.expressions.specs.Expr.{Atom}
 use Rattle.programs.specs.Program.{constant, current, equal}
-use Rattle.notation.specs.Program.{become, print-start, print-end, echo, branch, Program, done, step}
+use Rattle.notation.specs.Program.{become, print-start, print-end, echo, branch, TextProgram, done, step}
 use Rattle.notation.specs.Rules.{Tree, node, atom, cat, star, Rules}
 use Rattle.printed.specs.Text.{textOf}
 
@@ -17,7 +17,7 @@ abbrev pub nonterminalNode : ℕ → Tree
 nonterminalNode n = node none none (atom (Atom.nonterminal n))
 
 -- if a0 is 1, an empty book is printed; a0 becomes 2
-abbrev pub changed : Program
+abbrev pub changed : TextProgram
 changed = step (branch (equal (current 0) (constant 1)) (step (print-start bookTag) (step (print-end bookTag) done)) done) (step (become 0 2) done)
 
 -- (n2.n3).n3* .n4, where the star turns echo off

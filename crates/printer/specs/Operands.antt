@@ -6,7 +6,7 @@ use Prim.Native.Nat.{ℕ}
 use lib.Dec.{eqb}
 use lib.ListN.{getD}
 use Rattle.programs.specs.Program.{Operand, operandBytes}
-use Rattle.notation.specs.Tokens.{decimal, bytesOf}
+use Rattle.notation.specs.Tokens.{decimal, tokenBytes}
 use Rattle.printed.specs.Conditions.{operandToken}
 
 -- 0 v: a value; 1 a: $.a; 2 a: $[.a
@@ -15,4 +15,4 @@ operandTextAt k v = cond (eqb k 0) (decimal v) (cond (eqb k 1) (36 ∷ 46 ∷ 97
 
 -- it is the operand's, as a condition or an assignment prints it
 abbrev pub OperandsAreTheirs : Type 0
-OperandsAreTheirs = (x : Operand) → operandTextAt (getD (operandBytes x) 0 0) (getD (operandBytes x) 1 0) ≡ bytesOf (operandToken x)
+OperandsAreTheirs = (x : Operand) → operandTextAt (getD (operandBytes x) 0 0) (getD (operandBytes x) 1 0) ≡ tokenBytes (operandToken x)

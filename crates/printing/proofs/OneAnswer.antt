@@ -15,7 +15,7 @@ use Rattle.sheet.proofs.SheetLaws.{one-from, one-name, one-rule, sheet-by}
 use Rattle.sheet.proofs.DefectLaws.{one-defect}
 use Rattle.notation.specs.Rules.{Rules}
 use Rattle.encoding.specs.Distinct.{run-together}
-use Rattle.encoding.specs.Encoded.{stringsOf}
+use Rattle.encoding.specs.Encoded.{stringsStored}
 use Rattle.packing.specs.Packs.{Packs}
 use Rattle.printed.specs.Text.{textOf}
 use Rattle.naming.specs.ByName.{ByName}
@@ -40,8 +40,8 @@ its-rules s a r q p b h = one-by-name (h .its-sheet) r q (subst (λ z. ByName z 
 pub one-text : (s : List ℕ) (r q : Rules) → HasText s r → HasText s q → r ≡ q
 one-text s r q h k = its-rules s (h .its-sheet) r q (h .packed) (h .by-name) k
 
-no-text : (s : List ℕ) (a : Sheet) (r q : Rules) → Packs s a → ByName a r → mostStringBytes < length (run-together (stringsOf r)) → HasText s q → ⊥
-no-text s a r q p b t h = omega (arith, t, h .short, ap (λ z. length (run-together (stringsOf z))) (its-rules s a r q p b h))
+no-text : (s : List ℕ) (a : Sheet) (r q : Rules) → Packs s a → ByName a r → mostStringBytes < length (run-together (stringsStored r)) → HasText s q → ⊥
+no-text s a r q p b t h = omega (arith, t, h .short, ap (λ z. length (run-together (stringsStored z))) (its-rules s a r q p b h))
 
 -- what keeps 1 to 6 has none of these numbers
 none-of-six : (s : List ℕ) (a : Sheet) (d : ℕ) → Packs s a → DefectIs s d → 1 ≤ d → d ≤ 6 → ⊥

@@ -7,14 +7,14 @@ use Rattle.sheet.specs.Defect.{DefectIs}
 use Rattle.sheet.specs.Sheet.{Sheet}
 use Rattle.notation.specs.Rules.{Rules}
 use Rattle.encoding.specs.Distinct.{run-together}
-use Rattle.encoding.specs.Encoded.{stringsOf}
+use Rattle.encoding.specs.Encoded.{stringsStored}
 use Rattle.packing.specs.Packs.{Packs}
 use Rattle.printed.specs.Text.{textOf}
 use Rattle.naming.specs.ByName.{ByName}
 
 -- the different strings that the rules print have room in a sheet
 abbrev pub StringsFit : Rules → Type 0
-StringsFit r = length (run-together (stringsOf r)) ≤ mostStringBytes
+StringsFit r = length (run-together (stringsStored r)) ≤ mostStringBytes
 
 -- the sheet's rules, where their text keeps the limits
 pub record HasText (sheet : List ℕ) (r : Rules) : Type 0 where
@@ -27,6 +27,6 @@ pub record HasText (sheet : List ℕ) (r : Rules) : Type 0 where
 -- With any other number all bytes are
 pub data PrintedAs (sheet area : List ℕ) : ℕ → ℕ → List ℕ → Type 0 where
   no-sheet : {d : ℕ} → DefectIs sheet d → 1 ≤ d → d ≤ 6 → PrintedAs sheet area d 0 area
-  no-room : (a : Sheet) (r : Rules) → Packs sheet a → ByName a r → mostStringBytes < length (run-together (stringsOf r)) → PrintedAs sheet area 42 0 area
+  no-room : (a : Sheet) (r : Rules) → Packs sheet a → ByName a r → mostStringBytes < length (run-together (stringsStored r)) → PrintedAs sheet area 42 0 area
   too-short : (r : Rules) → HasText sheet r → length area < length (textOf r) → PrintedAs sheet area 43 (length (textOf r)) area
   printed : (r : Rules) → HasText sheet r → length (textOf r) ≤ length area → PrintedAs sheet area 0 (length (textOf r)) (textOf r ++ drop (length (textOf r)) area)

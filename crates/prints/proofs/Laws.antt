@@ -11,7 +11,7 @@ use Rattle.lent.proofs.Laws.{put-dry, put-all}
 use Rattle.tells.specs.Tells.{Tells, holds, fails}
 use Rattle.notation.specs.Rules.{Rules}
 use Rattle.encoding.specs.Distinct.{run-together}
-use Rattle.encoding.specs.Encoded.{stringsOf}
+use Rattle.encoding.specs.Encoded.{stringsStored}
 use Rattle.printed.specs.Text.{textOf}
 use Rattle.naming.specs.ByName.{ByName}
 use Rattle.naming.proofs.Exists.{sheets-are-rules}
@@ -30,14 +30,14 @@ module _ (s area : List ℕ) (K : KeepsSix s) where
   pub strings-too-long : FitsIs s false → PrintedAs s area 42 0 area
   strings-too-long f = on (f (K .its-sheet) (K .packed) rules by-name)
     where
-      on : Tells (length (run-together (stringsOf rules)) ≤ mostStringBytes) false → PrintedAs s area 42 0 area
+      on : Tells (length (run-together (stringsStored rules)) ≤ mostStringBytes) false → PrintedAs s area 42 0 area
       on (fails n) = no-room (K .its-sheet) rules (K .packed) by-name (omega (arith, n))
 
   module _ (f : FitsIs s true) where
     has-text : HasText s rules
     has-text = record { its-sheet = K .its-sheet; packed = K .packed; by-name = by-name; short = on (f (K .its-sheet) (K .packed) rules by-name) }
       where
-        on : Tells (length (run-together (stringsOf rules)) ≤ mostStringBytes) true → length (run-together (stringsOf rules)) ≤ mostStringBytes
+        on : Tells (length (run-together (stringsStored rules)) ≤ mostStringBytes) true → length (run-together (stringsStored rules)) ≤ mostStringBytes
         on (holds h) = h
 
     -- the dry run

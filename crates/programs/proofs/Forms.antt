@@ -12,7 +12,7 @@ use Rattle.text.specs.Chars.{Starts}
 use Rattle.programs.specs.Program.{Operand, constant, current, recalled, operandBytes, Condition, equal, negated, both, either, conditionBytes, Statement, become, copy, recall, reject, print-start, print-end, print-text, echo, branch, echoByte, statementBytes, Program, done, step, programBytes}
 use Rattle.programs.specs.Bounds.{bounds}
 use Rattle.programs.specs.Limits.{Attribute, Value, OperandFits, ConditionFits, StatementFits, StatementsFit, Printable, Visit, first, second, operandAllowed, conditionAllowed, statementAllowed, allowed, conditionNesting, statementNesting, nesting}
-use Rattle.programs.specs.Parsed.{ReadAs, whole, none, OperandAt, ConditionAt, StatementAt, PlainAt, ListAt, ConditionWithin, StatementWithin, ListWithin}
+use Rattle.programs.specs.Parsed.{ParsedAs, whole, none, OperandAt, ConditionAt, StatementAt, PlainAt, ListAt, ConditionWithin, StatementWithin, ListWithin}
 use Rattle.programs.specs.declared.Parsed.{Parsed}
 use Rattle.programs.specs.declared.Parsed.the-variants.{Whole, Bad}
 use Rattle.programs.proofs.Agree.{OperandForm, operand-form, ConditionForm, condition-form, StatementForm, statement-form, not-closing}

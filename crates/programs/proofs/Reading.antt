@@ -12,7 +12,7 @@ use lib.Seq.{drop-cons, drop-drop, drop-append-seam, getD-drop}
 use Rattle.text.specs.Chars.{Starts}
 use Rattle.programs.specs.Limits.{Visit, first, second}
 use Rattle.tells.specs.Tells.{Tells, holds, fails}
-use Rattle.programs.specs.Parsed.{ReadAs, whole, none}
+use Rattle.programs.specs.Parsed.{ParsedAs, whole, none}
 use Rattle.programs.specs.declared.Parsed.{Parsed}
 use Rattle.programs.specs.declared.Parsed.the-variants.{Whole, Bad}
 use Rattle.programs.proofs.Agree.{Agree}
@@ -32,7 +32,7 @@ pub record Kind : Type 1 where
   pub may : Visit → Thing → Bool
 
 abbrev pub Reads : Kind → List ℕ → ℕ → Parsed → Type 0
-Reads K = ReadAs (K .bytes) (K .Good) (K .may)
+Reads K = ParsedAs (K .bytes) (K .Good) (K .may)
 
 -- the byte at j of what lies at i
 pub byte-of : (s : List ℕ) (i : ℕ) (w : List ℕ) → Starts (drop i s) w → (j : ℕ) → j < length w → (i + j < length s) × (getD s (i + j) 0 ≡ getD w j 0)

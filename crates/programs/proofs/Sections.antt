@@ -13,7 +13,7 @@ use Rattle.programs.specs.Program.{Program, programBytes}
 use Rattle.programs.specs.Limits.{IsProgram, Visit, first, second, allowed}
 use Rattle.programs.specs.Section.{backToBack, AllPrograms, Fill, StartOf, FieldIs, no-program, names}
 use Rattle.tells.specs.Tells.{Tells, holds, fails}
-use Rattle.programs.specs.Parsed.{whole, ListAt, ProgramAt, Filled, visit, FieldTold}
+use Rattle.programs.specs.Parsed.{whole, ListAt, ProgramAt, Filled, whichVisit, FieldTold}
 use Rattle.programs.specs.Parsed as parsed
 use Rattle.programs.specs.declared.Parsed.{Parsed}
 use Rattle.programs.specs.declared.Parsed.the-variants.{Whole, Bad}
@@ -177,25 +177,25 @@ module _ (tags : ℕ) (strings s : List ℕ) (ps : List Program) (field : ℕ) w
 
     module _ (isSecond : Bool) (some-program : field ≡ 0xFFFF → ⊥) where
       -- no field where no program starts
-      no-field : ((p : Program) → StartOf ps field p → ⊥) → Tells ((m : Option Program) × FieldIs ps (visit isSecond) field m) false
+      no-field : ((p : Program) → StartOf ps field p → ⊥) → Tells ((m : Option Program) × FieldIs ps (whichVisit isSecond) field m) false
       no-field f = fails go
         where
-          go : (m : Option Program) × FieldIs ps (visit isSecond) field m → ⊥
+          go : (m : Option Program) × FieldIs ps (whichVisit isSecond) field m → ⊥
           go (m, no-program e) = some-program e
           go (m, names k p S α) = f p S
 
-      pub past-end-field : ProgramAt tags strings s i Bad → Tells ((m : Option Program) × FieldIs ps (visit isSecond) field m) false
+      pub past-end-field : ProgramAt tags strings s i Bad → Tells ((m : Option Program) × FieldIs ps (whichVisit isSecond) field m) false
       past-end-field r = no-field (λ p S. no-start (field - i) p (subst (λ (l : List Program). StartOf l (field - i) p) (nothing-there tags strings s i r (W .ahead) (W .fill)) (W .there p S .1)))
 
-      pub middle-field : field < i → Tells ((m : Option Program) × FieldIs ps (visit isSecond) field m) false
+      pub middle-field : field < i → Tells ((m : Option Program) × FieldIs ps (whichVisit isSecond) field m) false
       middle-field h = no-field (λ p S. omega (arith, W .there p S .0))
 
-      pub start-field : i ≡ field → {n : ℕ} {a b : Bool} → ProgramAt tags strings s i (Whole n a b) → (r : Bool) → (isSecond ≡ false → r ≡ a) → (isSecond ≡ true → r ≡ b) → Tells ((m : Option Program) × FieldIs ps (visit isSecond) field m) r
+      pub start-field : i ≡ field → {n : ℕ} {a b : Bool} → ProgramAt tags strings s i (Whole n a b) → (r : Bool) → (isSecond ≡ false → r ≡ a) → (isSecond ≡ true → r ≡ b) → Tells ((m : Option Program) × FieldIs ps (whichVisit isSecond) field m) r
       start-field h (whole x g st q α β) r ra rb = go r (by-visit isSecond refl)
         where
-          by-visit : (u : Bool) → isSecond ≡ u → r ≡ allowed (visit isSecond) x
-          by-visit false e = ra e ∙ α ∙ ap (λ (u : Bool). allowed (visit u) x) (sym e)
-          by-visit true e = rb e ∙ β ∙ ap (λ (u : Bool). allowed (visit u) x) (sym e)
+          by-visit : (u : Bool) → isSecond ≡ u → r ≡ allowed (whichVisit isSecond) x
+          by-visit false e = ra e ∙ α ∙ ap (λ (u : Bool). allowed (whichVisit u) x) (sym e)
+          by-visit true e = rb e ∙ β ∙ ap (λ (u : Bool). allowed (whichVisit u) x) (sym e)
 
           w : (qs : List Program) × (W .ahead ≡ x ∷ qs) × Fill tags strings (st .0) qs
           w = first-of tags strings (drop i s) x (st .0) (st .1) (W .ahead) (W .fill)
@@ -206,13 +206,13 @@ module _ (tags : ℕ) (strings s : List ℕ) (ps : List Program) (field : ℕ) w
           starts : StartOf ps field x
           starts = W .back x (omega arith) (subst (λ (l : List Program). StartOf l (field - i) x) (sym (w .1)) (subst (λ (o : ℕ). StartOf (x ∷ w .0) o x) (sym zero-off) (start-first x (w .0))))
 
-          go : (r : Bool) → r ≡ allowed (visit isSecond) x → Tells ((m : Option Program) × FieldIs ps (visit isSecond) field m) r
+          go : (r : Bool) → r ≡ allowed (whichVisit isSecond) x → Tells ((m : Option Program) × FieldIs ps (whichVisit isSecond) field m) r
           go true e = holds (some x, names some-program x starts (sym e))
           go false e = fails no-other
             where
-              no-other : (m : Option Program) × FieldIs ps (visit isSecond) field m → ⊥
+              no-other : (m : Option Program) × FieldIs ps (whichVisit isSecond) field m → ⊥
               no-other (m, no-program f) = some-program f
-              no-other (m, names k p S γ) = true≢false (sym γ ∙ ap (λ (z : Program). allowed (visit isSecond) z) (one-start ps field p x S starts) ∙ sym e)
+              no-other (m, names k p S γ) = true≢false (sym γ ∙ ap (λ (z : Program). allowed (whichVisit isSecond) z) (one-start ps field p x S starts) ∙ sym e)
 
 -- ---- one answer only
 pub one-program : (tags : ℕ) (strings s : List ℕ) (i : ℕ) (p q : Parsed) → ProgramAt tags strings s i p → ProgramAt tags strings s i q → p ≡ q

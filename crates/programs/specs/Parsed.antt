@@ -15,13 +15,13 @@ use Rattle.programs.specs.declared.Parsed.the-variants.{Whole, Bad}
 
 -- what reading at i answers, where x lies at i when the bytes from i on start with its bytes: the byte past the good x that lies there, and whether
 -- it may stand in a first and in a second visit; or that no good one lies there
-pub data ReadAs {T : Type 0} (bytes : T → List ℕ) (Good : T → Type 0) (may : Visit → T → Bool) (s : List ℕ) (i : ℕ) : Parsed → Type 0 where
+pub data ParsedAs {T : Type 0} (bytes : T → List ℕ) (Good : T → Type 0) (may : Visit → T → Bool) (s : List ℕ) (i : ℕ) : Parsed → Type 0 where
   whole : (x : T) → Good x → Starts (drop i s) (bytes x) → {n : ℕ} → n ≡ i + length (bytes x)
-      → {a b : Bool} → a ≡ may first x → b ≡ may second x → ReadAs bytes Good may s i (Whole n a b)
-  none : ((x : T) → Good x → Starts (drop i s) (bytes x) → ⊥) → ReadAs bytes Good may s i Bad
+      → {a b : Bool} → a ≡ may first x → b ≡ may second x → ParsedAs bytes Good may s i (Whole n a b)
+  none : ((x : T) → Good x → Starts (drop i s) (bytes x) → ⊥) → ParsedAs bytes Good may s i Bad
 
 abbrev pub OperandAt : List ℕ → ℕ → Parsed → Type 0
-OperandAt = ReadAs operandBytes OperandFits operandAllowed
+OperandAt = ParsedAs operandBytes OperandFits operandAllowed
 
 -- nested at most so deep
 abbrev pub ConditionWithin : ℕ → Condition → Type 0
@@ -34,30 +34,30 @@ abbrev pub ListWithin : ℕ → List ℕ → ℕ → Program → Type 0
 ListWithin tags strings room p = StatementsFit tags strings p × (nesting p ≤ room)
 
 abbrev pub ConditionAt : ℕ → List ℕ → ℕ → Parsed → Type 0
-ConditionAt room = ReadAs conditionBytes (ConditionWithin room) conditionAllowed
+ConditionAt room = ParsedAs conditionBytes (ConditionWithin room) conditionAllowed
 
 abbrev pub StatementAt : ℕ → List ℕ → ℕ → List ℕ → ℕ → Parsed → Type 0
-StatementAt tags strings room = ReadAs statementBytes (StatementWithin tags strings room) statementAllowed
+StatementAt tags strings room = ParsedAs statementBytes (StatementWithin tags strings room) statementAllowed
 
 -- a statement other than a branch nests nothing, so every depth will do
 abbrev pub PlainAt : ℕ → List ℕ → List ℕ → ℕ → Parsed → Type 0
 PlainAt tags strings s i r = (room : ℕ) → StatementAt tags strings room s i r
 
 abbrev pub ListAt : ℕ → List ℕ → ℕ → List ℕ → ℕ → Parsed → Type 0
-ListAt tags strings room = ReadAs programBytes (ListWithin tags strings room) allowed
+ListAt tags strings room = ParsedAs programBytes (ListWithin tags strings room) allowed
 
 abbrev pub ProgramAt : ℕ → List ℕ → List ℕ → ℕ → Parsed → Type 0
-ProgramAt tags strings = ReadAs programBytes (IsProgram tags strings) allowed
+ProgramAt tags strings = ParsedAs programBytes (IsProgram tags strings) allowed
 
 -- some programs fill the section
 abbrev pub Filled : ℕ → List ℕ → List ℕ → Type 0
 Filled tags strings section = (ps : List Program) × Fill tags strings section ps
 
-abbrev pub visit : Bool → Visit
-visit false = first
-visit true = second
+abbrev pub whichVisit : Bool → Visit
+whichVisit false = first
+whichVisit true = second
 
 -- whether a field for that visit may stand beside the programs that fill the section
 abbrev pub FieldTold : ℕ → List ℕ → List ℕ → ℕ → Bool → Bool → Type 0
 FieldTold tags strings section field isSecond r =
-    (ps : List Program) → Fill tags strings section ps → Tells ((m : Option Program) × FieldIs ps (visit isSecond) field m) r
+    (ps : List Program) → Fill tags strings section ps → Tells ((m : Option Program) × FieldIs ps (whichVisit isSecond) field m) r

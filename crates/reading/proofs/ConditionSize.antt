@@ -9,7 +9,7 @@ use lib.Dec.{ltb}
 use lib.ListN.{length, length-append}
 use Rattle.programs.specs.Program.{Operand, constant, current, recalled, operandBytes, Condition, equal, negated, both, either, conditionBytes}
 use Rattle.programs.specs.Limits.{conditionNesting}
-use Rattle.reading.specs.Conditions.{Part, operand, a-not, an-and, an-or, an-open, a-close, an-equals, other, Level, level, fresh, disjoined, conjoined, negatedBy, upToAnd, whole, around, Reading, wants, compares, wants-other, after, got, opened, closed, stepPart, finishedOf}
+use Rattle.reading.specs.Conditions.{ConditionPart, operand, a-not, an-and, an-or, an-open, a-close, an-equals, other, ConditionLevel, conditionLevel, freshCondition, disjoined, conjoined, negatedBy, upToAnd, wholeCondition, aroundCondition, Reading, wants, compares, wants-other, after, got, conditionOpened, conditionClosed, stepPart, finishedOf}
 
 -- no more bytes, and nested no deeper
 pub record Under (c d : Condition) : Type 0 where
@@ -60,10 +60,10 @@ or-under : (o : Option Condition) {c d : Condition} → Under c d → Under (dis
 or-under none h = h
 or-under (some e) h = right-of-either e h
 
-whole-under : (l : Level) {c d : Condition} → Under c d → Under (whole l c) (whole l d)
+whole-under : (l : ConditionLevel) {c d : Condition} → Under c d → Under (wholeCondition l c) (wholeCondition l d)
 whole-under l h = or-under (l .or-left) (and-under (l .and-left) (nots-under (l .nots) h))
 
-around-under : (ls : List Level) {c d : Condition} → Under c d → Under (around ls c) (around ls d)
+around-under : (ls : List ConditionLevel) {c d : Condition} → Under c d → Under (aroundCondition ls c) (aroundCondition ls d)
 around-under [] h = h
 around-under (l ∷ ls) h = around-under ls (whole-under l h)
 
@@ -71,15 +71,15 @@ abbrev pub Grown : Reading → Option Reading → Type 0
 Grown s none = Unit {0}
 Grown s (some s′) = Under (finishedOf s) (finishedOf s′)
 
-open-grows : (b : Bool) (l : Level) (ls : List Level) → Grown (wants l ls) (opened b l ls)
-open-grows true l ls = under-refl (around (l ∷ ls) (equal (constant 0) (constant 0)))
+open-grows : (b : Bool) (l : ConditionLevel) (ls : List ConditionLevel) → Grown (wants l ls) (conditionOpened b l ls)
+open-grows true l ls = under-refl (aroundCondition (l ∷ ls) (equal (constant 0) (constant 0)))
 open-grows false l ls = tt
 
-close-grows : (d : Condition) (o : Option Condition) (ls : List Level) → Grown (after d o ls) (closed ls (disjoined o d))
+close-grows : (d : Condition) (o : Option Condition) (ls : List ConditionLevel) → Grown (after d o ls) (conditionClosed ls (disjoined o d))
 close-grows d o [] = tt
-close-grows d o (l ∷ ls) = under-refl (around (l ∷ ls) (disjoined o d))
+close-grows d o (l ∷ ls) = under-refl (aroundCondition (l ∷ ls) (disjoined o d))
 
-pub part-grows : (p : ℕ) (s : Reading) (k : Part) → Grown s (stepPart p s k)
+pub part-grows : (p : ℕ) (s : Reading) (k : ConditionPart) → Grown s (stepPart p s k)
 part-grows p (wants l ls) (operand x) = around-under (l ∷ ls) (equal-under (constant 0) (constant 0) x (constant 0))
 part-grows p (wants l ls) a-not = around-under ls (or-under (l .or-left) (and-under (l .and-left) (nots-under (l .nots) (in-not (equal (constant 0) (constant 0))))))
 part-grows p (wants l ls) an-and = tt
@@ -94,7 +94,7 @@ part-grows p (compares x l ls) an-and = tt
 part-grows p (compares x l ls) an-or = tt
 part-grows p (compares x l ls) an-open = tt
 part-grows p (compares x l ls) a-close = tt
-part-grows p (compares x l ls) an-equals = under-refl (around (l ∷ ls) (equal x (constant 0)))
+part-grows p (compares x l ls) an-equals = under-refl (aroundCondition (l ∷ ls) (equal x (constant 0)))
 part-grows p (compares x l ls) other = tt
 part-grows p (wants-other x l ls) (operand y) = around-under (l ∷ ls) (equal-under x (constant 0) x y)
 part-grows p (wants-other x l ls) a-not = tt

@@ -7,20 +7,20 @@ use Prim.Native.Nat.{ℕ, _<_}
 use native.Mathlib.Omega.{arith}
 use Rattle.expressions.specs.Grammar.{nonterminals}
 use Rattle.programs.specs.Limits.{first, second}
-use Rattle.notation.specs.Program.{Program}
-use Rattle.notation.specs.Rules.{Tree, Rule, Rules}
-use Rattle.notation.specs.Tokens.{Token, nonterminal, value, attribute, name, start-tag, end-tag, empty-tag, string, word, sign, Sign, DEFINED, ASSIGNED, OPEN, CLOSE, BRACE, UNBRACE, DOT, BAR, STAR, SEMICOLON, EQUALS, TagName}
+use Rattle.notation.specs.Program.{TextProgram}
+use Rattle.notation.specs.Rules.{Tree, TextRule, Rules}
+use Rattle.notation.specs.Tokens.{TextToken, nonterminal, value, attribute, name, start-tag, end-tag, empty-tag, string, word, sign, Sign, DEFINED, ASSIGNED, OPEN, CLOSE, BRACE, UNBRACE, DOT, BAR, STAR, SEMICOLON, EQUALS, TagName}
 use Rattle.notation.specs.Statements.{ListIs, BracesAre, absent, braces}
-use Rattle.notation.specs.Productions.{ContentIs, nothing, ProductionIs, production, ProductionsAre, one, more, RulesAre, start-alone, start-first}
+use Rattle.notation.specs.Productions.{ContentIs, nothing, RuleIs, production, ProductionsAre, one, more, RulesAre, start-alone, start-first}
 use Rattle.reading.specs.Tests.{tagName?}
 use Rattle.reading.specs.Statements.{Listing, listStart, stepStatements, valueOfList, finishedList}
-use Rattle.reading.specs.Expressions.{Piece, a-leaf, a-star, a-dot, a-bar, an-unbrace, Parsing, nonterminal?, pieceOf, unbraces, listing, stepExpression, valueOfContent, finishedContent}
-use Rattle.reading.specs.Rules.{Key, a-nonterminal, a-name, a-definition, an-open, a-close, a-brace, other, keyIf, signKey, keyOf, Head, head, Progress, beginning, first-word, named, defined, own-front, wants-tag, tagged, within, closed, own-back, complete, ruleOf, rulesOf, nextHead, stepKey, closes, parsing, stepRules, valueOfRules, plainRule, finishedRules}
+use Rattle.reading.specs.Expressions.{ExpressionPart, a-leaf, a-star, a-dot, a-bar, an-unbrace, Parsing, nonterminal?, pieceOf, unbraces, listing, stepExpression, valueOfContent, finishedContent}
+use Rattle.reading.specs.Rules.{Key, a-nonterminal, a-name, a-definition, an-open, a-close, a-brace, other, keyIf, signKey, keyOf, Head, head, Progress, beginning, first-word, named, defined, own-front, wants-tag, tagged, within, closed, own-back, complete, ruleRead, rulesRead, nextHead, stepKey, closesContent, parsing, stepRules, valueOfRules, plainRule, finishedRules}
 use Rattle.reading.proofs.Telling.{none≢some, IfSome}
 use Rattle.reading.proofs.StatementHeld.{Held as ListHeld, HeldIf as ListHeldIf, held-step as list-held-step, held-start as list-held-start, held-value as list-held-value, held-shortest as list-held-shortest, a-is-a-name}
 use Rattle.reading.proofs.ExpressionHeld.{PieceIs, piece-is, Held as ContentHeld, HeldIf as ContentHeldIf, held-step as content-held-step, held-start as content-held-start, held-value as content-held-value, held-shortest as content-held-shortest}
 
-abbrev pub KeyIs : Token → Key → Type 0
+abbrev pub KeyIs : TextToken → Key → Type 0
 KeyIs t (a-nonterminal n) = (t ≡ nonterminal n) × (n < nonterminals)
 KeyIs t (a-name n) = (t ≡ name n) × TagName n
 KeyIs t a-definition = t ≡ sign DEFINED
@@ -50,7 +50,7 @@ sign-key STAR = tt
 sign-key SEMICOLON = tt
 sign-key EQUALS = tt
 
-pub key-is : (t : Token) → KeyIs t (keyOf t)
+pub key-is : (t : TextToken) → KeyIs t (keyOf t)
 key-is (nonterminal n) = nonterminal-key n (nonterminal? n)
 key-is (value n) = tt
 key-is (attribute m a) = tt
@@ -63,35 +63,35 @@ key-is (word w) = tt
 key-is (sign s) = sign-key s
 
 -- the tokens before a production of nonterminal n
-abbrev pub BeforeHeld : ℕ → List Rule → ℕ → List Token → Type 0
-BeforeHeld start earlier n us = (ws : List Token) (r : Rule) (rs : List Rule) → ProductionsAre ws (r ∷ rs) → r .nonterminal ≡ n → RulesAre (us ++ ws) (record { start = start; productions = earlier ++ r ∷ rs })
+abbrev pub BeforeHeld : ℕ → List TextRule → ℕ → List TextToken → Type 0
+BeforeHeld start earlier n us = (ws : List TextToken) (r : TextRule) (rs : List TextRule) → ProductionsAre ws (r ∷ rs) → r .nonterminal ≡ n → RulesAre (us ++ ws) (record { start = start; productions = earlier ++ r ∷ rs })
 
-pub record Slot (h : Head) (ts tail : List Token) : Type 0 where
-  pub befores : List Token
+pub record Slot (h : Head) (ts tail : List TextToken) : Type 0 where
+  pub befores : List TextToken
   pub before-held : BeforeHeld (h .start) (h .earlier) (h .nonterm) befores
   pub numbered : h .nonterm < nonterminals
   pub are : ts ≡ befores ++ nonterminal (h .nonterm) ∷ sign DEFINED ∷ tail
 
-abbrev pub Tagged : Option Program → List ℕ → List Token → Type 0
+abbrev pub Tagged : Option TextProgram → List ℕ → List TextToken → Type 0
 Tagged f t fs = BracesAre first fs f × TagName t
 
-abbrev pub Held : Progress → List Token → Type 0
+abbrev pub Held : Progress → List TextToken → Type 0
 Held beginning ts = ts ≡ []
 Held (first-word n) ts = (n < nonterminals) × (ts ≡ nonterminal n ∷ [])
-Held (named h) ts = (us : List Token) × BeforeHeld (h .start) (h .earlier) (h .nonterm) us × (h .nonterm < nonterminals) × (ts ≡ us ++ nonterminal (h .nonterm) ∷ [])
+Held (named h) ts = (us : List TextToken) × BeforeHeld (h .start) (h .earlier) (h .nonterm) us × (h .nonterm < nonterminals) × (ts ≡ us ++ nonterminal (h .nonterm) ∷ [])
 Held (defined h) ts = Slot h ts []
-Held (own-front q h) ts = (xs : List Token) × ListHeld first q xs × Slot h ts (sign BRACE ∷ xs)
-Held (wants-tag f h) ts = (fs : List Token) × BracesAre first fs f × Slot h ts fs
-Held (tagged f t h) ts = (fs : List Token) × Tagged f t fs × Slot h ts (fs ++ name t ∷ [])
-Held (within x f t h) ts = (fs xs : List Token) × Tagged f t fs × ContentHeld x xs × Slot h ts (fs ++ name t ∷ sign OPEN ∷ xs)
-Held (closed f t e h) ts = (fs xs : List Token) × Tagged f t fs × ContentIs xs e × Slot h ts (fs ++ name t ∷ sign OPEN ∷ (xs ++ sign CLOSE ∷ []))
-Held (own-back q f t e h) ts = (fs xs ys : List Token) × Tagged f t fs × ContentIs xs e × ListHeld second q ys × Slot h ts (fs ++ name t ∷ sign OPEN ∷ (xs ++ sign CLOSE ∷ sign BRACE ∷ ys))
-Held (complete r h) ts = (ws : List Token) × ProductionIs (nonterminal (h .nonterm) ∷ sign DEFINED ∷ ws) r × (r .nonterminal ≡ h .nonterm) × Slot h ts ws
+Held (own-front q h) ts = (xs : List TextToken) × ListHeld first q xs × Slot h ts (sign BRACE ∷ xs)
+Held (wants-tag f h) ts = (fs : List TextToken) × BracesAre first fs f × Slot h ts fs
+Held (tagged f t h) ts = (fs : List TextToken) × Tagged f t fs × Slot h ts (fs ++ name t ∷ [])
+Held (within x f t h) ts = (fs xs : List TextToken) × Tagged f t fs × ContentHeld x xs × Slot h ts (fs ++ name t ∷ sign OPEN ∷ xs)
+Held (closed f t e h) ts = (fs xs : List TextToken) × Tagged f t fs × ContentIs xs e × Slot h ts (fs ++ name t ∷ sign OPEN ∷ (xs ++ sign CLOSE ∷ []))
+Held (own-back q f t e h) ts = (fs xs ys : List TextToken) × Tagged f t fs × ContentIs xs e × ListHeld second q ys × Slot h ts (fs ++ name t ∷ sign OPEN ∷ (xs ++ sign CLOSE ∷ sign BRACE ∷ ys))
+Held (complete r h) ts = (ws : List TextToken) × RuleIs (nonterminal (h .nonterm) ∷ sign DEFINED ∷ ws) r × (r .nonterminal ≡ h .nonterm) × Slot h ts ws
 
-abbrev pub HeldIf : Option Progress → List Token → Type 0
+abbrev pub HeldIf : Option Progress → List TextToken → Type 0
 HeldIf o ts = IfSome (λ s. Held s ts) o
 
-longer : {h : Head} {ts tail : List Token} (extra : List Token) (whole : List Token) → tail ++ extra ≡ whole → Slot h ts tail → Slot h (ts ++ extra) whole
+longer : {h : Head} {ts tail : List TextToken} (extra : List TextToken) (whole : List TextToken) → tail ++ extra ≡ whole → Slot h ts tail → Slot h (ts ++ extra) whole
 longer {h} {ts} {tail} extra whole e s = record {
   befores = s .befores;
   before-held = s .before-held;
@@ -100,14 +100,14 @@ longer {h} {ts} {tail} extra whole e s = record {
 }
 
 -- a production that is whole
-production-held : (f g : Option Program) (t : List ℕ) (e : Option Tree) (h : Head) (fs xs gs : List Token) → Tagged f t fs → ContentIs xs e → BracesAre second gs g → h .nonterm < nonterminals
-    → ProductionIs (nonterminal (h .nonterm) ∷ sign DEFINED ∷ (fs ++ name t ∷ sign OPEN ∷ (xs ++ sign CLOSE ∷ gs))) (ruleOf f g t e h)
+production-held : (f g : Option TextProgram) (t : List ℕ) (e : Option Tree) (h : Head) (fs xs gs : List TextToken) → Tagged f t fs → ContentIs xs e → BracesAre second gs g → h .nonterm < nonterminals
+    → RuleIs (nonterminal (h .nonterm) ∷ sign DEFINED ∷ (fs ++ name t ∷ sign OPEN ∷ (xs ++ sign CLOSE ∷ gs))) (ruleRead f g t e h)
 production-held f g t e h fs xs gs (b, n) c b′ i = production i b n c b′
 
-rules-held : (r : Rule) (h : Head) (ts ws : List Token) → ProductionIs (nonterminal (h .nonterm) ∷ sign DEFINED ∷ ws) r → r .nonterminal ≡ h .nonterm → Slot h ts ws → RulesAre ts (rulesOf r h)
+rules-held : (r : TextRule) (h : Head) (ts ws : List TextToken) → RuleIs (nonterminal (h .nonterm) ∷ sign DEFINED ∷ ws) r → r .nonterminal ≡ h .nonterm → Slot h ts ws → RulesAre ts (rulesRead r h)
 rules-held r h ts ws p e s = rw (s .are) (s .before-held (nonterminal (h .nonterm) ∷ sign DEFINED ∷ ws) r [] (one p) e)
 
-next-held : (r : Rule) (h : Head) (n : ℕ) (ts ws : List Token) → n < nonterminals → ProductionIs (nonterminal (h .nonterm) ∷ sign DEFINED ∷ ws) r → r .nonterminal ≡ h .nonterm → Slot h ts ws → Held (named (nextHead r h n)) (ts ++ nonterminal n ∷ [])
+next-held : (r : TextRule) (h : Head) (n : ℕ) (ts ws : List TextToken) → n < nonterminals → RuleIs (nonterminal (h .nonterm) ∷ sign DEFINED ∷ ws) r → r .nonterminal ≡ h .nonterm → Slot h ts ws → Held (named (nextHead r h n)) (ts ++ nonterminal n ∷ [])
 next-held r h n ts ws i p e s = (
   ts,
   (λ us q qs ps k.
@@ -119,7 +119,7 @@ next-held r h n ts ws i p e s = (
   refl,
 )
 
-key-held : (s : Progress) (k : Key) (t : Token) (ts : List Token) → KeyIs t k → Held s ts → HeldIf (stepKey s k) (ts ++ t ∷ [])
+key-held : (s : Progress) (k : Key) (t : TextToken) (ts : List TextToken) → KeyIs t k → Held s ts → HeldIf (stepKey s k) (ts ++ t ∷ [])
 key-held beginning (a-nonterminal n) t ts i h = (i .1, ap (λ w. w ++ t ∷ []) h ∙ ap (λ w. w ∷ []) (i .0))
 key-held beginning (a-name u) t ts i h = tt
 key-held beginning a-definition t ts i h = tt
@@ -176,7 +176,7 @@ key-held (tagged f u h) a-brace t ts i s = tt
 key-held (tagged f u h) other t ts i s = tt
 key-held (within x f u h) k t ts i s = tt
 key-held (closed f u e h) (a-nonterminal n) t ts i (fs, xs, b, c, s) =
-    rw (i .0) (next-held (ruleOf f none u e h) h n ts (fs ++ name u ∷ sign OPEN ∷ (xs ++ sign CLOSE ∷ [])) (i .1) (production-held f none u e h fs xs [] b c absent (s .numbered)) refl s)
+    rw (i .0) (next-held (ruleRead f none u e h) h n ts (fs ++ name u ∷ sign OPEN ∷ (xs ++ sign CLOSE ∷ [])) (i .1) (production-held f none u e h fs xs [] b c absent (s .numbered)) refl s)
 key-held (closed f u e h) (a-name w) t ts i s = tt
 key-held (closed f u e h) a-definition t ts i s = tt
 key-held (closed f u e h) an-open t ts i s = tt
@@ -194,25 +194,25 @@ key-held (complete r h) a-brace t ts i s = tt
 key-held (complete r h) other t ts i s = tt
 
 -- inside a program: it goes on, or ends with }
-module _ (holds : Listing → Progress) (ended : Program → Progress) (t : Token) (ts : List Token) where
-  unbrace-held : (k : Piece) (o : Option Program) → PieceIs t k → ((p : Program) → t ≡ sign UNBRACE → o ≡ some p → Held (ended p) (ts ++ t ∷ [])) → HeldIf (unbraces k o ended) (ts ++ t ∷ [])
+module _ (holds : Listing → Progress) (ended : TextProgram → Progress) (t : TextToken) (ts : List TextToken) where
+  unbrace-held : (k : ExpressionPart) (o : Option TextProgram) → PieceIs t k → ((p : TextProgram) → t ≡ sign UNBRACE → o ≡ some p → Held (ended p) (ts ++ t ∷ [])) → HeldIf (unbraces k o ended) (ts ++ t ∷ [])
   unbrace-held (a-leaf k) o i h = tt
   unbrace-held a-star o i h = tt
   unbrace-held a-dot o i h = tt
   unbrace-held a-bar o i h = tt
-  unbrace-held Piece.an-open o i h = tt
-  unbrace-held Piece.a-close o i h = tt
-  unbrace-held Piece.a-brace o i h = tt
+  unbrace-held ExpressionPart.an-open o i h = tt
+  unbrace-held ExpressionPart.a-close o i h = tt
+  unbrace-held ExpressionPart.a-brace o i h = tt
   unbrace-held an-unbrace none i h = tt
   unbrace-held an-unbrace (some p) i h = h p i refl
-  unbrace-held Piece.other o i h = tt
+  unbrace-held ExpressionPart.other o i h = tt
 
   listing-held : (o : Option Listing) (x : Option Progress) → ((r : Listing) → o ≡ some r → Held (holds r) (ts ++ t ∷ [])) → HeldIf x (ts ++ t ∷ []) → HeldIf (listing o holds x) (ts ++ t ∷ [])
   listing-held none x h k = k
   listing-held (some r) x h k = h r refl
 
-closes-held : (k : Key) (o : Option (Option Tree)) (f : Option Program) (u : List ℕ) (h : Head) (t : Token) (ts : List Token) → KeyIs t k → ((e : Option Tree) → t ≡ sign CLOSE → o ≡ some e → Held (closed f u e h) (ts ++ t ∷ []))
-    → HeldIf (closes k o f u h) (ts ++ t ∷ [])
+closes-held : (k : Key) (o : Option (Option Tree)) (f : Option TextProgram) (u : List ℕ) (h : Head) (t : TextToken) (ts : List TextToken) → KeyIs t k → ((e : Option Tree) → t ≡ sign CLOSE → o ≡ some e → Held (closed f u e h) (ts ++ t ∷ []))
+    → HeldIf (closesContent k o f u h) (ts ++ t ∷ [])
 closes-held (a-nonterminal n) o f u h t ts i s = tt
 closes-held (a-name w) o f u h t ts i s = tt
 closes-held a-definition o f u h t ts i s = tt
@@ -222,12 +222,12 @@ closes-held a-close (some e) f u h t ts i s = s e i refl
 closes-held a-brace o f u h t ts i s = tt
 closes-held other o f u h t ts i s = tt
 
-parsing-held : (o : Option Parsing) (x : Option Progress) (f : Option Program) (u : List ℕ) (h : Head) (t : Token) (ts : List Token) → ((y : Parsing) → o ≡ some y → Held (within y f u h) (ts ++ t ∷ [])) → HeldIf x (ts ++ t ∷ [])
+parsing-held : (o : Option Parsing) (x : Option Progress) (f : Option TextProgram) (u : List ℕ) (h : Head) (t : TextToken) (ts : List TextToken) → ((y : Parsing) → o ≡ some y → Held (within y f u h) (ts ++ t ∷ [])) → HeldIf x (ts ++ t ∷ [])
     → HeldIf (parsing o x f u h) (ts ++ t ∷ [])
 parsing-held none x f u h t ts s k = k
 parsing-held (some y) x f u h t ts s k = s y refl
 
-pub held-step : (s : Progress) (t : Token) (ts : List Token) → Held s ts → HeldIf (stepRules s t) (ts ++ t ∷ [])
+pub held-step : (s : Progress) (t : TextToken) (ts : List TextToken) → Held s ts → HeldIf (stepRules s t) (ts ++ t ∷ [])
 held-step beginning t ts h = key-held beginning (keyOf t) t ts (key-is t) h
 held-step (first-word n) t ts h = key-held (first-word n) (keyOf t) t ts (key-is t) h
 held-step (named h) t ts s = key-held (named h) (keyOf t) t ts (key-is t) s
@@ -240,15 +240,15 @@ held-step (own-front q h) t ts (xs, l, s) =
 held-step (wants-tag f h) t ts s = key-held (wants-tag f h) (keyOf t) t ts (key-is t) s
 held-step (tagged f u h) t ts s = key-held (tagged f u h) (keyOf t) t ts (key-is t) s
 held-step (within x f u h) t ts (fs, xs, b, c, s) =
-    parsing-held (stepExpression x t) (closes (keyOf t) (valueOfContent x) f u h) f u h t ts
+    parsing-held (stepExpression x t) (closesContent (keyOf t) (valueOfContent x) f u h) f u h t ts
     (λ y e. (fs, xs ++ t ∷ [], b, subst (λ o. ContentHeldIf o (xs ++ t ∷ [])) e (content-held-step x t xs c), longer (t ∷ []) (fs ++ name u ∷ sign OPEN ∷ (xs ++ t ∷ [])) (append-assoc fs (name u ∷ sign OPEN ∷ xs) (t ∷ [])) s))
     (closes-held (keyOf t) (valueOfContent x) f u h t ts (key-is t)
     (λ e i j. (fs, xs, b, content-held-value x xs e c j, longer (t ∷ []) (fs ++ name u ∷ sign OPEN ∷ (xs ++ sign CLOSE ∷ [])) (append-assoc fs (name u ∷ sign OPEN ∷ xs) (t ∷ []) ∙ ap (λ w. fs ++ name u ∷ sign OPEN ∷ (xs ++ w ∷ [])) i) s)))
 held-step (closed f u e h) t ts s = key-held (closed f u e h) (keyOf t) t ts (key-is t) s
 held-step (own-back q f u e h) t ts (fs, xs, ys, b, c, l, s) =
-    listing-held (λ r. own-back r f u e h) (λ p. complete (ruleOf f (some p) u e h) h) t ts (stepStatements second q t) (unbraces (pieceOf t) (valueOfList q) (λ p. complete (ruleOf f (some p) u e h) h))
+    listing-held (λ r. own-back r f u e h) (λ p. complete (ruleRead f (some p) u e h) h) t ts (stepStatements second q t) (unbraces (pieceOf t) (valueOfList q) (λ p. complete (ruleRead f (some p) u e h) h))
     (λ r i. (fs, xs, ys ++ t ∷ [], b, c, subst (λ o. ListHeldIf second o (ys ++ t ∷ [])) i (list-held-step second q t ys l), longer (t ∷ []) (fs ++ name u ∷ sign OPEN ∷ (xs ++ sign CLOSE ∷ sign BRACE ∷ (ys ++ t ∷ []))) (simp append-assoc) s))
-    (unbrace-held (λ r. own-back r f u e h) (λ p. complete (ruleOf f (some p) u e h) h) t ts (pieceOf t) (valueOfList q) (piece-is t)
+    (unbrace-held (λ r. own-back r f u e h) (λ p. complete (ruleRead f (some p) u e h) h) t ts (pieceOf t) (valueOfList q) (piece-is t)
     (λ p i j. (
       fs ++ name u ∷ sign OPEN ∷ (xs ++ sign CLOSE ∷ sign BRACE ∷ (ys ++ sign UNBRACE ∷ [])),
       production-held f (some p) u e h fs xs (sign BRACE ∷ (ys ++ sign UNBRACE ∷ [])) b c (braces (list-held-value second q ys p l j)) (s .numbered),
@@ -257,7 +257,7 @@ held-step (own-back q f u e h) t ts (fs, xs, ys, b, c, l, s) =
     )))
 held-step (complete r h) t ts s = key-held (complete r h) (keyOf t) t ts (key-is t) s
 
-pub held-value : (s : Progress) (ts : List Token) (v : Rules) → Held s ts → valueOfRules s ≡ some v → RulesAre ts v
+pub held-value : (s : Progress) (ts : List TextToken) (v : Rules) → Held s ts → valueOfRules s ≡ some v → RulesAre ts v
 held-value beginning ts v h e = absurd (none≢some refl e)
 held-value (first-word n) ts v h e = absurd (none≢some refl e)
 held-value (named h) ts v s e = absurd (none≢some refl e)
@@ -267,25 +267,25 @@ held-value (wants-tag f h) ts v s e = absurd (none≢some refl e)
 held-value (tagged f u h) ts v s e = absurd (none≢some refl e)
 held-value (within x f u h) ts v s e = absurd (none≢some refl e)
 held-value (closed f u x h) ts v (fs, xs, b, c, s) e =
-    let same : rulesOf (ruleOf f none u x h) h ≡ v = cc in
-    subst (RulesAre ts) same (rules-held (ruleOf f none u x h) h ts (fs ++ name u ∷ sign OPEN ∷ (xs ++ sign CLOSE ∷ [])) (production-held f none u x h fs xs [] b c absent (s .numbered)) refl s)
+    let same : rulesRead (ruleRead f none u x h) h ≡ v = cc in
+    subst (RulesAre ts) same (rules-held (ruleRead f none u x h) h ts (fs ++ name u ∷ sign OPEN ∷ (xs ++ sign CLOSE ∷ [])) (production-held f none u x h fs xs [] b c absent (s .numbered)) refl s)
 held-value (own-back q f u x h) ts v s e = absurd (none≢some refl e)
-held-value (complete r h) ts v (ws, p, i, s) e = let same : rulesOf r h ≡ v = cc in subst (RulesAre ts) same (rules-held r h ts ws p i s)
+held-value (complete r h) ts v (ws, p, i, s) e = let same : rulesRead r h ≡ v = cc in subst (RulesAre ts) same (rules-held r h ts ws p i s)
 
 -- the rest of a production, in its shortest form
-finishing : (r : Rule) (h : Head) (ts tail extra : List Token) → ProductionIs (nonterminal (h .nonterm) ∷ sign DEFINED ∷ (tail ++ extra)) r → r .nonterminal ≡ h .nonterm → Slot h ts tail → (rest : List Token) × RulesAre (ts ++ rest) (rulesOf r h)
+finishing : (r : TextRule) (h : Head) (ts tail extra : List TextToken) → RuleIs (nonterminal (h .nonterm) ∷ sign DEFINED ∷ (tail ++ extra)) r → r .nonterminal ≡ h .nonterm → Slot h ts tail → (rest : List TextToken) × RulesAre (ts ++ rest) (rulesRead r h)
 finishing r h ts tail extra p e s = (extra, rules-held r h (ts ++ extra) (tail ++ extra) p e (longer extra (tail ++ extra) refl s))
 
-abbrev plain : List Token
+abbrev plain : List TextToken
 plain = name (97 ∷ []) ∷ sign OPEN ∷ sign CLOSE ∷ []
 
-plain-production : (f : Option Program) (h : Head) (fs : List Token) → BracesAre first fs f → h .nonterm < nonterminals → ProductionIs (nonterminal (h .nonterm) ∷ sign DEFINED ∷ (fs ++ plain)) (plainRule f h)
+plain-production : (f : Option TextProgram) (h : Head) (fs : List TextToken) → BracesAre first fs f → h .nonterm < nonterminals → RuleIs (nonterminal (h .nonterm) ∷ sign DEFINED ∷ (fs ++ plain)) (plainRule f h)
 plain-production f h fs b i = production-held f none (97 ∷ []) none h fs [] [] (b, a-is-a-name) nothing absent i
 
 start-slot : (n : ℕ) → n < nonterminals → Slot (head n [] n) (nonterminal n ∷ sign DEFINED ∷ []) []
 start-slot n i = record { befores = []; before-held = λ ws r rs ps k. subst (λ x. RulesAre ws (record { start = x; productions = r ∷ rs })) k (start-first ps); numbered = i; are = refl }
 
-named-slot : (h : Head) (ts : List Token) → Held (named h) ts → Slot h (ts ++ sign DEFINED ∷ []) []
+named-slot : (h : Head) (ts : List TextToken) → Held (named h) ts → Slot h (ts ++ sign DEFINED ∷ []) []
 named-slot h ts (us, b, j, e) = record {
   befores = us;
   before-held = b;
@@ -293,10 +293,10 @@ named-slot h ts (us, b, j, e) = record {
   are = ap (λ w. w ++ sign DEFINED ∷ []) e ∙ append-assoc us (nonterminal (h .nonterm) ∷ []) (sign DEFINED ∷ []);
 }
 
-plain-rest : (f : Option Program) (h : Head) (ts fs : List Token) → BracesAre first fs f → Slot h ts fs → (rest : List Token) × RulesAre (ts ++ rest) (rulesOf (plainRule f h) h)
+plain-rest : (f : Option TextProgram) (h : Head) (ts fs : List TextToken) → BracesAre first fs f → Slot h ts fs → (rest : List TextToken) × RulesAre (ts ++ rest) (rulesRead (plainRule f h) h)
 plain-rest f h ts fs b s = finishing (plainRule f h) h ts fs plain (plain-production f h fs b (s .numbered)) refl s
 
-pub held-shortest : (s : Progress) (ts : List Token) → Held s ts → (rest : List Token) × RulesAre (ts ++ rest) (finishedRules s)
+pub held-shortest : (s : Progress) (ts : List TextToken) → Held s ts → (rest : List TextToken) × RulesAre (ts ++ rest) (finishedRules s)
 held-shortest beginning ts h =
     let r = plain-rest none (head 0 [] 0) (nonterminal 0 ∷ sign DEFINED ∷ []) [] absent (start-slot 0 (omega arith)) in
     (nonterminal 0 ∷ sign DEFINED ∷ r .0, rw h (r .1))
@@ -310,23 +310,23 @@ held-shortest (defined h) ts s = plain-rest none h ts [] absent s
 held-shortest (own-front q h) ts (xs, l, s) =
     let p = list-held-shortest first q xs l in
     finishing (plainRule (some (finishedList q)) h) h ts (sign BRACE ∷ xs) (p .0 ++ sign UNBRACE ∷ plain)
-    (subst (λ w. ProductionIs (nonterminal (h .nonterm) ∷ sign DEFINED ∷ w) (plainRule (some (finishedList q)) h)) (simp append-assoc)
+    (subst (λ w. RuleIs (nonterminal (h .nonterm) ∷ sign DEFINED ∷ w) (plainRule (some (finishedList q)) h)) (simp append-assoc)
     (plain-production (some (finishedList q)) h (sign BRACE ∷ ((xs ++ p .0) ++ sign UNBRACE ∷ [])) (braces (p .1)) (s .numbered))) refl s
 held-shortest (wants-tag f h) ts (fs, b, s) = plain-rest f h ts fs b s
 held-shortest (tagged f u h) ts (fs, b, s) =
-    finishing (ruleOf f none u none h) h ts (fs ++ name u ∷ []) (sign OPEN ∷ sign CLOSE ∷ [])
-    (subst (λ w. ProductionIs (nonterminal (h .nonterm) ∷ sign DEFINED ∷ w) (ruleOf f none u none h)) (sym (append-assoc fs (name u ∷ []) (sign OPEN ∷ sign CLOSE ∷ [])))
+    finishing (ruleRead f none u none h) h ts (fs ++ name u ∷ []) (sign OPEN ∷ sign CLOSE ∷ [])
+    (subst (λ w. RuleIs (nonterminal (h .nonterm) ∷ sign DEFINED ∷ w) (ruleRead f none u none h)) (sym (append-assoc fs (name u ∷ []) (sign OPEN ∷ sign CLOSE ∷ [])))
     (production-held f none u none h fs [] [] b nothing absent (s .numbered))) refl s
 held-shortest (within x f u h) ts (fs, xs, b, c, s) =
     let p = content-held-shortest x xs c in
-    finishing (ruleOf f none u (finishedContent x) h) h ts (fs ++ name u ∷ sign OPEN ∷ xs) (p .0 ++ sign CLOSE ∷ [])
-    (subst (λ w. ProductionIs (nonterminal (h .nonterm) ∷ sign DEFINED ∷ w) (ruleOf f none u (finishedContent x) h)) (simp append-assoc)
+    finishing (ruleRead f none u (finishedContent x) h) h ts (fs ++ name u ∷ sign OPEN ∷ xs) (p .0 ++ sign CLOSE ∷ [])
+    (subst (λ w. RuleIs (nonterminal (h .nonterm) ∷ sign DEFINED ∷ w) (ruleRead f none u (finishedContent x) h)) (simp append-assoc)
     (production-held f none u (finishedContent x) h fs (xs ++ p .0) [] b (p .1) absent (s .numbered))) refl s
 held-shortest (closed f u x h) ts (fs, xs, b, c, s) =
-    ([], subst (λ w. RulesAre w (rulesOf (ruleOf f none u x h) h)) (sym (append-nil ts)) (rules-held (ruleOf f none u x h) h ts (fs ++ name u ∷ sign OPEN ∷ (xs ++ sign CLOSE ∷ [])) (production-held f none u x h fs xs [] b c absent (s .numbered)) refl s))
+    ([], subst (λ w. RulesAre w (rulesRead (ruleRead f none u x h) h)) (sym (append-nil ts)) (rules-held (ruleRead f none u x h) h ts (fs ++ name u ∷ sign OPEN ∷ (xs ++ sign CLOSE ∷ [])) (production-held f none u x h fs xs [] b c absent (s .numbered)) refl s))
 held-shortest (own-back q f u x h) ts (fs, xs, ys, b, c, l, s) =
     let p = list-held-shortest second q ys l in
-    finishing (ruleOf f (some (finishedList q)) u x h) h ts (fs ++ name u ∷ sign OPEN ∷ (xs ++ sign CLOSE ∷ sign BRACE ∷ ys)) (p .0 ++ sign UNBRACE ∷ [])
-    (subst (λ w. ProductionIs (nonterminal (h .nonterm) ∷ sign DEFINED ∷ w) (ruleOf f (some (finishedList q)) u x h)) (simp append-assoc)
+    finishing (ruleRead f (some (finishedList q)) u x h) h ts (fs ++ name u ∷ sign OPEN ∷ (xs ++ sign CLOSE ∷ sign BRACE ∷ ys)) (p .0 ++ sign UNBRACE ∷ [])
+    (subst (λ w. RuleIs (nonterminal (h .nonterm) ∷ sign DEFINED ∷ w) (ruleRead f (some (finishedList q)) u x h)) (simp append-assoc)
     (production-held f (some (finishedList q)) u x h fs xs (sign BRACE ∷ ((ys ++ p .0) ++ sign UNBRACE ∷ [])) b c (braces (p .1)) (s .numbered))) refl s
-held-shortest (complete r h) ts (ws, p, i, s) = ([], subst (λ w. RulesAre w (rulesOf r h)) (sym (append-nil ts)) (rules-held r h ts ws p i s))
+held-shortest (complete r h) ts (ws, p, i, s) = ([], subst (λ w. RulesAre w (rulesRead r h)) (sym (append-nil ts)) (rules-held r h ts ws p i s))

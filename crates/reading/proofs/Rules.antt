@@ -5,7 +5,7 @@ use mathlib.Core.List.{List, [], _∷_, _++_, append-assoc, append-nil}
 use Prim.Native.Nat.{ℕ, _≤_}
 use native.Mathlib.Omega.{arith}
 use Rattle.notation.specs.Rules.{Rules}
-use Rattle.notation.specs.Tokens.{Token}
+use Rattle.notation.specs.Tokens.{TextToken}
 use Rattle.reading.specs.Machine.{andThen, walk}
 use Rattle.reading.specs.Reads.{ReadBy}
 use Rattle.reading.specs.Rules.{Progress, beginning, first-word, named, defined, own-front, wants-tag, tagged, within, closed, own-back, complete, stepRules, valueOfRules, finishedRules}
@@ -29,7 +29,7 @@ finished-value (closed f t x h) v e = cc
 finished-value (own-back q f t x h) v e = absurd (none≢some refl e)
 finished-value (complete r h) v e = cc
 
-held : (ts : List Token) (s : Progress) → walk stepRules beginning ts ≡ some s → Held s ts
+held : (ts : List TextToken) (s : Progress) → walk stepRules beginning ts ≡ some s → Held s ts
 held ts s e = held-after stepRules Held held-step beginning s ts refl e
 
 pub reads-rules : ReadsRules

@@ -9,7 +9,7 @@ use native.Mathlib.Omega.{arith}
 use native.Mathlib.Numerals.{add-one}
 use lib.ListN.{length, take, drop, length-append}
 use lib.Seq.{take-at, take-length}
-use Rattle.notation.specs.Refusal.{GoesOn, RefusedAt, Told, written, refused}
+use Rattle.notation.specs.Refusal.{Continues, RefusedAt, Told, written, refused}
 use Rattle.reading.specs.Machine.{Machine, andThen, walk, onlyWhere, next}
 use Rattle.reading.specs.Reads.{Limited, Ends, ReadBy}
 use Rattle.reading.specs.Promises.{TellsAll, TakesWhatGoesOn, WritesOne}
@@ -117,7 +117,7 @@ module _ {A R : Type 0} (m : Machine A R) (Phrase : List A → R → Type 0) (Fi
   abbrev run : List A → Option (m .State)
   run row = walk (next m fits) (m .start) row
 
-  took : (row : List A) (s : m .State) → run row ≡ some s → GoesOn (Limited Phrase Fits) row
+  took : (row : List A) (s : m .State) → run row ≡ some s → Continues (Limited Phrase Fits) row
   took row s e =
       let w = run-was (m .start) s row (reads .starts) e in
       let r = reads .shortest row s (w .0) in
@@ -128,7 +128,7 @@ module _ {A R : Type 0} (m : Machine A R) (Phrase : List A → R → Type 0) (Fi
       let c = reads .complete row v (l .phrase) in
       (c .last, run-is (m .start) (c .last) row (c .walked) (subst Fits (sym (reads .finished-last (c .last) v (c .told))) (l .fits)), c .told)
 
-  taken : (row : List A) → GoesOn (Limited Phrase Fits) row → (s : m .State) × (run row ≡ some s)
+  taken : (row : List A) → Continues (Limited Phrase Fits) row → (s : m .State) × (run row ≡ some s)
   taken row g =
       let c = ended (row ++ g .rest) (g .value) (g .writes) in
       let f = walk-front (next m fits) (m .start) (c .0) row (g .rest) (c .1) in
@@ -161,7 +161,7 @@ module _ {A R : Type 0} (m : Machine A R) (Phrase : List A → R → Type 0) (Fi
       go ih (inl h) = refused (length p) (record {
         reached = simp length-append (omega arith);
         before = rw (take-at p (a ∷ rest) (length p) refl) (took p s e);
-        no-further = λ k g. let t = taken (p ++ a ∷ []) (subst (GoesOn (Limited Phrase Fits)) one-more g) in none≢some (onward ∙ ap (λ o. andThen o (λ s′. some s′)) h) (t .1);
+        no-further = λ k g. let t = taken (p ++ a ∷ []) (subst (Continues (Limited Phrase Fits)) one-more g) in none≢some (onward ∙ ap (λ o. andThen o (λ s′. some s′)) h) (t .1);
         unfinished = λ k v l. absurd (omega (arith, simp length-append at k));
       })
       go ih (inr (s′, h)) = ih s′ (onward ∙ ap (λ o. andThen o (λ s′. some s′)) h)

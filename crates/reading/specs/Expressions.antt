@@ -9,26 +9,26 @@ use lib.ListN.{length}
 use Rattle.expressions.specs.Expr.{Atom, anychar}
 use Rattle.expressions.specs.Grammar.{nonterminals}
 use Rattle.programs.specs.Limits.{Visit, first, second}
-use Rattle.notation.specs.Program.{Program}
+use Rattle.notation.specs.Program.{TextProgram}
 use Rattle.notation.specs.Rules.{Tree, node, Form, atom, cat, alt, star, empty}
 use Rattle.notation.specs.Statements.{parentheses}
-use Rattle.notation.specs.Tokens.{Token, nonterminal, value, attribute, name, start-tag, end-tag, empty-tag, string, word, Word, CHAR, ECHO, ECHO-OFF, REJECT, PRINT, IF, THEN, ELSE, BEGIN, END, AND, OR, NOT, EMPTY, sign, Sign, DEFINED, ASSIGNED, OPEN, CLOSE, BRACE, UNBRACE, DOT, BAR, STAR, SEMICOLON, EQUALS}
+use Rattle.notation.specs.Tokens.{TextToken, nonterminal, value, attribute, name, start-tag, end-tag, empty-tag, string, word, Keyword, CHAR, ECHO, ECHO-OFF, REJECT, PRINT, IF, THEN, ELSE, BEGIN, END, AND, OR, NOT, EMPTY, sign, Sign, DEFINED, ASSIGNED, OPEN, CLOSE, BRACE, UNBRACE, DOT, BAR, STAR, SEMICOLON, EQUALS}
 use Rattle.reading.specs.Machine.{Machine}
 use Rattle.reading.specs.Statements.{Listing, listStart, stepStatements, valueOfList, finishedList}
 
 -- what a token is in an expression
-pub data Piece : Type 0 where
-  a-leaf : Option Atom → Piece  -- an operand by itself: an atom, or EMPTY
-  a-star a-dot a-bar an-open a-close a-brace an-unbrace other : Piece
+pub data ExpressionPart : Type 0 where
+  a-leaf : Option Atom → ExpressionPart  -- an operand by itself: an atom, or EMPTY
+  a-star a-dot a-bar an-open a-close a-brace an-unbrace other : ExpressionPart
 
 abbrev pub nonterminal? : (n : ℕ) → Dec (n < nonterminals)
 nonterminal? n = decLt n nonterminals
 
-abbrev pub atomIf : {P : Type 0} → Dec P → Atom → Piece
+abbrev pub atomIf : {P : Type 0} → Dec P → Atom → ExpressionPart
 atomIf (yes h) k = a-leaf (some k)
 atomIf (no h) k = other
 
-abbrev pub wordPiece : Word → Piece
+abbrev pub wordPiece : Keyword → ExpressionPart
 wordPiece CHAR = a-leaf (some anychar)
 wordPiece ECHO = other
 wordPiece ECHO-OFF = other
@@ -44,7 +44,7 @@ wordPiece OR = other
 wordPiece NOT = other
 wordPiece EMPTY = a-leaf none
 
-abbrev pub signPiece : Sign → Piece
+abbrev pub signPiece : Sign → ExpressionPart
 signPiece DEFINED = other
 signPiece ASSIGNED = other
 signPiece OPEN = an-open
@@ -57,7 +57,7 @@ signPiece STAR = a-star
 signPiece SEMICOLON = other
 signPiece EQUALS = other
 
-abbrev pub pieceOf : Token → Piece
+abbrev pub pieceOf : TextToken → ExpressionPart
 pieceOf (nonterminal n) = atomIf (nonterminal? n) (Atom.nonterminal n)
 pieceOf (value n) = other
 pieceOf (attribute m a) = other
@@ -70,16 +70,16 @@ pieceOf (word w) = wordPiece w
 pieceOf (sign s) = signPiece s
 
 -- what stands to the left within one pair of parentheses: the program in front, what is left of a |, and of a . behind that
-pub record Level : Type 0 where
-  pub before : Option Program
+pub record ExpressionLevel : Type 0 where
+  pub before : Option TextProgram
   pub alt-left : Option Tree
   pub cat-left : Option Tree
 
-abbrev pub level : Option Program → Option Tree → Option Tree → Level
-level f a c = record { before = f; alt-left = a; cat-left = c }
+abbrev pub expressionLevel : Option TextProgram → Option Tree → Option Tree → ExpressionLevel
+expressionLevel f a c = record { before = f; alt-left = a; cat-left = c }
 
-abbrev pub fresh : Level
-fresh = level none none none
+abbrev pub freshExpression : ExpressionLevel
+freshExpression = expressionLevel none none none
 
 abbrev pub joinedCat : Option Tree → Tree → Tree
 joinedCat none e = e
@@ -90,58 +90,58 @@ joinedAlt none e = e
 joinedAlt (some a) e = node none none (alt a e)
 
 -- the whole union, with an operand put behind what stands to the left
-abbrev pub whole : Level → Tree → Tree
-whole l e = joinedAlt (l .alt-left) (joinedCat (l .cat-left) e)
+abbrev pub wholeExpression : ExpressionLevel → Tree → Tree
+wholeExpression l e = joinedAlt (l .alt-left) (joinedCat (l .cat-left) e)
 
 -- at most one of two programs; none where there are two
-abbrev pub oneOf : Option Program → Option Program → Option (Option Program)
+abbrev pub oneOf : Option TextProgram → Option TextProgram → Option (Option TextProgram)
 oneOf none o = some o
 oneOf (some p) none = some (some p)
 oneOf (some p) (some q) = none
 
 -- a node with the program in front
-abbrev pub frontedWith : Option (Option Program) → Option Program → Form → Option Tree
+abbrev pub frontedWith : Option (Option TextProgram) → Option TextProgram → Form → Option Tree
 frontedWith none g k = none
 frontedWith (some f) g k = some (node f g k)
 
-abbrev pub fronted : Option Program → Tree → Option Tree
+abbrev pub fronted : Option TextProgram → Tree → Option Tree
 fronted b (node f g k) = frontedWith (oneOf b f) g k
 
 -- the same where a star makes room for a second program in front
-abbrev pub sealedWith : Option (Option Program) → Option Program → Option Program → Option Program → Form → Tree
+abbrev pub sealedWith : Option (Option TextProgram) → Option TextProgram → Option TextProgram → Option TextProgram → Form → Tree
 sealedWith none b f g k = node b none (star (node f g k))
 sealedWith (some o) b f g k = node o g k
 
-abbrev pub sealed : Option Program → Tree → Tree
+abbrev pub sealed : Option TextProgram → Tree → Tree
 sealed b (node f g k) = sealedWith (oneOf b f) b f g k
 
 -- the levels around, innermost first
-abbrev pub around : List Level → Tree → Tree
-around [] e = e
-around (l ∷ ls) e = around ls (sealed (l .before) (whole l e))
+abbrev pub aroundExpression : List ExpressionLevel → Tree → Tree
+aroundExpression [] e = e
+aroundExpression (l ∷ ls) e = aroundExpression ls (sealed (l .before) (wholeExpression l e))
 
 pub data Parsing : Type 0 where
-  wants : Bool → Level → List Level → Parsing  -- an operand; or, just behind a parenthesis, a program
-  in-front : Listing → List Level → Parsing  -- in the program in front
-  after : Tree → Level → List Level → Parsing  -- behind an operand
-  behind : Listing → Option Program → Form → List Level → Parsing  -- in the program behind
-  over : Tree → List Level → Parsing  -- behind the program behind: wants the parenthesis
+  wants : Bool → ExpressionLevel → List ExpressionLevel → Parsing  -- an operand; or, just behind a parenthesis, a program
+  in-front : Listing → List ExpressionLevel → Parsing  -- in the program in front
+  after : Tree → ExpressionLevel → List ExpressionLevel → Parsing  -- behind an operand
+  behind : Listing → Option TextProgram → Form → List ExpressionLevel → Parsing  -- in the program behind
+  over : Tree → List ExpressionLevel → Parsing  -- behind the program behind: wants the parenthesis
 
-abbrev pub opened : Bool → Level → List Level → Option Parsing
-opened true l ls = some (wants true fresh (l ∷ ls))
-opened false l ls = none
+abbrev pub expressionOpened : Bool → ExpressionLevel → List ExpressionLevel → Option Parsing
+expressionOpened true l ls = some (wants true freshExpression (l ∷ ls))
+expressionOpened false l ls = none
 
-abbrev pub closed : List Level → Option Tree → Option Parsing
-closed ls none = none
-closed [] (some e) = none
-closed (l ∷ ls) (some e) = some (after e l ls)
+abbrev pub expressionClosed : List ExpressionLevel → Option Tree → Option Parsing
+expressionClosed ls none = none
+expressionClosed [] (some e) = none
+expressionClosed (l ∷ ls) (some e) = some (after e l ls)
 
-abbrev pub braced : Bool → List Level → Option Parsing
+abbrev pub braced : Bool → List ExpressionLevel → Option Parsing
 braced true ls = some (in-front listStart ls)
 braced false ls = none
 
 -- a program behind, where the node has none for that visit yet
-abbrev pub backed : Option Tree → List Level → Option Parsing
+abbrev pub backed : Option Tree → List ExpressionLevel → Option Parsing
 backed none ls = none
 backed (some (node f none k)) ls = some (behind listStart f k ls)
 backed (some (node f (some g) k)) ls = none
@@ -150,12 +150,12 @@ abbrev pub leafForm : Option Atom → Form
 leafForm none = empty
 leafForm (some k) = atom k
 
-abbrev pub stepPiece : Parsing → Piece → Option Parsing
+abbrev pub stepPiece : Parsing → ExpressionPart → Option Parsing
 stepPiece (wants b l ls) (a-leaf k) = some (after (node none none (leafForm k)) l ls)
 stepPiece (wants b l ls) a-star = none
 stepPiece (wants b l ls) a-dot = none
 stepPiece (wants b l ls) a-bar = none
-stepPiece (wants b l ls) an-open = opened (ltb (length ls) parentheses) l ls
+stepPiece (wants b l ls) an-open = expressionOpened (ltb (length ls) parentheses) l ls
 stepPiece (wants b l ls) a-close = none
 stepPiece (wants b l ls) a-brace = braced b ls
 stepPiece (wants b l ls) an-unbrace = none
@@ -163,11 +163,11 @@ stepPiece (wants b l ls) other = none
 stepPiece (in-front q ls) k = none
 stepPiece (after e l ls) (a-leaf k) = none
 stepPiece (after e l ls) a-star = some (after (node none none (star e)) l ls)
-stepPiece (after e l ls) a-dot = some (wants false (level (l .before) (l .alt-left) (some (joinedCat (l .cat-left) e))) ls)
-stepPiece (after e l ls) a-bar = some (wants false (level (l .before) (some (whole l e)) none) ls)
+stepPiece (after e l ls) a-dot = some (wants false (expressionLevel (l .before) (l .alt-left) (some (joinedCat (l .cat-left) e))) ls)
+stepPiece (after e l ls) a-bar = some (wants false (expressionLevel (l .before) (some (wholeExpression l e)) none) ls)
 stepPiece (after e l ls) an-open = none
-stepPiece (after e l ls) a-close = closed ls (fronted (l .before) (whole l e))
-stepPiece (after e l ls) a-brace = backed (fronted (l .before) (whole l e)) ls
+stepPiece (after e l ls) a-close = expressionClosed ls (fronted (l .before) (wholeExpression l e))
+stepPiece (after e l ls) a-brace = backed (fronted (l .before) (wholeExpression l e)) ls
 stepPiece (after e l ls) an-unbrace = none
 stepPiece (after e l ls) other = none
 stepPiece (behind q f k ls) j = none
@@ -176,13 +176,13 @@ stepPiece (over e ls) a-star = none
 stepPiece (over e ls) a-dot = none
 stepPiece (over e ls) a-bar = none
 stepPiece (over e ls) an-open = none
-stepPiece (over e ls) a-close = closed ls (some e)
+stepPiece (over e ls) a-close = expressionClosed ls (some e)
 stepPiece (over e ls) a-brace = none
 stepPiece (over e ls) an-unbrace = none
 stepPiece (over e ls) other = none
 
 -- whether a token is }, which ends a program
-abbrev pub unbraces : {S : Type 0} → Piece → Option Program → (Program → S) → Option S
+abbrev pub unbraces : {S : Type 0} → ExpressionPart → Option TextProgram → (TextProgram → S) → Option S
 unbraces (a-leaf k) o f = none
 unbraces a-star o f = none
 unbraces a-dot o f = none
@@ -199,20 +199,20 @@ abbrev pub listing : {S : Type 0} → Option Listing → (Listing → S) → Opt
 listing none f o = o
 listing (some q) f o = some (f q)
 
-abbrev pub stepExpression : Parsing → Token → Option Parsing
+abbrev pub stepExpression : Parsing → TextToken → Option Parsing
 stepExpression (wants b l ls) t = stepPiece (wants b l ls) (pieceOf t)
 stepExpression (in-front q ls) t =
-    listing (stepStatements first q t) (λ r. in-front r ls) (unbraces (pieceOf t) (valueOfList q) (λ p. wants false (level (some p) none none) ls))
+    listing (stepStatements first q t) (λ r. in-front r ls) (unbraces (pieceOf t) (valueOfList q) (λ p. wants false (expressionLevel (some p) none none) ls))
 stepExpression (after e l ls) t = stepPiece (after e l ls) (pieceOf t)
 stepExpression (behind q f k ls) t = listing (stepStatements second q t) (λ r. behind r f k ls) (unbraces (pieceOf t) (valueOfList q) (λ p. over (node f (some p) k) ls))
 stepExpression (over e ls) t = stepPiece (over e ls) (pieceOf t)
 
-abbrev pub wholeValue : List Level → Option Tree → Option (Option Tree)
+abbrev pub wholeValue : List ExpressionLevel → Option Tree → Option (Option Tree)
 wholeValue [] none = none
 wholeValue [] (some e) = some (some e)
 wholeValue (l ∷ ls) o = none
 
-abbrev pub emptyValue : Bool → List Level → Option (Option Tree)
+abbrev pub emptyValue : Bool → List ExpressionLevel → Option (Option Tree)
 emptyValue true [] = some none
 emptyValue true (l ∷ ls) = none
 emptyValue false ls = none
@@ -220,7 +220,7 @@ emptyValue false ls = none
 abbrev pub valueOfContent : Parsing → Option (Option Tree)
 valueOfContent (wants b l ls) = emptyValue b ls
 valueOfContent (in-front q ls) = none
-valueOfContent (after e l ls) = wholeValue ls (fronted (l .before) (whole l e))
+valueOfContent (after e l ls) = wholeValue ls (fronted (l .before) (wholeExpression l e))
 valueOfContent (behind q f k ls) = none
 valueOfContent (over e ls) = wholeValue ls (some e)
 
@@ -228,17 +228,17 @@ valueOfContent (over e ls) = wholeValue ls (some e)
 abbrev pub placeholder : Tree
 placeholder = node none none (atom (Atom.nonterminal 0))
 
-abbrev pub shortestAt : Bool → Level → List Level → Option Tree
+abbrev pub shortestAt : Bool → ExpressionLevel → List ExpressionLevel → Option Tree
 shortestAt true l [] = none
-shortestAt true l (m ∷ ls) = some (around (m ∷ ls) placeholder)
-shortestAt false l ls = some (around (l ∷ ls) placeholder)
+shortestAt true l (m ∷ ls) = some (aroundExpression (m ∷ ls) placeholder)
+shortestAt false l ls = some (aroundExpression (l ∷ ls) placeholder)
 
 abbrev pub finishedContent : Parsing → Option Tree
 finishedContent (wants b l ls) = shortestAt b l ls
-finishedContent (in-front q ls) = some (around (level (some (finishedList q)) none none ∷ ls) placeholder)
-finishedContent (after e l ls) = some (around (l ∷ ls) e)
-finishedContent (behind q f k ls) = some (around ls (node f (some (finishedList q)) k))
-finishedContent (over e ls) = some (around ls e)
+finishedContent (in-front q ls) = some (aroundExpression (expressionLevel (some (finishedList q)) none none ∷ ls) placeholder)
+finishedContent (after e l ls) = some (aroundExpression (l ∷ ls) e)
+finishedContent (behind q f k ls) = some (aroundExpression ls (node f (some (finishedList q)) k))
+finishedContent (over e ls) = some (aroundExpression ls e)
 
-abbrev pub contents : Machine Token (Option Tree)
-contents = record { State = Parsing; start = wants true fresh []; step = stepExpression; value = valueOfContent; finished = finishedContent }
+abbrev pub contents : Machine TextToken (Option Tree)
+contents = record { State = Parsing; start = wants true freshExpression []; step = stepExpression; value = valueOfContent; finished = finishedContent }

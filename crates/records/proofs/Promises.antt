@@ -7,7 +7,7 @@ use native.Mathlib.Omega.{arith}
 use Rattle.notation.specs.Limits.{nodesInAll}
 use Rattle.sheet.specs.Tags.{tagRecord}
 use Rattle.packing.specs.Packed.{contentBytes, nodesSection, nodesOfRule, productionRecord, productionsSection, tagsSection}
-use Rattle.records.specs.Promises.{ByNumbers, OneMoreProduction, MoreNodes, NodesCounted, OneMoreTag}
+use Rattle.records.specs.Promises.{ByNumbers, OneMoreProduction, MoreNodes, NodesAdded, OneMoreTag}
 
 pub by-numbers : ByNumbers
 by-numbers r first d = refl
@@ -24,7 +24,7 @@ pub more-nodes : MoreNodes
 more-nodes r [] d = append-nil (contentBytes r (d .inside))
 more-nodes r (e ∷ ds) d = ap (λ m. contentBytes r (e .inside) ++ m) (more-nodes r ds d) ∙ sym (append-assoc (contentBytes r (e .inside)) (nodesSection r ds) (contentBytes r (d .inside)))
 
-pub nodes-counted : NodesCounted
+pub nodes-counted : NodesAdded
 nodes-counted [] d = omega arith
 nodes-counted (e ∷ ds) d = let h = nodes-counted ds d in omega (arith, h)
 

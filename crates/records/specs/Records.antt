@@ -5,11 +5,11 @@ use Rattle.limits.specs.Limits.{mostTags, mostProductions, mostNodes, mostProgr
 use Rattle.packing.specs.Packed.{word}
 
 -- nonterminal, tag, first node, count of nodes, 0, the fields of both programs, 0, 0
-abbrev pub productionBytes : ℕ → ℕ → ℕ → ℕ → ℕ → ℕ → List ℕ
-productionBytes nonterminal tag first nodes front back = nonterminal ∷ tag ∷ word first (nodes ∷ 0 ∷ word front (word back (0 ∷ 0 ∷ [])))
+abbrev pub recordBytes : ℕ → ℕ → ℕ → ℕ → ℕ → ℕ → List ℕ
+recordBytes nonterminal tag first nodes front back = nonterminal ∷ tag ∷ word first (nodes ∷ 0 ∷ word front (word back (0 ∷ 0 ∷ [])))
 
 -- each fits the bytes that it has there
-pub record ProductionFits (nonterminal tag first nodes front back : ℕ) : Type 0 where
+pub record FitsRecord (nonterminal tag first nodes front back : ℕ) : Type 0 where
   pub nonterminal-fits : nonterminal < 256
   pub tag-fits : tag < 256
   pub first-fits : first ≤ 0xFFFF

@@ -6,7 +6,7 @@ ghost use Rattle.limits.specs.Limits.{longestName};
 ghost use Rattle.lent.specs.Put.{PutAs};
 ghost use Rattle.sheet.specs.Tags.{tagRecord};
 ghost use Rattle.packing.specs.Packed.{trailer};
-ghost use Rattle.records.specs.Records.{productionBytes, ProductionFits, TrailerFits};
+ghost use Rattle.records.specs.Records.{recordBytes, FitsRecord, TrailerFits};
 
 // A production by its numbers.
 pub fn put_production(
@@ -20,8 +20,8 @@ pub fn put_production(
     back: usize,
 ) -> usize
     requires { ⌜ at + 12 < 2 ^ 64 ⌝ }
-    requires { ⌜ ProductionFits nonterminal tag first nodes front back ⌝ }
-    ensures { λ r. ⌜ PutAs true (now (memory .entry)) at (productionBytes nonterminal tag first nodes front back) (now (memory .exit)) r ⌝ }
+    requires { ⌜ FitsRecord nonterminal tag first nodes front back ⌝ }
+    ensures { λ r. ⌜ PutAs true (now (memory .entry)) at (recordBytes nonterminal tag first nodes front back) (now (memory .exit)) r ⌝ }
 {
     let row = [
         nonterminal as u8,

@@ -19,7 +19,7 @@ use Rattle.trees.specs.Symbol.{nextOf}
 use Rattle.sheet.specs.Sheet.{Sheet, IsSheet}
 use Rattle.ways.specs.Held.{codes, LineIs, WayIs}
 use Rattle.ways.specs.Held.{WayIn as Way}
-use Rattle.ways.specs.Answers.{EndWayIs, AtomWayIs, Told}
+use Rattle.ways.specs.Answers.{EndWayIs, AtomWayIs, WayTold}
 use Rattle.runs.specs.Lookup.{find}
 use Rattle.runs.specs.Visits.{grammar}
 use Rattle.runs.specs.Nodes.{through-nodes}
@@ -141,17 +141,17 @@ module _ {s : List ℕ} {a : Sheet} (i : IsSheet s a) {z : State} (h : Shaped z)
         sets = sym (sets-are z h o) ∙ T .2;
       }
 
-  behind : (x : Symbol) → Told x s (topOf z .production) (topOf z .place) w → {y : Event} → AsksFor x y → {b : Act} (R : EventRejects a (meaningOf z) y b) → Behind x a z w (R .row)
+  behind : (x : Symbol) → WayTold x s (topOf z .production) (topOf z .place) w → {y : Event} → AsksFor x y → {b : Act} (R : EventRejects a (meaningOf z) y b) → Behind x a z w (R .row)
   behind x W {y} A {b} R = by x W A (subst (λ (c : Control). Asked (grammar a) (a .start-nonterminal) c y (R .row)) (inside-at z h o .stands) (asked a (meaningOf z) y R))
     where
-      by : (x : Symbol) → Told x s (topOf z .production) (topOf z .place) w → {y : Event} {row : List Act} → AsksFor x y →
+      by : (x : Symbol) → WayTold x s (topOf z .production) (topOf z .place) w → {y : Event} {row : List Act} → AsksFor x y →
           Asked (grammar a) (a .start-nonterminal) (inside (openOf (topOf z)) (inside-at z h o .around)) y row → Behind x a z w row
       by (Tag t) W for-tag K = by-tag t (inside-at z h o .stands) W K
       by Character W for-character K = by-character (inside-at z h o .stands) W K
       by End W for-end K = by-end (inside-at z h o .stands) (W .0) K
 
 -- inside an element
-module _ {s : List ℕ} {z : State} (o : 0 < z .depth) (x : Symbol) (w : Way) (W : Told x s (topOf z .production) (topOf z .place) w)
+module _ {s : List ℕ} {z : State} (o : 0 < z .depth) (x : Symbol) (w : Way) (W : WayTold x s (topOf z .production) (topOf z .place) w)
     (long : length (take (w .line .length) (w .line .bytes)) ≡ w .line .length) {k : ℕ}
     (B : FirstBracketAs s (topOf z .production) (take (w .line .length) (w .line .bytes)) z k) where
   visit-told : {r : Rejecter} → k < w .line .length → BracketNamed (topOf z .production) (getD (w .line .bytes) k 0) r → EventTold s x z r
@@ -185,10 +185,10 @@ module _ {s : List ℕ} {z : State} (o : 0 < z .depth) (x : Symbol) (w : Way) (W
           by (one-rejects c e l F) = absurd (g (omega (arith, l, ap length (E .bytes), long)))
 
 -- the same where f is the innermost element
-module _ {s : List ℕ} {z : State} (o : 0 < z .depth) {f : Frame} (e : f ≡ topOf z) (x : Symbol) (w : Way) (W : Told x s (f .production) (f .place) w)
+module _ {s : List ℕ} {z : State} (o : 0 < z .depth) {f : Frame} (e : f ≡ topOf z) (x : Symbol) (w : Way) (W : WayTold x s (f .production) (f .place) w)
     (long : length (take (w .line .length) (w .line .bytes)) ≡ w .line .length) {k : ℕ} (B : FirstBracketAs s (f .production) (take (w .line .length) (w .line .bytes)) z k) where
-  told-there : Told x s (topOf z .production) (topOf z .place) w
-  told-there = subst (λ (y : Frame). Told x s (y .production) (y .place) w) e W
+  told-there : WayTold x s (topOf z .production) (topOf z .place) w
+  told-there = subst (λ (y : Frame). WayTold x s (y .production) (y .place) w) e W
 
   first-there : FirstBracketAs s (topOf z .production) (take (w .line .length) (w .line .bytes)) z k
   first-there = subst (λ (y : Frame). FirstBracketAs s (y .production) (take (w .line .length) (w .line .bytes)) z k) e B

@@ -25,7 +25,7 @@ use Rattle.state.specs.Changes.{topOf}
 use Rattle.state.specs.Meaning.{meaningOf, Shaped}
 use Rattle.state.specs.declared.State.{State}
 use Rattle.acts.specs.Acted.{Comes, BracketsAs}
-use Rattle.acts.specs.Seen.{Outcome as Acted}
+use Rattle.acts.specs.Seen.{ActedSeen}
 use Rattle.steps.proofs.Turns.{rejected-is, done-is}
 use Rattle.rejecting.specs.First.{FirstRejects, here, later}
 use Rattle.rejecting.specs.Named.{actOf}
@@ -97,7 +97,7 @@ module _ (s : List ℕ) (q : ℕ) (line : List ℕ) (z : State) where
   none-yet a y α l h o os c ns ns′ t k = (meaningOf z .store, refl)
 
   -- what the first brackets come to
-  module _ (i : ℕ) {p : Pen} {r : Acted} {d : List ℕ} (B : BracketsAs s q (take i line) z p r d) where
+  module _ (i : ℕ) {p : Pen} {r : ActedSeen} {d : List ℕ} (B : BracketsAs s q (take i line) z p r d) where
     comes : (a : Sheet) → IsSheet s a → (α : List Bracket) → line ≡ codes α → Shaped z → (o : Open) (os : List Open) → meaningOf z .control ≡ inside o os →
         (ns ns′ : List ℕ) → through-nodes deepestTree α ns ≡ some ns′ → topOf z .«open» ≡ suc (length ns) →
         Comes (acts a (bracket-acts q (take i α)) (meaningOf z .store)) (meaningOf z .control) z p r d
@@ -110,7 +110,7 @@ module _ (s : List ℕ) (q : ℕ) (line : List ℕ) (z : State) where
         let D = done-is (acts a (bracket-acts q (take i α)) (meaningOf z .store)) (meaningOf z .control) z p r d (comes a y α l h o os c ns ns′ t k) e in
         (D .0, D .1)
 
-  pub rejects-here : (i n : ℕ) {p : Pen} {r : Acted} {d : List ℕ} → n ≡ suc i → i ≤ length line → PassedTo s q line z i → BracketsAs s q (take n line) z p r d → r .ok ≡ false → FirstBracketAs s q line z i
+  pub rejects-here : (i n : ℕ) {p : Pen} {r : ActedSeen} {d : List ℕ} → n ≡ suc i → i ≤ length line → PassedTo s q line z i → BracketsAs s q (take n line) z p r d → r .ok ≡ false → FirstBracketAs s q line z i
   rejects-here i n {p} {r} {d} g few P B e =
       record {
         few = few;

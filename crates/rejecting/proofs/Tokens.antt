@@ -28,10 +28,10 @@ use Rattle.lookups.specs.Found.{orMissing, TagFound}
 use Rattle.state.specs.Meaning.{meaningOf, Shaped}
 use Rattle.state.specs.declared.State.{State}
 use Rattle.runs.specs.Spells.{stepToken}
-use Rattle.steps.specs.Seen.{Whole as Stepped}
-use Rattle.steps.specs.Stepped.{Took, AnsweredAs, tagIn, SteppedAs, TokenAs}
-use Rattle.steps.specs.Taken.{Takes, TakenAs}
-use Rattle.steps.specs.Parts.{Ready}
+use Rattle.steps.specs.Seen.{SteppedSeen}
+use Rattle.steps.specs.Stepped.{Took, StepAnswered, tagIn, SteppedAs, TokenAs}
+use Rattle.steps.specs.Taken.{TakingIs, TakenAs}
+use Rattle.steps.specs.Parts.{RunReady}
 use Rattle.steps.proofs.Tokens.{start-token, fits-on}
 use Rattle.rejecting.specs.First.{FirstRejects, EventRejects, EventsReject, in-first, in-later, TokenRejects}
 use Rattle.rejecting.specs.Named.{actOf}
@@ -86,12 +86,12 @@ silent-event a m x R =
     record { row = R .row; to = R .to; asks = R .asks; first = first-silent a (outOf m) (silent m .store) (m .store) (ap (λ (y : Standing). y .store) (behind-silent [] m)) (R .first) }
 
 -- an empty tag's two events
-module _ {s : List ℕ} (part : List ℕ) {z : State} {p : Pen} {u : Stepped} {mid : List ℕ} (from len : ℕ) {name : List ℕ} (named : name ≡ take len (drop from part)) {t : ℕ} (T : TagFound s name t)
+module _ {s : List ℕ} (part : List ℕ) {z : State} {p : Pen} {u : SteppedSeen} {mid : List ℕ} (from len : ℕ) {name : List ℕ} (named : name ≡ take len (drop from part)) {t : ℕ} (T : TagFound s name t)
     (S : SteppedAs s (starts (tagIn t)) z p u mid) where
-  began : (a : Sheet) → IsSheet s a → Shaped z → RunFits a (meaningOf z) → (y : Answer) → step a (meaningOf z) (starts (tagNamed (a .names) (take len (drop from part)))) ≡ y → AnsweredAs y z p u mid
-  began a i h f y e = by y (subst (λ (k : Answer). AnsweredAs (answered (onward (meaningOf z) (starts (tagNamed (a .names) (take len (drop from part))) ∷ []) k (λ m. finished m))) z p u mid) e ((start-token {part = part} {from = from} {len = len} named T S) .right a i h f))
+  began : (a : Sheet) → IsSheet s a → Shaped z → RunFits a (meaningOf z) → (y : Answer) → step a (meaningOf z) (starts (tagNamed (a .names) (take len (drop from part)))) ≡ y → StepAnswered y z p u mid
+  began a i h f y e = by y (subst (λ (k : Answer). StepAnswered (answered (onward (meaningOf z) (starts (tagNamed (a .names) (take len (drop from part))) ∷ []) k (λ m. finished m))) z p u mid) e ((start-token {part = part} {from = from} {len = len} named T S) .right a i h f))
     where
-      by : (y : Answer) → AnsweredAs (answered (onward (meaningOf z) (starts (tagNamed (a .names) (take len (drop from part))) ∷ []) y (λ m. finished m))) z p u mid → AnsweredAs y z p u mid
+      by : (y : Answer) → StepAnswered (answered (onward (meaningOf z) (starts (tagNamed (a .names) (take len (drop from part))) ∷ []) y (λ m. finished m))) z p u mid → StepAnswered y z p u mid
       by (took m) A = A
       by (refused n) A = A
 
@@ -117,15 +117,15 @@ module _ {s : List ℕ} (part : List ℕ) {z : State} {p : Pen} {u : Stepped} {m
             (subst (λ (y : Standing). EventRejects a y (ends o) b) (sym (began a i h f (took m) e .means)) (silent-event a m (ends o) (alone K)))
 
 -- with the number that the token was answered with
-module _ {s part : List ℕ} {e : Read} {z : State} {lent : List ℕ} {at : ℕ} {r : Stepped} {d : List ℕ} (y : Ready s z) (K : TakenAs s part e z lent at r d) where
-  took-as : (a : Sheet) → IsSheet s a → Takes (oneToken a (meaningOf z) (length lent - at) (tokenOf a part e)) z lent at r d
+module _ {s part : List ℕ} {e : Read} {z : State} {lent : List ℕ} {at : ℕ} {r : SteppedSeen} {d : List ℕ} (y : RunReady s z) (K : TakenAs s part e z lent at r d) where
+  took-as : (a : Sheet) → IsSheet s a → TakingIs (oneToken a (meaningOf z) (length lent - at) (tokenOf a part e)) z lent at r d
   took-as a i = K .right a i (y .shaped) (subst (λ (x : Sheet). RunFits x (meaningOf z)) (one-sheet (y .is-sheet) i) (y .fits))
 
   pub not-rejected : {q : Rejecter} → (r .number ≡ 25 → ⊥) → q ≡ Nobody → AnswersFor s part e z q
   not-rejected n k = nobody (λ a i b X. n (by a i (rejects-exactly a (meaningOf z) (tokenOf a part e) .1 (b, X)))) k
     where
       by : (a : Sheet) → IsSheet s a → stepToken a (meaningOf z) (tokenOf a part e) ≡ refused 25 → r .number ≡ 25
-      by a i h = subst (λ (x : Answer). Takes (within (length lent - at) x) z lent at r d) h (took-as a i) .number
+      by a i h = subst (λ (x : Answer). TakingIs (within (length lent - at) x) z lent at r d) h (took-as a i) .number
 
   pub is-rejected : {q : Rejecter} → r .number ≡ 25 → TokenTold s part e z q → AnswersFor s part e z q
   is-rejected n T =
@@ -133,11 +133,11 @@ module _ {s part : List ℕ} {e : Read} {z : State} {lent : List ℕ} {at : ℕ}
       let B = rejects-exactly a (meaningOf z) (tokenOf a part e) .0 (by (stepToken a (meaningOf z) (tokenOf a part e)) (took-as a (y .is-sheet))) in
       names a (y .is-sheet) (B .0) (B .1) (T .right a (y .is-sheet) (y .shaped) (y .fits) (B .0) (B .1))
     where
-      by-tests : (m : Standing) (c f : Bool) → Takes (limited m c f) z lent at r d → _≡_ {A = Answer} (took m) (refused 25)
+      by-tests : (m : Standing) (c f : Bool) → TakingIs (limited m c f) z lent at r d → _≡_ {A = Answer} (took m) (refused 25)
       by-tests m false f X = absurd (omega (arith, X .number, n))
       by-tests m true false X = absurd (omega (arith, X .number, n))
       by-tests m true true X = absurd (omega (arith, X .number, n))
 
-      by : (x : Answer) → Takes (within (length lent - at) x) z lent at r d → x ≡ refused 25
+      by : (x : Answer) → TakingIs (within (length lent - at) x) z lent at r d → x ≡ refused 25
       by (took m) X = by-tests m (leb (m .store .env .count) mostVisits) (leb (length (outputOf m)) (length lent - at)) X
       by (refused k) X = ap refused (sym (X .number) ∙ n)

@@ -8,7 +8,7 @@ use native.Mathlib.Omega.{arith}
 use lib.ListN.{length}
 use Rattle.layout.specs.Layout.{tagCount, productionCount}
 use Rattle.sheet.specs.Tags.{TagAt}
-use Rattle.sheet.specs.Sheet.{Rule as SheetRule, Sheet, From, RuleAt}
+use Rattle.sheet.specs.Sheet.{Rule, Sheet, From, RuleAt}
 use Rattle.sheet.proofs.SheetLaws.{from-counted}
 use Rattle.runs.specs.Execute.{nameOf}
 use Rattle.runs.specs.Visits.{grammar}
@@ -65,7 +65,7 @@ module _ (s : List ℕ) (a : Sheet) (p : Packs s a) where
   names-differ t u l k e =
       p .tags .different t u (nameOf (a .names) t) (omega (arith, counted, l)) (omega (arith, counted, k)) (tag-is t l) (subst (TagAt s u) (sym e) (tag-is u k))
 
-  tags-from : (i : ℕ) (xs : List SheetRule) → From (RuleAt s (p .programs .programs)) i (productionCount s) xs → TagsThere (length (a .names)) xs
+  tags-from : (i : ℕ) (xs : List Rule) → From (RuleAt s (p .programs .programs)) i (productionCount s) xs → TagsThere (length (a .names)) xs
   tags-from i [] f = tt
   tags-from i (x ∷ xs) f =
       let l : i < productionCount s = omega (arith, from-counted (RuleAt s (p .programs .programs)) (suc i) (productionCount s) xs (f .1)) in

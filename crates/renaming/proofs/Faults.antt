@@ -13,7 +13,7 @@ use Rattle.expressions.specs.Words.{Sym, Bracket}
 use Rattle.expressions.specs.Grammar.{Production, Nth, tagsOf, onlyIf, Next, tag, character, end, byteOf, memb, canBe}
 use Rattle.expressions.specs.Fault.{Leads, GoesOn, Fault}
 use Rattle.expressions.specs.FaultList.{Has, TFault, SFault, KeepsT, KeepsS, FaultNumber, passes, t-fault, s-faults}
-use Rattle.sheet.specs.Sheet.{Rule as SheetRule, Sheet, grammarOf}
+use Rattle.sheet.specs.Sheet.{Rule, Sheet, grammarOf}
 use Rattle.runs.specs.Execute.{nameOf}
 use Rattle.runs.specs.Lookup.{tagOf}
 use Rattle.runs.specs.Visits.{grammar}
@@ -21,7 +21,7 @@ use Rattle.runs.specs.Machine.{same-tag}
 use Rattle.calls.specs.Names.{tagNamed}
 use Rattle.packing.specs.Packs.{Packs}
 use Rattle.naming.specs.ByName.{SameByName}
-use Rattle.renaming.specs.SameFaults.{EntryAlike, shared-tag, before-tag, before-character, before-end, FaultsToo, SameFaults, SameNumber}
+use Rattle.renaming.specs.SameFaults.{EntryAlike, shared-tag, before-tag, before-character, before-end, FaultsToo, SameFaults, SameFaultNumber}
 use Rattle.renaming.proofs.Programs.{tag-same}
 use Rattle.renaming.proofs.Tags.{NamesDiffer, named-hit, Alike, TagsThere, names-alike, can-alike}
 use Rattle.renaming.proofs.Ways.{can-character}
@@ -32,7 +32,7 @@ same-some : (o : Option ℕ) (t : ℕ) → same-tag o t ≡ true → o ≡ some 
 same-some none t h = absurd (let z : _≡_ {A = ℕ} 0 1 = cc in omega arith)
 same-some (some v) t h = ap some (eqb-true v t h)
 
-tag-below : (n : ℕ) (xs : List SheetRule) → TagsThere n xs → (q : ℕ) → q < length (grammarOf xs) → tagOf (grammarOf xs) q < n
+tag-below : (n : ℕ) (xs : List Rule) → TagsThere n xs → (q : ℕ) → q < length (grammarOf xs) → tagOf (grammarOf xs) q < n
 tag-below n [] h q l = absurd (omega arith)
 tag-below n (x ∷ xs) h zero l = h .0
 tag-below n (x ∷ xs) h (suc q) l = tag-below n xs (h .1) q (omega arith)
@@ -222,7 +222,7 @@ number-too a b f g n (passes t u) = passes (λ c x. let y = g .of-T c x in t (y 
 number-too a b f g n (t-fault {b = c} x) = let y = f .of-T c x in t-fault {b = y .0} (y .2)
 number-too a b f g n (s-faults {b = c} t x) = let y = f .of-S c x in s-faults {b = y .0} (λ d z. let w = g .of-T d z in t (w .0) (w .2)) (y .2)
 
-pub same-number : SameNumber
+pub same-number : SameFaultNumber
 same-number s s′ a b p q m n =
     let f = same-faults s s′ a b p q m in
     let g = same-faults s′ s b a q p (turned-round a b m) in

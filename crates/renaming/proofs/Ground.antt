@@ -6,15 +6,15 @@ use Prim.Native.Nat.{ℕ, zero, suc, _+_, _≤_, _<_}
 use native.Mathlib.Omega.{arith}
 use native.Mathlib.Decide.{ℕ-discrete, decLt}
 use Rattle.expressions.specs.Expr.{Atom, nonterminal, anychar, Exp, atom, cat, alt, star, empty, nodes, Content, nothing, tree, nodesOf}
-use Rattle.programs.specs.Program.{Program as SheetProgram}
+use Rattle.programs.specs.Program.{Program}
 use Rattle.layout.specs.Layout.{productionCount, nodeCount, start}
 use Rattle.layout.specs.Records.{nonterminalOf, firstNodeOf, nodeCountOf, nodesBefore, kindOf, argumentOf}
 use Rattle.trees.specs.Trees.{TreeAt, ContentAt}
 use Rattle.sheet.specs.Grounded.{Produced, Grounded}
 use Rattle.sheet.specs.Defect.{WellFormed, DefectIs, well-formed, its-size, its-sections, a-tag, a-production, a-tree, a-program, not-grounded}
-use Rattle.sheet.specs.Sheet.{Rule as SheetRule, Sheet, From, RuleAt}
+use Rattle.sheet.specs.Sheet.{Rule, Sheet, From, RuleAt}
 use Rattle.sheet.proofs.SheetLaws.{from-counted}
-use Rattle.notation.specs.Rules.{Rule}
+use Rattle.notation.specs.Rules.{TextRule}
 use Rattle.packing.specs.Packs.{Packs}
 use Rattle.naming.specs.ByName.{EachByName, SameByName}
 use Rattle.naming.proofs.Typing.{same-length}
@@ -59,7 +59,7 @@ module _ (s s′ : List ℕ) where
     second-is : ContentAt s′ q content
     nonterm-same : nonterminalOf s q ≡ nonterminalOf s′ q
 
-  both : (a b : Sheet) (ps qs : List SheetProgram) (k m i : ℕ) (xs ys : List SheetRule) (ds : List Rule) → From (RuleAt s ps) i k xs → From (RuleAt s′ qs) i m ys → EachByName a xs ds → EachByName b ys ds
+  both : (a b : Sheet) (ps qs : List Program) (k m i : ℕ) (xs ys : List Rule) (ds : List TextRule) → From (RuleAt s ps) i k xs → From (RuleAt s′ qs) i m ys → EachByName a xs ds → EachByName b ys ds
       → (q : ℕ) → i ≤ q → q < k → Both q
   both a b ps qs k m i [] ys ds f g h n q lo hi = absurd (omega (arith, f))
   both a b ps qs k m i (x ∷ xs) ys [] f g h n q lo hi = absurd h

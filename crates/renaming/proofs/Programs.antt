@@ -6,9 +6,9 @@ use mathlib.Core.Option.{Option, none, some}
 use Prim.Native.Nat.{ℕ, zero, suc, _<_}
 use native.Mathlib.Omega.{arith}
 use lib.ListN.{length, getD, set, take, drop}
-use Rattle.programs.specs.Program.{Statement as SheetStatement, Program as SheetProgram}
-use Rattle.sheet.specs.Fields.{Visits as SheetVisits}
-use Rattle.sheet.specs.Sheet.{Rule as SheetRule, Sheet, grammarOf}
+use Rattle.programs.specs.Program.{Statement, Program}
+use Rattle.sheet.specs.Fields.{Visits}
+use Rattle.sheet.specs.Sheet.{Rule, Sheet, grammarOf}
 use Rattle.output.specs.Escape.{start, end, characters}
 use Rattle.runs.specs.Options.{bind}
 use Rattle.runs.specs.Characters.{charactersOf}
@@ -16,8 +16,8 @@ use Rattle.runs.specs.Execute.{Effect, nameOf, holds, chosen, after-print, exec
 use Rattle.runs.specs.Lookup.{tagOf}
 use Rattle.runs.specs.Visits.{grammar, ofNode, ofRule, programsOf, tagName, Env, Saved, performed, visited, visit, opens, closes, enters, leaves, revisits}
 use Rattle.runs.specs.Acts.{Act, node-first, node-second, start-tag, end-tag, letter-read, Store, act, acts}
-use Rattle.notation.specs.Program.{Statement, become, copy, recall, reject, print-start, print-end, print-text, echo, branch, Program, done, step}
-use Rattle.notation.specs.Rules.{Visits, visitsIn, Rule}
+use Rattle.notation.specs.Program.{TextStatement, become, copy, recall, reject, print-start, print-end, print-text, echo, branch, TextProgram, done, step}
+use Rattle.notation.specs.Rules.{TextVisits, visitsInside, TextRule}
 use Rattle.naming.specs.ByName.{statementNamed, programNamed, optionNamed, visitsNamed, eachNamed, RuleByName, EachByName, ByName, SameByName}
 
 pub bind-same : {A B : Type 0} (o u : Option A) (f g : A → Option B) → o ≡ u → ((x : A) → f x ≡ g x) → bind o f ≡ bind u g
@@ -28,7 +28,7 @@ bind-same (some x) (some y) f g e h = let i : x ≡ y = cc in h x ∙ ap g i
 
 -- what a program does, by name
 abbrev mutual
-  doneOne : List ℕ → Statement → List ℕ → Bool → Option Effect
+  doneOne : List ℕ → TextStatement → List ℕ → Bool → Option Effect
   doneOne k (become a v) vs on = some (record { values = set vs a v; echo = on; printed = [] })
   doneOne k (copy a b) vs on = some (record { values = set vs a (getD vs b 0); echo = on; printed = [] })
   doneOne k (recall a b) vs on = some (record { values = set vs a (getD k b 0); echo = on; printed = [] })
@@ -39,54 +39,54 @@ abbrev mutual
   doneOne k (echo b) vs on = some (record { values = vs; echo = b; printed = [] })
   doneOne k (branch c l m) vs on = chosen (holds k c vs) (doneAll k l vs on) (doneAll k m vs on)
 
-  doneAll : List ℕ → Program → List ℕ → Bool → Option Effect
+  doneAll : List ℕ → TextProgram → List ℕ → Bool → Option Effect
   doneAll k done vs on = some (record { values = vs; echo = on; printed = [] })
   doneAll k (step t p) vs on = bind (doneOne k t vs on) (λ x. after-print (x .printed) (doneAll k p (x .values) (x .echo)))
 
 module _ (a : Sheet) (k : List ℕ) where
   mutual
-    one-named : (t : SheetStatement) (vs : List ℕ) (on : Bool) → executeOne a k t vs on ≡ doneOne k (statementNamed a t) vs on
-    one-named (SheetStatement.become x v) vs on = refl
-    one-named (SheetStatement.copy x y) vs on = refl
-    one-named (SheetStatement.recall x y) vs on = refl
-    one-named SheetStatement.reject vs on = refl
-    one-named (SheetStatement.print-start t) vs on = refl
-    one-named (SheetStatement.print-end t) vs on = refl
-    one-named (SheetStatement.print-text o n) vs on = refl
-    one-named (SheetStatement.echo b) vs on = refl
-    one-named (SheetStatement.branch c l m) vs on = rw (all-named l vs on, all-named m vs on) refl
+    one-named : (t : Statement) (vs : List ℕ) (on : Bool) → executeOne a k t vs on ≡ doneOne k (statementNamed a t) vs on
+    one-named (Statement.become x v) vs on = refl
+    one-named (Statement.copy x y) vs on = refl
+    one-named (Statement.recall x y) vs on = refl
+    one-named Statement.reject vs on = refl
+    one-named (Statement.print-start t) vs on = refl
+    one-named (Statement.print-end t) vs on = refl
+    one-named (Statement.print-text o n) vs on = refl
+    one-named (Statement.echo b) vs on = refl
+    one-named (Statement.branch c l m) vs on = rw (all-named l vs on, all-named m vs on) refl
 
-    all-named : (p : SheetProgram) (vs : List ℕ) (on : Bool) → execute a k p vs on ≡ doneAll k (programNamed a p) vs on
-    all-named SheetProgram.done vs on = refl
-    all-named (SheetProgram.step t p) vs on =
+    all-named : (p : Program) (vs : List ℕ) (on : Bool) → execute a k p vs on ≡ doneAll k (programNamed a p) vs on
+    all-named Program.done vs on = refl
+    all-named (Program.step t p) vs on =
         bind-same (executeOne a k t vs on) (doneOne k (statementNamed a t) vs on) (λ x. after-print (x .printed) (execute a k p (x .values) (x .echo))) (λ x. after-print (x .printed) (doneAll k (programNamed a p) (x .values) (x .echo)))
         (one-named t vs on) (λ x. ap (after-print (x .printed)) (all-named p (x .values) (x .echo)))
 
-abbrev doneIf : List ℕ → Option Program → List ℕ → Bool → Option Effect
+abbrev doneIf : List ℕ → Option TextProgram → List ℕ → Bool → Option Effect
 doneIf k none vs on = some (record { values = vs; echo = on; printed = [] })
 doneIf k (some p) vs on = doneAll k p vs on
 
-performed-named : (a : Sheet) (k : List ℕ) (o : Option SheetProgram) (vs : List ℕ) (on : Bool) → performed a k o vs on ≡ doneIf k (optionNamed a o) vs on
+performed-named : (a : Sheet) (k : List ℕ) (o : Option Program) (vs : List ℕ) (on : Bool) → performed a k o vs on ≡ doneIf k (optionNamed a o) vs on
 performed-named a k none vs on = refl
 performed-named a k (some p) vs on = all-named a k p vs on
 
-visit-same : (a b : Sheet) (k : List ℕ) (o u : Option SheetProgram) (v : Env) → optionNamed a o ≡ optionNamed b u → visit a k o v ≡ visit b k u v
+visit-same : (a b : Sheet) (k : List ℕ) (o u : Option Program) (v : Env) → optionNamed a o ≡ optionNamed b u → visit a k o v ≡ visit b k u v
 visit-same a b k o u v e =
     ap (λ x. bind x (λ y. some (visited v y))) (performed-named a k o (v .values) (v .echo) ∙ ap (λ z. doneIf k z (v .values) (v .echo)) e ∙ sym (performed-named b k u (v .values) (v .echo)))
 
 -- the programs of a node or a production
-nodes-same : (a b : Sheet) (vs ws : List SheetVisits) → eachNamed a vs ≡ eachNamed b ws → (i : ℕ) → visitsNamed a (ofNode vs i) ≡ visitsNamed b (ofNode ws i)
+nodes-same : (a b : Sheet) (vs ws : List Visits) → eachNamed a vs ≡ eachNamed b ws → (i : ℕ) → visitsNamed a (ofNode vs i) ≡ visitsNamed b (ofNode ws i)
 nodes-same a b [] [] e i = refl
 nodes-same a b [] (w ∷ ws) e i = absurd (let z : _≡_ {A = ℕ} 0 1 = cc in omega arith)
 nodes-same a b (v ∷ vs) [] e i = absurd (let z : _≡_ {A = ℕ} 0 1 = cc in omega arith)
 nodes-same a b (v ∷ vs) (w ∷ ws) e zero = head-eq-of-cons-eq e
 nodes-same a b (v ∷ vs) (w ∷ ws) e (suc i) = nodes-same a b vs ws (tail-eq-of-cons-eq e) i
 
-rule-same : (a b : Sheet) (x y : SheetRule) (d : Rule) → RuleByName a x d → RuleByName b y d → (i : ℕ) → visitsNamed a (ofRule x i) ≡ visitsNamed b (ofRule y i)
+rule-same : (a b : Sheet) (x y : Rule) (d : TextRule) → RuleByName a x d → RuleByName b y d → (i : ℕ) → visitsNamed a (ofRule x i) ≡ visitsNamed b (ofRule y i)
 rule-same a b x y d h k zero = sym (h .own-are) ∙ k .own-are
 rule-same a b x y d h k (suc i) = nodes-same a b (x .of-nodes) (y .of-nodes) (sym (h .of-nodes-are) ∙ k .of-nodes-are) i
 
-programs-same : (a b : Sheet) (xs ys : List SheetRule) (ds : List Rule) → EachByName a xs ds → EachByName b ys ds → (q i : ℕ) → visitsNamed a (programsOf xs q i) ≡ visitsNamed b (programsOf ys q i)
+programs-same : (a b : Sheet) (xs ys : List Rule) (ds : List TextRule) → EachByName a xs ds → EachByName b ys ds → (q i : ℕ) → visitsNamed a (programsOf xs q i) ≡ visitsNamed b (programsOf ys q i)
 programs-same a b [] [] [] h k q i = refl
 programs-same a b [] (y ∷ ys) [] h k q i = absurd k
 programs-same a b (x ∷ xs) ys [] h k q i = absurd h
@@ -95,7 +95,7 @@ programs-same a b (x ∷ xs) [] (d ∷ ds) h k q i = absurd k
 programs-same a b (x ∷ xs) (y ∷ ys) (d ∷ ds) h k zero i = rule-same a b x y d (h .0) (k .0) i
 programs-same a b (x ∷ xs) (y ∷ ys) (d ∷ ds) h k (suc q) i = programs-same a b xs ys ds (h .1) (k .1) q i
 
-names-same : (a b : Sheet) (xs ys : List SheetRule) (ds : List Rule) → EachByName a xs ds → EachByName b ys ds → (q : ℕ) → q < length xs
+names-same : (a b : Sheet) (xs ys : List Rule) (ds : List TextRule) → EachByName a xs ds → EachByName b ys ds → (q : ℕ) → q < length xs
     → nameOf (a .names) (tagOf (grammarOf xs) q) ≡ nameOf (b .names) (tagOf (grammarOf ys) q)
 names-same a b [] ys ds h k q l = absurd (omega arith)
 names-same a b (x ∷ xs) ys [] h k q l = absurd h

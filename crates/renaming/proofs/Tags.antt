@@ -10,14 +10,14 @@ use lib.ListN.{length}
 use borrow.Author.Tests.{eqb-true, eq-eqb}
 use Rattle.expressions.specs.Expr.{Atom, nonterminal, anychar, Content}
 use Rattle.expressions.specs.Grammar.{Production, contentOf, tagsOf, onlyIf, Next, tag, character, end, memb, canBe}
-use Rattle.sheet.specs.Sheet.{Rule as SheetRule, Sheet, grammarOf}
+use Rattle.sheet.specs.Sheet.{Rule, Sheet, grammarOf}
 use Rattle.runs.specs.Options.{bind}
 use Rattle.runs.specs.Execute.{nameOf}
 use Rattle.runs.specs.Lookup.{tagOf, orLater, find}
 use Rattle.runs.specs.Machine.{same-tag}
 use Rattle.calls.specs.Names.{tagNamed}
 use Rattle.calls.proofs.Names.{named-is, none-named}
-use Rattle.notation.specs.Rules.{Rule}
+use Rattle.notation.specs.Rules.{TextRule}
 use Rattle.naming.specs.ByName.{RuleByName, EachByName}
 
 -- no two tags have one name
@@ -50,11 +50,11 @@ Alike x y [] (e ∷ h) = ⊥
 Alike x y (d ∷ g) [] = ⊥
 Alike x y (d ∷ g) (e ∷ h) = (d .nonterm ≡ e .nonterm) × (d .content ≡ e .content) × (same-tag x (d .tagno) ≡ same-tag y (e .tagno)) × Alike x y g h
 
-abbrev pub TagsThere : ℕ → List SheetRule → Type 0
+abbrev pub TagsThere : ℕ → List Rule → Type 0
 TagsThere n [] = Unit {0}
 TagsThere n (r ∷ rs) = (r .production .tagno < n) × TagsThere n rs
 
-pub names-alike : (a b : Sheet) → NamesDiffer (a .names) → NamesDiffer (b .names) → (n : List ℕ) (xs ys : List SheetRule) (ds : List Rule)
+pub names-alike : (a b : Sheet) → NamesDiffer (a .names) → NamesDiffer (b .names) → (n : List ℕ) (xs ys : List Rule) (ds : List TextRule)
     → TagsThere (length (a .names)) xs → TagsThere (length (b .names)) ys → EachByName a xs ds → EachByName b ys ds → Alike (tagNamed (a .names) n) (tagNamed (b .names) n) (grammarOf xs) (grammarOf ys)
 names-alike a b p q n [] [] [] t u h k = tt
 names-alike a b p q n [] (y ∷ ys) [] t u h k = absurd k

@@ -27,5 +27,5 @@ pub record FaultsToo (a b : Sheet) : Type 0 where
 abbrev pub SameFaults : Type 0
 SameFaults = (s s′ : List ℕ) (a b : Sheet) → Packs s a → Packs s′ b → SameByName a b → FaultsToo a b
 
-abbrev pub SameNumber : Type 0
-SameNumber = (s s′ : List ℕ) (a b : Sheet) → Packs s a → Packs s′ b → SameByName a b → (n : ℕ) → FaultNumber (grammar a) n ↔ FaultNumber (grammar b) n
+abbrev pub SameFaultNumber : Type 0
+SameFaultNumber = (s s′ : List ℕ) (a b : Sheet) → Packs s a → Packs s′ b → SameByName a b → (n : ℕ) → FaultNumber (grammar a) n ↔ FaultNumber (grammar b) n

@@ -41,7 +41,7 @@ use Rattle.salvaging.specs.declared.Resumed.{Resumed}
 use Rattle.salvaging.specs.declared.Resumed.the-variants.{Here, Waits, Nowhere}
 use Rattle.salvaging.specs.Resumed.{ApartUpTo, ResumedIs}
 use Rattle.rescue.specs.Held.{Mode, between, inside, skipping, readsTokens, controlOf, waitingIn, Rescued}
-use Rattle.rescue.specs.Step.{Setting, Step, on, stop, stay, lastByte, pastFirst, drops, closes, breaks, whole, recordToken, otherToken, tokenStep, numberStep, ranOut, skipStep, skipTo, reported, StepIs, at-token, at-none, at-bytes}
+use Rattle.rescue.specs.Step.{Setting, Step, on, stop, stay, lastByte, pastFirst, dropsAt, closesAt, breaksAt, wholeAt, recordToken, otherToken, tokenStep, numberStep, ranOut, skipStep, skipTo, reported, StepIs, at-token, at-none, at-bytes}
 use Rattle.rescue.specs.Call.{Rescues, goes, halts, setting}
 use Rattle.rescue.specs.Parts.{CutIn, SameStretch, same-stretch, cut-stretch, SameReport, no-more, and-then, SameMode, same-mode, cut-mode, SameNumber, same-number, cut-off, Began}
 use Rattle.rescue.proofs.Resumed.{one-resumed, stay-apart, still-here, from-later}
@@ -176,22 +176,22 @@ module _ (a : Sheet) (x : RecordTags) (s later : List ℕ) (b more : Bool) (told
 
   -- a record that stops with a number that closes, or drops it
   module _ (at room spare : ℕ) (m : Mode) (z : Configuration) (f n : ℕ) where
-    stopped-with : leavesOpen n ≡ false → pastFirst part-call f at ≤ length s → closes part-call at m z f n ≡ closes whole-call at m z f n →
-        ((t : Step) → breaks whole-call at m z f n ≡ t → WholeStep at room spare m m (reported (spare + entries) at m t)) → Before at room spare m m at (breaks part-call at m z f n)
+    stopped-with : leavesOpen n ≡ false → pastFirst part-call f at ≤ length s → closesAt part-call at m z f n ≡ closesAt whole-call at m z f n →
+        ((t : Step) → breaksAt whole-call at m z f n ≡ t → WholeStep at room spare m m (reported (spare + entries) at m t)) → Before at room spare m m at (breaksAt part-call at m z f n)
     stopped-with o l q up =
-        subst (λ (c : Bool). Before at room spare m m at (cond c (stay n at m) (cond (damaged n) (drops part-call at m z f n) (closes part-call at m z f n)))) (sym o) (by (damaged n) refl)
+        subst (λ (c : Bool). Before at room spare m m at (cond c (stay n at m) (cond (damaged n) (dropsAt part-call at m z f n) (closesAt part-call at m z f n)))) (sym o) (by (damaged n) refl)
       where
-        here : breaks whole-call at m z f n ≡ cond (damaged n) (drops whole-call at m z f n) (closes whole-call at m z f n)
-        here = ap (λ (c : Bool). cond c (stay n at m) (cond (damaged n) (drops whole-call at m z f n) (closes whole-call at m z f n))) o
+        here : breaksAt whole-call at m z f n ≡ cond (damaged n) (dropsAt whole-call at m z f n) (closesAt whole-call at m z f n)
+        here = ap (λ (c : Bool). cond c (stay n at m) (cond (damaged n) (dropsAt whole-call at m z f n) (closesAt whole-call at m z f n))) o
 
-        by : (d : Bool) → damaged n ≡ d → Before at room spare m m at (cond d (drops part-call at m z f n) (closes part-call at m z f n))
+        by : (d : Bool) → damaged n ≡ d → Before at room spare m m at (cond d (dropsAt part-call at m z f n) (closesAt part-call at m z f n))
         by true e =
             goes-alike {w = []} (skipping z f n) [] l (omega arith) tt (same-mode (skipping z f n)) no-more
-            (up (drops whole-call at m z f n) (here ∙ ap (λ (c : Bool). cond c (drops whole-call at m z f n) (closes whole-call at m z f n)) e))
+            (up (dropsAt whole-call at m z f n) (here ∙ ap (λ (c : Bool). cond c (dropsAt whole-call at m z f n) (closesAt whole-call at m z f n)) e))
         by false e =
             subst (Before at room spare m m at) (sym q)
             (stops-alike n (between z) _ o (same-number n (closingOf (leavesOpen n) n)) (same-mode (between z)) (same-report (s ++ later) base _)
-            (up (closes whole-call at m z f n) (here ∙ ap (λ (c : Bool). cond c (drops whole-call at m z f n) (closes whole-call at m z f n)) e)))
+            (up (closesAt whole-call at m z f n) (here ∙ ap (λ (c : Bool). cond c (dropsAt whole-call at m z f n) (closesAt whole-call at m z f n)) e)))
 
   -- a token
   module _ (at room spare next : ℕ) (k : RunToken) (l : at < next) (i : next ≤ length s) (m : Mode)
@@ -201,7 +201,7 @@ module _ (a : Sheet) (x : RecordTags) (s later : List ℕ) (b more : Bool) (told
     of-record z y f v (taken y′ w) g t e = by (rootOnly (y′ .control)) refl
       where
         by : (c : Bool) → rootOnly (y′ .control) ≡ c →
-            Before at room spare m m at (cond c (whole at room m next y′ (v ++ w)) (on next (inside z y′ f (v ++ w)) [] [] (length (v ++ w))))
+            Before at room spare m m at (cond c (wholeAt at room m next y′ (v ++ w)) (on next (inside z y′ f (v ++ w)) [] [] (length (v ++ w))))
         by true h = fits (leb (length (v ++ w)) room) refl
           where
             fits : (c : Bool) → leb (length (v ++ w)) room ≡ c →
@@ -210,16 +210,16 @@ module _ (a : Sheet) (x : RecordTags) (s later : List ℕ) (b more : Bool) (told
                 let j = leb-true (length (v ++ w)) room o in
                 goes-alike (between y′) [] i j tt (same-mode (between y′)) no-more
                 (up (on next (between y′) (v ++ w) [] (length (v ++ w)))
-                (e ∙ ap (λ (c : Bool). cond c (whole at (room + extra) m next y′ (v ++ w)) (on next (inside z y′ f (v ++ w)) [] [] (length (v ++ w)))) h
+                (e ∙ ap (λ (c : Bool). cond c (wholeAt at (room + extra) m next y′ (v ++ w)) (on next (inside z y′ f (v ++ w)) [] [] (length (v ++ w)))) h
                 ∙ ap (λ (c : Bool). cond c (on next (between y′) (v ++ w) [] (length (v ++ w))) (stop 17 at m [] (length (v ++ w)))) (le-leb (length (v ++ w)) (room + extra) (omega (arith, j)))))
             fits false o =
                 stays-open {to = at} refl (omega (arith, l, i)) (same-mode m) (λ r d. d) (λ r d.
-                whole-waited whole-call next y′ (v ++ w) (up (whole at (room + extra) m next y′ (v ++ w))
-                (e ∙ ap (λ (c : Bool). cond c (whole at (room + extra) m next y′ (v ++ w)) (on next (inside z y′ f (v ++ w)) [] [] (length (v ++ w)))) h)) d)
+                whole-waited whole-call next y′ (v ++ w) (up (wholeAt at (room + extra) m next y′ (v ++ w))
+                (e ∙ ap (λ (c : Bool). cond c (wholeAt at (room + extra) m next y′ (v ++ w)) (on next (inside z y′ f (v ++ w)) [] [] (length (v ++ w)))) h)) d)
         by false h =
             goes-alike {w = []} (inside z y′ f (v ++ w)) [] i (omega arith) g (same-mode (inside z y′ f (v ++ w))) no-more
             (up (on next (inside z y′ f (v ++ w)) [] [] (length (v ++ w)))
-            (e ∙ ap (λ (c : Bool). cond c (whole at (room + extra) m next y′ (v ++ w)) (on next (inside z y′ f (v ++ w)) [] [] (length (v ++ w)))) h))
+            (e ∙ ap (λ (c : Bool). cond c (wholeAt at (room + extra) m next y′ (v ++ w)) (on next (inside z y′ f (v ++ w)) [] [] (length (v ++ w)))) h))
     of-record z y f v (refuses n) g t e =
         let o = refuses-known a y (roomLeft area v) k n t in
         stopped-with at room spare m z f n (o .0) (past (ltb f (base + at)))
@@ -266,7 +266,7 @@ module _ (a : Sheet) (x : RecordTags) (s later : List ℕ) (b more : Bool) (told
   past-began at f l g = subst (λ (c : Bool). cond c at (suc at) ≤ length s) (sym (lt-ltb f (base + at) g)) l
 
   -- no whole token comes next
-  same-closing : (at : ℕ) (m : Mode) (z : Configuration) (f n : ℕ) → s ++ later ≡ s → closes part-call at m z f n ≡ closes whole-call at m z f n
+  same-closing : (at : ℕ) (m : Mode) (z : Configuration) (f n : ℕ) → s ++ later ≡ s → closesAt part-call at m z f n ≡ closesAt whole-call at m z f n
   same-closing at m z f n e =
       ap (λ (j : List ℕ). stop n at (between z) (cond (eqb n 27) (lost f (base + length j - 1) n ∷ []) (onlyIf (ltb f (base + at)) (lost f (base + at - 1) n))) (length (waitingIn m))) (sym e)
 
@@ -276,7 +276,7 @@ module _ (a : Sheet) (x : RecordTags) (s later : List ℕ) (b more : Bool) (told
   at-number at room spare n (inside z y f v) q l g o c st =
       stopped-with at room spare (inside z y f v) z f n o (past-began at f l g) (by c) (λ t e. subst (λ (k : Step). WholeStep at room spare (inside z y f v) (inside z y f v) (reported (spare + entries) at (inside z y f v) k)) e st)
     where
-      by : (eqb n 27 ≡ false) ⊎ (s ++ later ≡ s) → closes part-call at (inside z y f v) z f n ≡ closes whole-call at (inside z y f v) z f n
+      by : (eqb n 27 ≡ false) ⊎ (s ++ later ≡ s) → closesAt part-call at (inside z y f v) z f n ≡ closesAt whole-call at (inside z y f v) z f n
       by (inl e) =
           ap (λ (c : Bool). stop n at (between z) (cond c (lost f (lastByte part-call) n ∷ []) (onlyIf (ltb f (base + at)) (lost f (base + at - 1) n))) (length v)) e
           ∙ sym (ap (λ (c : Bool). stop n at (between z) (cond c (lost f (lastByte whole-call) n ∷ []) (onlyIf (ltb f (base + at)) (lost f (base + at - 1) n))) (length v)) e)

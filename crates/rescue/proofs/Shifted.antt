@@ -29,7 +29,7 @@ use Rattle.salvaging.specs.declared.Resumed.{Resumed}
 use Rattle.salvaging.specs.declared.Resumed.the-variants.{Here, Waits, Nowhere}
 use Rattle.salvaging.specs.Resumed.{EitherIs, ApartUpTo, ResumedIs}
 use Rattle.rescue.specs.Held.{Mode, between, inside, skipping, controlOf, waitingIn, Rescued}
-use Rattle.rescue.specs.Step.{Setting, Step, on, stop, stay, lastByte, pastFirst, drops, closes, breaks, recordToken, otherToken, tokenStep, numberStep, ranOut, skipStep, skipTo, reported, StepIs, at-token, at-none, at-bytes}
+use Rattle.rescue.specs.Step.{Setting, Step, on, stop, stay, lastByte, pastFirst, dropsAt, closesAt, breaksAt, recordToken, otherToken, tokenStep, numberStep, ranOut, skipStep, skipTo, reported, StepIs, at-token, at-none, at-bytes}
 use Rattle.rescue.specs.Call.{halted, after-step, Rescues, goes, halts, setting}
 
 not-token : (more : Bool) (left : ℕ) (c : Control) (y : Answer) (k : ℕ) → numberAt more left c y ≡ some k → NoToken y
@@ -93,11 +93,11 @@ module _ (a : Sheet) (x : RecordTags) (s : List ℕ) (more : Bool) (base area n 
         by true = refl
         by false = omega arith
 
-    breaks-moved : (m : Mode) (z : Configuration) (f k : ℕ) → breaks c (n + at) m z f k ≡ moved n (breaks left-call at m z f k)
+    breaks-moved : (m : Mode) (z : Configuration) (f k : ℕ) → breaksAt c (n + at) m z f k ≡ moved n (breaksAt left-call at m z f k)
     breaks-moved m z f k = by (leavesOpen k) (damaged k)
       where
-        by : (o d : Bool) → cond o (stay k (n + at) m) (cond d (drops c (n + at) m z f k) (closes c (n + at) m z f k)) ≡
-            moved n (cond o (stay k at m) (cond d (drops left-call at m z f k) (closes left-call at m z f k)))
+        by : (o d : Bool) → cond o (stay k (n + at) m) (cond d (dropsAt c (n + at) m z f k) (closesAt c (n + at) m z f k)) ≡
+            moved n (cond o (stay k at m) (cond d (dropsAt left-call at m z f k) (closesAt left-call at m z f k)))
         by true d = refl
         by false true = ap (λ (p : ℕ). on p (skipping z f k) [] [] (length (waitingIn m))) (past-moved f)
         by false false =

@@ -27,7 +27,7 @@ use Rattle.salvaging.specs.declared.Resumed.{Resumed}
 use Rattle.salvaging.specs.declared.Resumed.the-variants.{Here, Waits, Nowhere}
 use Rattle.salvaging.specs.Resumed.{ResumedIs}
 use Rattle.rescue.specs.Held.{Mode, between, inside, skipping, readsTokens, controlOf, Rescued}
-use Rattle.rescue.specs.Step.{Setting, Step, on, stop, stay, inStream, pastFirst, lastByte, drops, closes, breaks, recordToken, otherToken, tokenStep, numberStep, skipStep, skipTo, reported, StepIs, at-token, at-none, at-bytes}
+use Rattle.rescue.specs.Step.{Setting, Step, on, stop, stay, inStream, pastFirst, lastByte, dropsAt, closesAt, breaksAt, recordToken, otherToken, tokenStep, numberStep, skipStep, skipTo, reported, StepIs, at-token, at-none, at-bytes}
 use Rattle.rescue.specs.Call.{halted, after-step, spareLeft, Rescues, goes, halts, repeats, setting, RescuedBy}
 use Rattle.rescue.specs.Parts.{Began}
 use Rattle.rescue.specs.Promises.{SomeRescue, RescueWithin}
@@ -60,10 +60,10 @@ module _ (c : Setting) where
         by true = h
         by false = (i, j)
 
-    fine-breaks : (z : Configuration) (f n : ℕ) → pastFirst c f at ≤ length (c .part) → 3 * (length (c .part) - pastFirst c f at) + 1 < left at m → Fine at m (breaks c at m z f n)
+    fine-breaks : (z : Configuration) (f n : ℕ) → pastFirst c f at ≤ length (c .part) → 3 * (length (c .part) - pastFirst c f at) + 1 < left at m → Fine at m (breaksAt c at m z f n)
     fine-breaks z f n i j = by (leavesOpen n) (damaged n)
       where
-        by : (o d : Bool) → Fine at m (cond o (stay n at m) (cond d (drops c at m z f n) (closes c at m z f n)))
+        by : (o d : Bool) → Fine at m (cond o (stay n at m) (cond d (dropsAt c at m z f n) (closesAt c at m z f n)))
         by true d = (l, g)
         by false true = (i, tt, j)
         by false false = (l, tt)

@@ -17,7 +17,7 @@ use Rattle.salvage.specs.Salvage.{rootOnly, beginsRecord, lost, damaged}
 use Rattle.salvaging.specs.declared.Resumed.{Resumed}
 use Rattle.salvaging.specs.declared.Resumed.the-variants.{Here, Waits, Nowhere}
 use Rattle.rescue.specs.Held.{Mode, between, inside, skipping, waitingIn, Rescued}
-use Rattle.rescue.specs.Step.{Setting, Step, on, stop, stay, inStream, lastByte, drops, closes, breaks, whole, recordToken, otherToken, tokenStep, numberStep, skipStep, skipTo, reported, StepIs, at-token, at-none, at-bytes}
+use Rattle.rescue.specs.Step.{Setting, Step, on, stop, stay, inStream, lastByte, dropsAt, closesAt, breaksAt, wholeAt, recordToken, otherToken, tokenStep, numberStep, skipStep, skipTo, reported, StepIs, at-token, at-none, at-bytes}
 use Rattle.rescue.specs.Call.{larger, Rescues, goes, halts}
 use Rattle.rescue.proofs.One.{GoesBy, goes-by}
 use Rattle.rescue.proofs.Whole.{reports, reports-end}
@@ -39,10 +39,10 @@ wait-reported spare p m (stop n to m′ ds k) h = by (leb (length ds) spare)
     by false = (omega arith, omega arith)
 
 module _ (c : Setting) where
-  wait-breaks : (at : ℕ) (m : Mode) (z : Configuration) (f n : ℕ) → WaitBy m (breaks c at m z f n)
+  wait-breaks : (at : ℕ) (m : Mode) (z : Configuration) (f n : ℕ) → WaitBy m (breaksAt c at m z f n)
   wait-breaks at m z f n = by (leavesOpen n) (damaged n)
     where
-      by : (o d : Bool) → WaitBy m (cond o (stay n at m) (cond d (drops c at m z f n) (closes c at m z f n)))
+      by : (o d : Bool) → WaitBy m (cond o (stay n at m) (cond d (dropsAt c at m z f n) (closesAt c at m z f n)))
       by true d = (omega arith, omega arith)
       by false true = omega arith
       by false false = (omega arith, omega arith)
@@ -106,9 +106,9 @@ module _ (c : Setting) where
   run-waited (halts {at} {room} {spare} {m} n to m′ ds k st) = wait-step at room spare m (stop n to m′ ds k) st .1
 
   -- all of a record waits with its last token, whether the output has room for it or not
-  pub whole-waited : {at room spare : ℕ} {m : Mode} {r : Rescued} (next : ℕ) (y : Configuration) (u : List ℕ) → StepIs c at room spare m (reported spare at m (whole at room m next y u)) →
+  pub whole-waited : {at room spare : ℕ} {m : Mode} {r : Rescued} (next : ℕ) (y : Configuration) (u : List ℕ) → StepIs c at room spare m (reported spare at m (wholeAt at room m next y u)) →
       Rescues c at room spare m r → length u ≤ r .waited
-  whole-waited {at} {room} {spare} {m} {r} next y u st d = by (leb (length u) room) (goes-by c d (reported spare at m (whole at room m next y u)) st)
+  whole-waited {at} {room} {spare} {m} {r} next y u st d = by (leb (length u) room) (goes-by c d (reported spare at m (wholeAt at room m next y u)) st)
     where
       by : (o : Bool) → GoesBy c at room spare m r (reported spare at m (cond o (on next (between y) u [] (length u)) (stop 17 at m [] (length u)))) → length u ≤ r .waited
       by true g =

@@ -37,7 +37,7 @@ use Rattle.salvaging.specs.declared.Resumed.{Resumed}
 use Rattle.salvaging.specs.declared.Resumed.the-variants.{Here, Waits, Nowhere}
 use Rattle.salvaging.specs.Resumed.{EitherIs, ApartUpTo, ResumedIs}
 use Rattle.rescue.specs.Held.{Mode, between, inside, skipping, runOf, waitingIn, fresh-salvage, Rescued, asSalvage}
-use Rattle.rescue.specs.Step.{Setting, Step, on, stop, stay, inStream, byteBefore, lastByte, pastFirst, drops as dropsAt, closes as closesAt, breaks as breaksAt, whole as wholeAt, recordToken, otherToken, tokenStep, numberStep, skipStep, skipTo, reported, StepIs, at-token, at-none, at-bytes}
+use Rattle.rescue.specs.Step.{Setting, Step, on, stop, stay, inStream, byteBefore, lastByte, pastFirst, dropsAt, closesAt, breaksAt, wholeAt, recordToken, otherToken, tokenStep, numberStep, skipStep, skipTo, reported, StepIs, at-token, at-none, at-bytes}
 use Rattle.rescue.specs.Call.{halted, after-step, spareLeft, Rescues, goes, halts, setting}
 use Rattle.rescue.specs.Promises.{InOneCall, IsSalvage, CallSalvages}
 use Rattle.rescue.proofs.One.{no-number, one-rescue}

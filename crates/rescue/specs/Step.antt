@@ -61,26 +61,26 @@ abbrev pub pastFirst : Setting → (f at : ℕ) → ℕ
 pastFirst c f at = cond (ltb f (inStream c at)) at (suc at)
 
 -- 20 to 25 drop a record: the run is again as it was before it, and bytes are passed over
-abbrev pub drops : Setting → (at : ℕ) (m : Mode) (z : Configuration) (f n : ℕ) → Step
-drops c at m z f n = on (pastFirst c f at) (skipping z f n) [] [] (length (waitingIn m))
+abbrev pub dropsAt : Setting → (at : ℕ) (m : Mode) (z : Configuration) (f n : ℕ) → Step
+dropsAt c at m z f n = on (pastFirst c f at) (skipping z f n) [] [] (length (waitingIn m))
 
 -- so do 27 and 30, which close. With 27 what is dropped ends with the stream; with 30 before the refused token, and nothing is where that is the record's first
-abbrev pub closes : Setting → (at : ℕ) (m : Mode) (z : Configuration) (f n : ℕ) → Step
-closes c at m z f n =
+abbrev pub closesAt : Setting → (at : ℕ) (m : Mode) (z : Configuration) (f n : ℕ) → Step
+closesAt c at m z f n =
     stop n at (between z) (cond (eqb n 27) (lost f (lastByte c) n ∷ []) (onlyIf (ltb f (inStream c at)) (lost f (byteBefore c at) n))) (length (waitingIn m))
 
 -- the record that began at f, where the run was in z, stops with n at the place `at`; 16 and 17 leave all as it is, in the mode m
-abbrev pub breaks : Setting → (at : ℕ) (m : Mode) (z : Configuration) (f n : ℕ) → Step
-breaks c at m z f n = cond (leavesOpen n) (stay n at m) (cond (damaged n) (drops c at m z f n) (closes c at m z f n))
+abbrev pub breaksAt : Setting → (at : ℕ) (m : Mode) (z : Configuration) (f n : ℕ) → Step
+breaksAt c at m z f n = cond (leavesOpen n) (stay n at m) (cond (damaged n) (dropsAt c at m z f n) (closesAt c at m z f n))
 
 -- with its last token the record is whole, and all that waited is written; 17 where it has no room
-abbrev pub whole : (at room : ℕ) (m : Mode) (next : ℕ) (y : Configuration) (w : List ℕ) → Step
-whole at room m next y w = cond (leb (length w) room) (on next (between y) w [] (length w)) (stop 17 at m [] (length w))
+abbrev pub wholeAt : (at room : ℕ) (m : Mode) (next : ℕ) (y : Configuration) (w : List ℕ) → Step
+wholeAt at room m next y w = cond (leb (length w) room) (on next (between y) w [] (length w)) (stop 17 at m [] (length w))
 
 -- a token of the record, behind which v waits
 abbrev pub recordToken : Setting → (at room : ℕ) (m : Mode) (z : Configuration) (f : ℕ) (v : List ℕ) (next : ℕ) → Taking → Step
-recordToken c at room m z f v next (taken y w) = cond (rootOnly (y .control)) (whole at room m next y (v ++ w)) (on next (inside z y f (v ++ w)) [] [] (length (v ++ w)))
-recordToken c at room m z f v next (refuses n) = breaks c at m z f n
+recordToken c at room m z f v next (taken y w) = cond (rootOnly (y .control)) (wholeAt at room m next y (v ++ w)) (on next (inside z y f (v ++ w)) [] [] (length (v ++ w)))
+recordToken c at room m z f v next (refuses n) = breaksAt c at m z f n
 recordToken c at room m z f v next no-room = stay 17 at m
 
 -- a token outside a record
@@ -101,7 +101,7 @@ tokenStep c at room next k (skipping z f n) = stay 17 at (skipping z f n)
 -- no whole token comes next, and that has the number n
 abbrev pub numberStep : Setting → (at n : ℕ) → Mode → Step
 numberStep c at n (between z) = stay n at (between z)
-numberStep c at n (inside z y f v) = breaks c at (inside z y f v) z f n
+numberStep c at n (inside z y f v) = breaksAt c at (inside z y f v) z f n
 numberStep c at n (skipping z f k) = stay 17 at (skipping z f k)
 
 -- passing over: up to where reading resumes. While more is to come, the bytes that begin one of the two byte strings are left for the next call; else the stream ends in 27

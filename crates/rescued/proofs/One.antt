@@ -24,7 +24,7 @@ use Rattle.converter.proofs.Replies.{some-inj}
 use Rattle.rescued.specs.declared.SalvageCounts.{SalvageCounts}
 use Rattle.rescued.specs.Bytes.{salvageIn, salvageBytes, areaAfter, entryWidth, reportBytes}
 use Rattle.rescued.specs.Fits.{SalvageFits}
-use Rattle.rescued.specs.Salvaged.{Lent, GivenBack, sheet-fails, no-records, unfit, closed, Put, Ran, as-given, runs, OneSalvaged}
+use Rattle.rescued.specs.Salvaged.{Lent, SalvageGivenBack, sheet-fails, no-records, unfit, closed, Put, SalvageRan, as-given, runs, OneSalvaged}
 
 -- o is what stands first in the lent memory
 same-put : {lent after after′ o o′ : List ℕ} → o ≡ o′ → Put lent after o → Put lent after′ o′ → after ≡ after′
@@ -49,14 +49,14 @@ module _ {s : List ℕ} {a : Sheet} (i : IsSheet s a) where
     not-failed h v = omega (arith, h, one-verdict v (of-sheet a i (passes (ok .keeps-T) (ok .keeps-S))))
 
     -- under a sheet of the shape that the state fits, what is given back was closed
-    given-closed : {part : List ℕ} {l : Lent} {x : RecordTags} {n : ℕ} → recordTags a ≡ some x → FitsIn part l a → GivenBack s part l n →
+    given-closed : {part : List ℕ} {l : Lent} {x : RecordTags} {n : ℕ} → recordTags a ≡ some x → FitsIn part l a → SalvageGivenBack s part l n →
         (m : ℕ) × (salvageIn (l .state) (l .area) .closing ≡ some m) × (n ≡ again m)
     given-closed e f (sheet-fails h v) = absurd (not-failed h v)
     given-closed {x = x} e f (no-records b j k o) = absurd (none-some x (sym (tagged j o) ∙ e))
     given-closed {part} {l} e f (unfit b y j k o w) = absurd (w (subst (FitsIn part l) (one-sheet i j) f))
     given-closed e f (closed b y j k o g m h) = (m, h, refl)
 
-one-given : {s part : List ℕ} {l : Lent} {m n : ℕ} → GivenBack s part l m → GivenBack s part l n → m ≡ n
+one-given : {s part : List ℕ} {l : Lent} {m n : ℕ} → SalvageGivenBack s part l m → SalvageGivenBack s part l n → m ≡ n
 one-given (sheet-fails h v) (sheet-fails k w) = one-verdict v w
 one-given (sheet-fails h v) (no-records b j k o) = absurd (not-failed j k h v)
 one-given (sheet-fails h v) (unfit b y j k o w) = absurd (not-failed j k h v)
@@ -71,11 +71,11 @@ one-given (unfit a x i ok e u) (unfit b y j k o w) = refl
 one-given {part = part} {l} (unfit a x i ok e u) (closed b y j k o f n c) = absurd (u (fits-here i part l j f))
 one-given (closed a x i ok e g m d) t = let (n, c, q) = given-closed i ok e g t in ap again (some-inj (sym d ∙ c)) ∙ sym q
 
-not-both : {s part : List ℕ} {ended : Bool} {l l′ : Lent} {r : SalvageCounts} {n : ℕ} → GivenBack s part l n → Ran s part ended l l′ r → ⊥
+not-both : {s part : List ℕ} {ended : Bool} {l l′ : Lent} {r : SalvageCounts} {n : ℕ} → SalvageGivenBack s part l n → SalvageRan s part ended l l′ r → ⊥
 not-both g w = let (m, c, e) = given-closed (w .is-sheet) (w .passed) (w .of-shape) (w .fits) g in none-some m (sym (w .is-open) ∙ c)
 
 -- two runs
-module _ {s part : List ℕ} {ended : Bool} {l l′ l″ : Lent} {r q : SalvageCounts} (w : Ran s part ended l l′ r) (u : Ran s part ended l l″ q) where
+module _ {s part : List ℕ} {ended : Bool} {l l′ l″ : Lent} {r q : SalvageCounts} (w : SalvageRan s part ended l l′ r) (u : SalvageRan s part ended l l″ q) where
   abbrev Answers : Sheet → RecordTags → Rescued → Type 0
   Answers a x y = RescueCalled a x part (not ended) (length (l .area)) (length (l .output)) (length (l .report) / entryWidth) (salvageIn (l .state) (l .area)) y
 

@@ -28,15 +28,15 @@ pub record Lent : Type 0 where
   pub report : List ℕ
 
 -- the numbers with which all is handed back as it was: 1 to 9; 34, where the sheet is not of the shape; 29, where the bytes do not fit it; 28 or an earlier refusal again
-pub data GivenBack (s part : List ℕ) (l : Lent) : ℕ → Type 0 where
-  sheet-fails : {n : ℕ} → 1 ≤ n → VerdictIs s n → GivenBack s part l n
-  no-records : (a : Sheet) → IsSheet s a → Passed a → recordTags a ≡ none → GivenBack s part l (shapeNumber none)
-  unfit : (a : Sheet) (x : RecordTags) → IsSheet s a → Passed a → recordTags a ≡ some x → (SalvageFits a (l .state) (length (l .area)) (length part) → ⊥) → GivenBack s part l 29
+pub data SalvageGivenBack (s part : List ℕ) (l : Lent) : ℕ → Type 0 where
+  sheet-fails : {n : ℕ} → 1 ≤ n → VerdictIs s n → SalvageGivenBack s part l n
+  no-records : (a : Sheet) → IsSheet s a → Passed a → recordTags a ≡ none → SalvageGivenBack s part l (shapeNumber none)
+  unfit : (a : Sheet) (x : RecordTags) → IsSheet s a → Passed a → recordTags a ≡ some x → (SalvageFits a (l .state) (length (l .area)) (length part) → ⊥) → SalvageGivenBack s part l 29
   closed : (a : Sheet) (x : RecordTags) → IsSheet s a → Passed a → recordTags a ≡ some x → SalvageFits a (l .state) (length (l .area)) (length part) →
-      (n : ℕ) → salvageIn (l .state) (l .area) .closing ≡ some n → GivenBack s part l (again n)
+      (n : ℕ) → salvageIn (l .state) (l .area) .closing ≡ some n → SalvageGivenBack s part l (again n)
 
 -- nothing is taken, written or reported, and every byte is as it was; the visits are the count that the state's bytes hold
-pub record Untouched (l l′ : Lent) (r : SalvageCounts) : Type 0 where
+pub record SalvageUntouched (l l′ : Lent) (r : SalvageCounts) : Type 0 where
   pub taken : r .taken ≡ 0
   pub written : r .written ≡ 0
   pub reported : r .reported ≡ 0
@@ -51,7 +51,7 @@ pub record Put (lent after o : List ℕ) : Type 0 where
 
 -- a run over the part's bytes from an open state: its answer in the output and the report, which have room for it; the state's bytes are those of what is held then; and the area holds
 -- what waits, 0 where bytes waited that do not any more, and past these it is as lent
-pub record Ran (s part : List ℕ) (ended : Bool) (l l′ : Lent) (r : SalvageCounts) : Type 0 where
+pub record SalvageRan (s part : List ℕ) (ended : Bool) (l l′ : Lent) (r : SalvageCounts) : Type 0 where
   pub sheet : Sheet
   pub tags : RecordTags
   pub is-sheet : IsSheet s sheet
@@ -76,8 +76,8 @@ pub record Ran (s part : List ℕ) (ended : Bool) (l l′ : Lent) (r : SalvageCo
 
 -- s are the bytes of the sheet, l is lent and l′ is left
 pub data SalvagedAs (s part : List ℕ) (ended : Bool) (l l′ : Lent) (r : SalvageCounts) : Type 0 where
-  as-given : GivenBack s part l (r .number) → Untouched l l′ r → SalvagedAs s part ended l l′ r
-  runs : Ran s part ended l l′ r → SalvagedAs s part ended l l′ r
+  as-given : SalvageGivenBack s part l (r .number) → SalvageUntouched l l′ r → SalvagedAs s part ended l l′ r
+  runs : SalvageRan s part ended l l′ r → SalvagedAs s part ended l l′ r
 
 -- any two answers are equal, to the byte
 abbrev pub OneSalvaged : Type 0

@@ -25,7 +25,7 @@ use Rattle.turns.specs.declared.Place.{Place}
 use Rattle.turns.specs.declared.Given.{Given}
 use Rattle.turns.specs.declared.Turn.{Turn}
 use Rattle.turns.specs.Stands.{modeOf, ReadyOn}
-use Rattle.strides.specs.Strides.{goesOn, numberIn, placeIn, modeIn, writtenIn, toldIn, depthIn, Shown, Strode}
+use Rattle.strides.specs.Strides.{stepGoesOn, numberIn, placeIn, modeIn, writtenIn, toldIn, depthIn, Shown, Strode}
 use Rattle.rescuer.specs.declared.Ending.{Ending}
 use Rattle.rescuer.specs.Ran.{atStart, Went, RanOn}
 use Rattle.rescuer.proofs.Numbers.{step-few}
@@ -170,7 +170,7 @@ module _ {a : Sheet} {x : RecordTags} {g : Given} {part : List ℕ} {t₀ : Stan
         rest = λ q z. by (S .step) step-here (sym h ∙ S .shown .goes) (S .shown .at) (S .shown .written) (S .shown .told) (S .shown .deep) (S .shown .mode) q z;
       }
     where
-      by : (st : Step) → StepIs c (p .at) (length out₀ - p .put) (length rep₀ / entryWidth - p .told) m st → true ≡ goesOn st → r .place .at ≡ placeIn st → r .place .put ≡ p .put + length (writtenIn st) →
+      by : (st : Step) → StepIs c (p .at) (length out₀ - p .put) (length rep₀ / entryWidth - p .told) m st → true ≡ stepGoesOn st → r .place .at ≡ placeIn st → r .place .put ≡ p .put + length (writtenIn st) →
           r .place .told ≡ p .told + length (toldIn st) → r .deep ≡ depthIn st → modeOf (r .stand) b′ area′ ≡ modeIn st → (q : Rescued) →
           Rescues c (r .place .at) (length out₀ - r .place .put) (length rep₀ / entryWidth - r .place .told) (modeOf (r .stand) b′ area′) q →
           Rescues c 0 (length out₀) (length rep₀ / entryWidth) m₀ (after-step (W .written ++ writtenIn st) (W .lost-so ++ toldIn st) (larger deep (r .deep)) q)
@@ -190,7 +190,7 @@ module _ {a : Sheet} {x : RecordTags} {g : Given} {part : List ℕ} {t₀ : Stan
       RanOn a x g part t₀ b₀ b′ out₀ out′ area₀ area′ rep₀ rep′ e
   stops-here h e q = subst (RanOn a x g part t₀ b₀ b′ out₀ out′ area₀ area′ rep₀ rep′) (sym q) (by (S .step) step-here (sym h ∙ S .shown .goes) (S .shown) output-then report-then long-then many-then)
     where
-      by : (st : Step) → StepIs c (p .at) (length out₀ - p .put) (length rep₀ / entryWidth - p .told) m st → false ≡ goesOn st → Shown st p b′ out out′ area′ rep rep′ r →
+      by : (st : Step) → StepIs c (p .at) (length out₀ - p .put) (length rep₀ / entryWidth - p .told) m st → false ≡ stepGoesOn st → Shown st p b′ out out′ area′ rep rep′ r →
           out′ ≡ (W .written ++ writtenIn st) ++ drop (p .put + length (writtenIn st)) out₀ → rep′ ≡ reportBytes (W .lost-so ++ toldIn st) ++ drop (entryWidth * (p .told + length (toldIn st))) rep₀ →
           length (W .written ++ writtenIn st) ≡ p .put + length (writtenIn st) → length (W .lost-so ++ toldIn st) ≡ p .told + length (toldIn st) →
           RanOn a x g part t₀ b₀ b′ out₀ out′ area₀ area′ rep₀ rep′ (record { number = r .number; place = r .place; deep = larger deep (r .deep); stand = r .stand })

@@ -26,7 +26,7 @@ use Rattle.salvage.specs.Salvage.{rootOnly, beginsRecord, LostStretch, lost, da
 use Rattle.salvaging.specs.declared.Resumed.{Resumed}
 use Rattle.salvaging.specs.declared.Resumed.the-variants.{Here, Waits, Nowhere}
 use Rattle.rescue.specs.Held.{Mode, between, inside, skipping, runOf, waitingIn}
-use Rattle.rescue.specs.Step.{Setting, Step, on, stop, stay, inStream, byteBefore, lastByte, drops, closes, breaks, whole, recordToken, otherToken, tokenStep, numberStep, ranOut, skipStep, reported, StepIs, at-token, at-none, at-bytes}
+use Rattle.rescue.specs.Step.{Setting, Step, on, stop, stay, inStream, byteBefore, lastByte, dropsAt, closesAt, breaksAt, wholeAt, recordToken, otherToken, tokenStep, numberStep, ranOut, skipStep, reported, StepIs, at-token, at-none, at-bytes}
 use Rattle.strides.specs.Strides.{numberIn}
 
 few : {a : Sheet} {part : List ℕ} {more : Bool} {at room n : ℕ} {z : Configuration} → Stop a part more at room z n → n ≤ 30
@@ -44,13 +44,13 @@ either true s t h k = h
 either false s t h k = k
 
 module _ (c : Setting) (at room : ℕ) where
-  few-broken : (m : Mode) (z : Configuration) (f n : ℕ) → n ≤ 30 → numberIn (breaks c at m z f n) ≤ 30
+  few-broken : (m : Mode) (z : Configuration) (f n : ℕ) → n ≤ 30 → numberIn (breaksAt c at m z f n) ≤ 30
   few-broken m z f n h =
-      either (leavesOpen n) (stay n at m) (cond (damaged n) (drops c at m z f n) (closes c at m z f n)) h (either (damaged n) (drops c at m z f n) (closes c at m z f n) (omega arith) h)
+      either (leavesOpen n) (stay n at m) (cond (damaged n) (dropsAt c at m z f n) (closesAt c at m z f n)) h (either (damaged n) (dropsAt c at m z f n) (closesAt c at m z f n) (omega arith) h)
 
   few-record : (m : Mode) (z : Configuration) (f : ℕ) (v : List ℕ) (next : ℕ) (k : Taking) → ((n : ℕ) → k ≡ refuses n → n ≤ 30) → numberIn (recordToken c at room m z f v next k) ≤ 30
   few-record m z f v next (taken y w) h =
-      either (rootOnly (y .control)) (whole at room m next y (v ++ w)) (on next (inside z y f (v ++ w)) [] [] (length (v ++ w)))
+      either (rootOnly (y .control)) (wholeAt at room m next y (v ++ w)) (on next (inside z y f (v ++ w)) [] [] (length (v ++ w)))
       (either (leb (length (v ++ w)) room) (on next (between y) (v ++ w) [] (length (v ++ w))) (stop 17 at m [] (length (v ++ w))) (omega arith) (omega arith)) (omega arith)
   few-record m z f v next (refuses n) h = few-broken m z f n (h n refl)
   few-record m z f v next no-room h = omega arith

@@ -24,7 +24,7 @@ abbrev pub atStart : Place
 atStart = record { at = 0; put = 0; told = 0 }
 
 -- the two byte strings at which reading resumes
-pub record Marked (s : List ℕ) (tag : ℕ) (start end : List ℕ) : Type 0 where
+pub record ResumptionIs (s : List ℕ) (tag : ℕ) (start end : List ℕ) : Type 0 where
   pub start-is : (G : Grounds s tag) → start ≡ recordStart (G .sheet) (G .tags)
   pub end-is : (G : Grounds s tag) → end ≡ rootEnd (G .sheet) (G .tags)
 
@@ -68,6 +68,6 @@ pub record RanOn (a : Sheet) (x : RecordTags) (g : Given) (part : List ℕ) (t�
   pub deep-in : r .deep ≤ length area₀
   pub waits-in : r .stand .waits ≤ r .deep
 
-pub record RanAs (s : List ℕ) (g : Given) (part : List ℕ) (t₀ : Stand) (b₀ b out₀ out area₀ area rep₀ rep : List ℕ) (r : Ending) : Type 0 where
+pub record StepsRanAs (s : List ℕ) (g : Given) (part : List ℕ) (t₀ : Stand) (b₀ b out₀ out area₀ area rep₀ rep : List ℕ) (r : Ending) : Type 0 where
   pub grounds : Grounds s (g .tag)
   pub ran : RanOn (grounds .sheet) (grounds .tags) g part t₀ b₀ b out₀ out area₀ area rep₀ rep r

@@ -4,7 +4,7 @@ ghost use lib.ListN.{length};
 ghost use Rattle.layout.specs.LaidOut.{LaidOut};
 ghost use Rattle.rescue.specs.Call.{larger};
 ghost use Rattle.turns.specs.Stands.{Ready};
-ghost use Rattle.rescuer.specs.Ran.{atStart, Marked, RanAs};
+ghost use Rattle.rescuer.specs.Ran.{atStart, ResumptionIs, StepsRanAs};
 use layout::Layout;
 use turns::Given;
 use turns::Place;
@@ -41,8 +41,8 @@ pub fn run_steps(
 ) -> Ending
     requires { ⌜ LaidOut (now s) l ⌝ }
     requires { ⌜ Ready (now s) g (now part) atStart stand (now stack) (now out) (now area) ⌝ }
-    requires { ⌜ Marked (now s) (g .tag) (now start) (now end) ⌝ }
-    ensures { λ r. ⌜ RanAs (now (s .entry)) g (now (part .entry)) stand (now (stack .entry)) (now (stack .exit)) (now (out .entry)) (now (out .exit)) (now (area .entry)) (now (area .exit)) (now (report .entry)) (now (report .exit)) r ⌝ }
+    requires { ⌜ ResumptionIs (now s) (g .tag) (now start) (now end) ⌝ }
+    ensures { λ r. ⌜ StepsRanAs (now (s .entry)) g (now (part .entry)) stand (now (stack .entry)) (now (stack .exit)) (now (out .entry)) (now (out .exit)) (now (area .entry)) (now (area .exit)) (now (report .entry)) (now (report .exit)) r ⌝ }
 {
     let mut p = Place {
         at: 0,

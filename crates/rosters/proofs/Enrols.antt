@@ -14,7 +14,7 @@ use Rattle.stores.specs.Rows.{endsFrom, RowsIn}
 use Rattle.stores.specs.Filed.{SameStore, ThereAs, AddedAs, FullAs, FiledIs}
 use Rattle.stores.proofs.Grows.{grows-behind, grows-by-one, places-stay}
 use Rattle.stores.proofs.Behind.{new-place, last-place}
-use Rattle.binding.specs.Bound.{AllShort}
+use Rattle.binding.specs.Bound.{ShortNames}
 use Rattle.rosters.specs.declared.Roster.{Roster}
 use Rattle.rosters.specs.Rosters.{RosterRoom, Enrolling, RosterIs, EnrolledAs, Enrolled}
 
@@ -32,11 +32,11 @@ ends-long at (y ∷ l) = omega (arith, ends-long (at + length y) l)
 pub rows-few : (b e : List ℕ) (n : ℕ) (l : Names) → RowsIn b e n l → length l ≤ length e
 rows-few b e n l h = omega (arith, ends-long 0 l, ap length (h .ends-are), length-append (endsFrom 0 l) (h .free-ends))
 
-short-with : (l : Names) (x : List ℕ) → AllShort l → length x ≤ longestName → AllShort (l ++ x ∷ [])
+short-with : (l : Names) (x : List ℕ) → ShortNames l → length x ≤ longestName → ShortNames (l ++ x ∷ [])
 short-with [] x s h = (h, tt)
 short-with (y ∷ l) x s h = (s .0, short-with l x (s .1) h)
 
-short-run : (l : Names) → AllShort l → length (run-together l) ≤ 15 * length l
+short-run : (l : Names) → ShortNames l → length (run-together l) ≤ 15 * length l
 short-run [] s = omega arith
 short-run (y ∷ l) s = let k = short-run l (s .1) in let j = s .0 in omega (arith, length-append y (run-together l))
 

@@ -7,7 +7,7 @@ use lib.ListN.{length}
 use Rattle.limits.specs.Limits.{mostTags, longestName}
 use Rattle.encoding.specs.Distinct.{distinct, placeOf}
 use Rattle.stores.specs.Rows.{RowsIn, HasRows}
-use Rattle.binding.specs.Bound.{AllShort}
+use Rattle.binding.specs.Bound.{ShortNames}
 use Rattle.rosters.specs.declared.Roster.{Roster}
 
 -- memory for as many names as a sheet has tags
@@ -23,7 +23,7 @@ pub record Enrolling (bytes ends : List ℕ) (r : Roster) : Type 0 where
 pub record RosterIs (all : List (List ℕ)) (bytes ends : List ℕ) (r : Roster) (rows : List (List ℕ)) : Type 0 where
   pub sized : RosterRoom bytes ends
   pub held : RowsIn bytes ends (r .count) rows
-  pub short : AllShort rows
+  pub short : ShortNames rows
   pub all-held : r .full ≡ false → rows ≡ distinct all
   pub all-places : r .full ≡ true → length rows ≡ mostTags
   pub too-many : r .full ≡ true → mostTags < length (distinct all)

@@ -13,24 +13,24 @@ use Rattle.lent.specs.Put.{put, PutAs}
 use Rattle.text.specs.Characters.{utf8s}
 use Rattle.limits.specs.Limits.{longestProgram}
 use Rattle.programs.specs.Program.{programBytes}
-use Rattle.notation.specs.Program.{Program}
+use Rattle.notation.specs.Program.{TextProgram}
 use Rattle.notation.specs.Rules.{Rules}
-use Rattle.notation.specs.Tokens.{Mark, plain, left, right, Token, nonterminal, value, attribute, name, start-tag, end-tag, empty-tag, string, word, Word, sign, Sign, DEFINED, ASSIGNED, OPEN, CLOSE, BRACE, UNBRACE, DOT, BAR, STAR, SEMICOLON, EQUALS, bytesOf}
+use Rattle.notation.specs.Tokens.{Dollar, plain, left, right, TextToken, nonterminal, value, attribute, name, start-tag, end-tag, empty-tag, string, word, Keyword, sign, Sign, DEFINED, ASSIGNED, OPEN, CLOSE, BRACE, UNBRACE, DOT, BAR, STAR, SEMICOLON, EQUALS, tokenBytes}
 use Rattle.encoding.specs.Distinct.{placeOf, offsetOf}
-use Rattle.encoding.specs.Encoded.{tagsOf, stringsOf, programOf}
+use Rattle.encoding.specs.Encoded.{tagsStored, stringsStored, programOf}
 use Rattle.reading.specs.Statements.{Listing, valueOfList}
 use Rattle.reading.specs.Rules.{Progress}
 use Rattle.reading.proofs.Telling.{none≢some}
-use Rattle.lexemes.specs.Kinds.{markNumber, wordNumber, signNumber, kindOf, numberOf, TokenFits}
+use Rattle.lexemes.specs.Kinds.{markNumber, wordNumber, signNumber, tokenKind, tokenNumber, TokenFits}
 use Rattle.sketches.specs.Sketched.{listingOf}
 use Rattle.mentions.specs.SoFar.{wholeIn}
 use Rattle.pages.specs.declared.Page.{Page}
-use Rattle.pages.specs.Pages.{textOf, PageIs}
+use Rattle.pages.specs.Pages.{pageText, PageIs}
 use Rattle.strokes.specs.Strokes.{sealedBytes}
 use Rattle.inks.specs.declared.Ink.{Ink}
 use Rattle.inks.specs.Held.{inksIn}
 use Rattle.inks.proofs.Promises.{seals-inked}
-use Rattle.shelves.specs.Shelves.{RowIs}
+use Rattle.shelves.specs.Shelves.{RowMentioned}
 use Rattle.shelves.proofs.Outcomes.{no-word, mark-kind, sign-kind}
 use Rattle.unquoting.specs.Unquoted.{UnquotedIs}
 use Rattle.rowing.specs.Rows.{PartIs, InkIn, RowOf}
@@ -73,7 +73,7 @@ part-put x from number out after n h k p =
 pub row-string : (x : List ℕ) (kind number : ℕ) (ink : Ink) (out after : List ℕ) (n : ℕ) → kind ≡ 9 → length after ≡ length out → UnquotedIs x out after n → RowOf x kind number ink out after n
 row-string x kind number ink out after n e long u = record { inside = omega (arith, u .inside, long); is = λ r s t rest w f k j b i. on r s t rest w f (sym e ∙ k) b }
   where
-    on : (r : Rules) (s : Progress) (t : Token) (rest : List ℕ) → x ≡ bytesOf t ++ rest → TokenFits t → 9 ≡ kindOf t → length out ≡ 256 → RowIs r s t (take n after)
+    on : (r : Rules) (s : Progress) (t : TextToken) (rest : List ℕ) → x ≡ tokenBytes t ++ rest → TokenFits t → 9 ≡ tokenKind t → length out ≡ 256 → RowMentioned r s t (take n after)
     on r s (nonterminal m) rest w f k b = absurd (omega arith)
     on r s (value m) rest w f k b = absurd (omega arith)
     on r s (attribute m a) rest w f k b = absurd (let h = mark-kind m in omega (arith, h, k))
@@ -88,7 +88,7 @@ row-string x kind number ink out after n e long u = record { inside = omega (ari
     on r s (sign g) rest w f k b = absurd (let h = sign-kind g in omega (arith, h, k))
 
 -- the program that a } ends
-whole-listing : (o : Option Listing) (p : Program) → wholeIn o ≡ some p → (q : Listing) × (o ≡ some q) × (valueOfList q ≡ some p)
+whole-listing : (o : Option Listing) (p : TextProgram) → wholeIn o ≡ some p → (q : Listing) × (o ≡ some q) × (valueOfList q ≡ some p)
 whole-listing none p e = absurd (none≢some refl e)
 whole-listing (some q) p e = (q, refl, e)
 
@@ -96,7 +96,7 @@ pub row-program : (x : List ℕ) (kind number : ℕ) (ink : Ink) (page : Page) (
     → RowOf x kind number ink out after n
 row-program x kind number ink page out after n e g l u = record { inside = u .inside; is = λ r s t rest w f k j b i. on r s t (sym e ∙ k) b i }
   where
-    on : (r : Rules) (s : Progress) (t : Token) → 28 ≡ kindOf t → length out ≡ 256 → InkIn r s ink → RowIs r s t (take n after)
+    on : (r : Rules) (s : Progress) (t : TextToken) → 28 ≡ tokenKind t → length out ≡ 256 → InkIn r s ink → RowMentioned r s t (take n after)
     on r s (nonterminal m) k b i = tt
     on r s (value m) k b i = tt
     on r s (attribute m a) k b i = tt
@@ -113,9 +113,9 @@ row-program x kind number ink page out after n e g l u = record { inside = u .in
     on r s (sign BRACE) k b i = tt
     on r s (sign UNBRACE) k b i = λ p h.
         let q = whole-listing (listingOf s) p h in
-        let bytes = seals-inked (placeOf (tagsOf r)) (offsetOf (stringsOf r)) (q .0) p ink page (i (q .0) (q .1)) (q .2) g in
+        let bytes = seals-inked (placeOf (tagsStored r)) (offsetOf (stringsStored r)) (q .0) p ink page (i (q .0) (q .1)) (q .2) g in
         let short : page .len ≤ length (page .bytes) = omega (arith, g .short, l) in
-        u .is [] (textOf page) (drop (page .len) (page .bytes)) (sym (take-append-drop (page .len) (page .bytes))) refl (sym (length-take-le (page .len) (page .bytes) short)) (omega (arith, g .short, b)) ∙ bytes
+        u .is [] (pageText page) (drop (page .len) (page .bytes)) (sym (take-append-drop (page .len) (page .bytes))) refl (sym (length-take-le (page .len) (page .bytes) short)) (omega (arith, g .short, b)) ∙ bytes
     on r s (sign DOT) k b i = tt
     on r s (sign BAR) k b i = tt
     on r s (sign STAR) k b i = tt
@@ -126,8 +126,8 @@ row-program x kind number ink page out after n e g l u = record { inside = u .in
 abbrev frontOf : ℕ → ℕ
 frontOf k = cond (eqb k 5) 0 (cond (eqb k 7) 2 1)
 
-named-row : (r : Rules) (s : Progress) (t : Token) (x rest out after : List ℕ) (from number n : ℕ) → x ≡ bytesOf t ++ rest → TokenFits t → number ≡ numberOf t → length out ≡ 256 → from ≡ frontOf (kindOf t) → (kindOf t ≡ 9 → ⊥) → (kindOf t ≡ 28 → ⊥)
-    → PartIs x from number out after n → RowIs r s t (take n after)
+named-row : (r : Rules) (s : Progress) (t : TextToken) (x rest out after : List ℕ) (from number n : ℕ) → x ≡ tokenBytes t ++ rest → TokenFits t → number ≡ tokenNumber t → length out ≡ 256 → from ≡ frontOf (tokenKind t) → (tokenKind t ≡ 9 → ⊥) → (tokenKind t ≡ 28 → ⊥)
+    → PartIs x from number out after n → RowMentioned r s t (take n after)
 named-row r s (nonterminal m) x rest out after from number n w f j b e k9 k28 u = tt
 named-row r s (value m) x rest out after from number n w f j b e k9 k28 u = tt
 named-row r s (attribute m a) x rest out after from number n w f j b e k9 k28 u = tt

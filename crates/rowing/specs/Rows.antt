@@ -5,16 +5,16 @@ use mathlib.Core.List.{List, _++_}
 use Prim.Native.Nat.{ℕ, _≤_}
 use lib.ListN.{length, take}
 use Rattle.notation.specs.Rules.{Rules}
-use Rattle.notation.specs.Tokens.{Token, bytesOf}
+use Rattle.notation.specs.Tokens.{TextToken, tokenBytes}
 use Rattle.encoding.specs.Distinct.{placeOf, offsetOf}
-use Rattle.encoding.specs.Encoded.{tagsOf, stringsOf}
+use Rattle.encoding.specs.Encoded.{tagsStored, stringsStored}
 use Rattle.reading.specs.Statements.{Listing}
 use Rattle.reading.specs.Rules.{Progress}
-use Rattle.lexemes.specs.Kinds.{kindOf, numberOf, TokenFits}
+use Rattle.lexemes.specs.Kinds.{tokenKind, tokenNumber, TokenFits}
 use Rattle.sketches.specs.Sketched.{listingOf}
 use Rattle.inks.specs.declared.Ink.{Ink}
 use Rattle.inks.specs.Promises.{Inked}
-use Rattle.shelves.specs.Shelves.{RowIs}
+use Rattle.shelves.specs.Shelves.{RowMentioned}
 
 -- bytes that stand behind so many others
 pub record PartIs (x : List ℕ) (from number : ℕ) (before after : List ℕ) (n : ℕ) : Type 0 where
@@ -23,8 +23,8 @@ pub record PartIs (x : List ℕ) (from number : ℕ) (before after : List ℕ) (
 
 -- in a program the ink holds what is being read there, with the numbers that these rules give
 abbrev pub InkIn : Rules → Progress → Ink → Type 0
-InkIn r s i = (q : Listing) → listingOf s ≡ some q → Inked (placeOf (tagsOf r)) (offsetOf (stringsOf r)) q i
+InkIn r s i = (q : Listing) → listingOf s ≡ some q → Inked (placeOf (tagsStored r)) (offsetOf (stringsStored r)) q i
 
 pub record RowOf (x : List ℕ) (kind number : ℕ) (ink : Ink) (before after : List ℕ) (n : ℕ) : Type 0 where
   pub inside : n ≤ length after
-  pub is : (r : Rules) (s : Progress) (t : Token) (rest : List ℕ) → x ≡ bytesOf t ++ rest → TokenFits t → kind ≡ kindOf t → number ≡ numberOf t → length before ≡ 256 → InkIn r s ink → RowIs r s t (take n after)
+  pub is : (r : Rules) (s : Progress) (t : TextToken) (rest : List ℕ) → x ≡ tokenBytes t ++ rest → TokenFits t → kind ≡ tokenKind t → number ≡ tokenNumber t → length before ≡ 256 → InkIn r s ink → RowMentioned r s t (take n after)

@@ -18,7 +18,7 @@ use Rattle.sketches.specs.Figures.{present}
 use Rattle.sketches.specs.Moves.{Sketch, sketchIf, moveOf, after-move, where-fit, stepSketch}
 use Rattle.drafts.specs.declared.Draft.{Draft}
 use Rattle.drafts.specs.declared.Stepped.{Stepped}
-use Rattle.drafts.specs.Drafted.{sketchOf, StepIs}
+use Rattle.drafts.specs.Drafted.{sketchOf, DraftStepIs}
 use Rattle.outlines.specs.Kinds.{isWord, isOperand, isShortItem, isLongItem}
 use Rattle.outlines.specs.Extents.{Extent}
 use Rattle.outlines.specs.Conditions.{Margin, behind, readCondition}
@@ -30,7 +30,7 @@ use Rattle.scripts.specs.declared.Stage.the-variants.{At, Assign, Operand, Item
 use Rattle.scripts.specs.declared.Script.{Script}
 use Rattle.scripts.specs.declared.Taken.{Taken}
 use Rattle.scripts.specs.Scripts as scripts
-use Rattle.scripts.specs.Scripts.{placeOf, stageOf, marginsIn, layersIn, outlineOf}
+use Rattle.scripts.specs.Scripts.{readingPlace, stageOf, marginsIn, layersIn, outlineOf}
 use Rattle.rows.specs.Rows.{isMove, TextRow, couldStart, couldBeOperand, couldBeItem, couldBe, Marked, OutlineRow}
 
 -- the kinds below k are marked
@@ -71,7 +71,7 @@ present-if : (b : Bool) (k : Sketch) → b ≡ present (sketchIf b k)
 present-if true k = refl
 present-if false k = refl
 
-pub moved : (d : Draft) (k : ℕ) (t : Stepped) → StepIs d k t → MarkIn d k (t .taken)
+pub moved : (d : Draft) (k : ℕ) (t : Stepped) → DraftStepIs d k t → MarkIn d k (t .taken)
 moved d k t h = present-if (t .taken) (sketchOf (t .draft)) ∙ sym (ap present (h .same))
 
 pub text-row : (d : Draft) (m : List Bool) (k : ℕ) → Filled (MarkIn d) m k → kinds ≤ k → TextRow d m
@@ -119,7 +119,7 @@ then-refused (some c) ls k h = rw h refl
 
 -- what a stage refuses by itself is refused
 stage-refused : (v : Visit) (w : Stage) (ms : List Margin) (ls : List Layer) (k : ℕ) → couldBe w k ≡ false → stepStage v (stageOf w ms) ls k ≡ none
-stage-refused v (At w) ms ls k h = start-refused v (placeOf w) ls k h
+stage-refused v (At w) ms ls k h = start-refused v (readingPlace w) ls k h
 stage-refused v Assign ms ls k h = rw h refl
 stage-refused v Operand ms ls k h = rw (operand-refused v k h) refl
 stage-refused v Item ms ls k h = let i = item-refused k h in rw (i .0, i .1) refl

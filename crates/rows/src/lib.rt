@@ -3,10 +3,10 @@
 ghost use mathlib.Core.Path.{_≡_};
 ghost use Prim.Native.Nat.{_<_};
 ghost use Rattle.lexemes.specs.Kinds.{kinds};
-ghost use Rattle.programs.specs.Parsed.{visit};
+ghost use Rattle.programs.specs.Parsed.{whichVisit};
 ghost use Rattle.sketches.specs.Moves.{moveOf};
 ghost use Rattle.paces.specs.Small.{tight, SmallPoint};
-ghost use Rattle.drafts.specs.Drafted.{Sound};
+ghost use Rattle.drafts.specs.Drafted.{SoundDraft};
 ghost use Rattle.scripts.specs.Scripts.{Standing};
 ghost use Rattle.rows.specs.Rows.{isMove, couldStart, couldBeOperand, couldBeItem, couldBe, TextRow, OutlineRow};
 
@@ -28,7 +28,7 @@ fn goes(point: sketches::Point, kind: usize) -> bool
 
 // The kinds that may come outside programs.
 pub fn in_text(d: drafts::Draft) -> [bool; 35]
-    requires { ⌜ Sound d ⌝ }
+    requires { ⌜ SoundDraft d ⌝ }
     ensures { λ m. ⌜ TextRow d m ⌝ }
 {
     let p = d.point;
@@ -92,7 +92,7 @@ fn could(stage: scripts::Stage, kind: usize) -> bool
 // The kinds that may come in a program of a visit, and the brace that ends it.
 pub fn in_program(s: scripts::Script, second: bool) -> [bool; 35]
     requires { ⌜ Standing s ⌝ }
-    ensures { λ m. ⌜ OutlineRow (visit second) s m ⌝ }
+    ensures { λ m. ⌜ OutlineRow (whichVisit second) s m ⌝ }
 {
     let stage = s.stage;
     let mut may = [false; 35];

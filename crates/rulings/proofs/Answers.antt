@@ -5,13 +5,13 @@ use mathlib.Core.Option.{Option, none, some}
 use Prim.Native.Nat.{ℕ, _<_}
 use native.Mathlib.Omega.{arith}
 use Rattle.programs.specs.Limits.{Visit}
-use Rattle.programs.specs.Parsed.{visit}
-use Rattle.notation.specs.Program.{Program}
-use Rattle.notation.specs.Tokens.{Token, sign, UNBRACE}
+use Rattle.programs.specs.Parsed.{whichVisit}
+use Rattle.notation.specs.Program.{TextProgram}
+use Rattle.notation.specs.Tokens.{TextToken, sign, UNBRACE}
 use Rattle.reading.specs.Statements.{Listing, stepStatements, valueOfList}
 use Rattle.reading.specs.Rules.{Progress}
-use Rattle.lexemes.specs.Kinds.{kinds, kindOf, TokenFits}
-use Rattle.verdicts.specs.Judged.{Goes, Takes}
+use Rattle.lexemes.specs.Kinds.{kinds, tokenKind, TokenFits}
+use Rattle.verdicts.specs.Judged.{Goes, TakesToken}
 use Rattle.sketches.specs.Figures.{present}
 use Rattle.sketches.specs.Moves.{Sketch, sketchIf, stepSketch, programAt, unbracedSketch}
 use Rattle.sketches.specs.Sketched.{sketch, listingOf}
@@ -22,7 +22,7 @@ use Rattle.sketches.proofs.Braces.{unbrace-kind}
 use Rattle.drafts.specs.declared.Draft.{Draft}
 use Rattle.drafts.specs.declared.Stepped.{Stepped}
 use Rattle.drafts.specs.declared.Place.{Place}
-use Rattle.drafts.specs.Drafted.{sketchOf, Sound, StepIs, DraftIs, programIf, PlaceIs}
+use Rattle.drafts.specs.Drafted.{sketchOf, SoundDraft, DraftStepIs, DraftIs, programIf, PointIs}
 use Rattle.outlines.specs.Statements.{outlineStart, endsHere}
 use Rattle.outlines.specs.Promises.{given, MachineKeeps}
 use Rattle.scripts.specs.declared.Script.{Script}
@@ -71,13 +71,13 @@ pub a-listing : (s : Progress) (r : Reader) (b : Bool) → Holds s r → ReadsFo
 a-listing s r b h p = there (listingOf s) (same-program s r h ∙ ap present p)
 
 -- outside programs
-pub outside-takes : (r : Reader) (kind : ℕ) (x : Stepped) (f : Script) → (kind < kinds) × (Firm r × Plain r) → StepIs (r .draft) kind x → x .taken ≡ true → (outlineOf f ≡ outlineStart) × Standing f
+pub outside-takes : (r : Reader) (kind : ℕ) (x : Stepped) (f : Script) → (kind < kinds) × (Firm r × Plain r) → DraftStepIs (r .draft) kind x → x .taken ≡ true → (outlineOf f ≡ outlineStart) × Standing f
     → AnswerIs r kind (yes-to (reader (x .draft) f))
 outside-takes r kind x f h i y z = record {
   firm = record { sound = i .sound; standing = z .1 };
   told = λ s t u w e.
       let n = no-listing s r u (h .1 .1) in
-      let st : stepSketch (sketchOf (r .draft)) (kindOf t) ≡ some (sketchOf (x .draft)) = ap (stepSketch (sketchOf (r .draft))) e ∙ i .same ∙ ap (λ b. sketchIf b (sketchOf (x .draft))) y in
+      let st : stepSketch (sketchOf (r .draft)) (tokenKind t) ≡ some (sketchOf (x .draft)) = ap (stepSketch (sketchOf (r .draft))) e ∙ i .same ∙ ap (λ b. sketchIf b (sketchOf (x .draft))) y in
       let g = plain-goes s (sketchOf (r .draft)) (sketchOf (x .draft)) t (u .drawn) n w st in
       let k = plain-takes s (g .0) (sketchOf (r .draft)) t (u .drawn) n (g .1) in
       goes (g .0) (g .1) (record {
@@ -86,12 +86,12 @@ outside-takes r kind x f h i y z = record {
       });
 }
 
-pub outside-refuses : (r : Reader) (kind : ℕ) (x : Stepped) → (kind < kinds) × (Firm r × Plain r) → StepIs (r .draft) kind x → x .taken ≡ false → AnswerIs r kind (no-to r)
+pub outside-refuses : (r : Reader) (kind : ℕ) (x : Stepped) → (kind < kinds) × (Firm r × Plain r) → DraftStepIs (r .draft) kind x → x .taken ≡ false → AnswerIs r kind (no-to r)
 outside-refuses r kind x h i y = record {
   firm = h .1 .0;
   told = λ s t u w e. stays (λ g.
       let k = plain-takes s (g .0) (sketchOf (r .draft)) t (u .drawn) (no-listing s r u (h .1 .1)) (g .1) in
-      none-some (stepSketch (sketchOf (r .draft)) (kindOf t)) (sketch (g .0)) (ap (stepSketch (sketchOf (r .draft))) e ∙ i .same ∙ ap (λ b. sketchIf b (sketchOf (x .draft))) y) (k .stepped));
+      none-some (stepSketch (sketchOf (r .draft)) (tokenKind t)) (sketch (g .0)) (ap (stepSketch (sketchOf (r .draft))) e ∙ i .same ∙ ap (λ b. sketchIf b (sketchOf (x .draft))) y) (k .stepped));
 }
 
 -- the sign that ends a program
@@ -108,7 +108,7 @@ unbraced-takes r b d h i y k = record {
       });
 }
 
-no-end : (s s′ : Progress) (r : Reader) (v : Visit) (q : Listing) (t : Token) (k : Sketch) → given (valueOfList q) ≡ false → t ≡ sign UNBRACE → ProgramTaken v q t k s′ → ⊥
+no-end : (s s′ : Progress) (r : Reader) (v : Visit) (q : Listing) (t : TextToken) (k : Sketch) → given (valueOfList q) ≡ false → t ≡ sign UNBRACE → ProgramTaken v q t k s′ → ⊥
 no-end s s′ r v q t k h e (goes-on q′ i w f n l) = none-some (stepStatements v q t) q′ (ap (stepStatements v q) e ∙ no-unbrace v q) i
 no-end s s′ r v q t k h e (ends p i j n l) = true≢false (sym (ap given j) ∙ h)
 
@@ -117,59 +117,59 @@ unbraced-refuses r b h i y = record {
   firm = h .0;
   told = λ s t u w e. stays (λ g.
       let l = a-listing s r (h .1 .0) u (h .1 .1) in
-      no-end s (g .0) r (visit (h .1 .0)) (l .0) t (sketchOf (r .draft)) (sym (end-of-machine (l .0) (r .script) (u .program (l .0) (l .1))) ∙ sym i ∙ y) (unbrace-kind t e)
-      (program-takes s (g .0) (sketchOf (r .draft)) (visit (h .1 .0)) (l .0) t (u .drawn) (l .1) (h .1 .1) (g .1)));
+      no-end s (g .0) r (whichVisit (h .1 .0)) (l .0) t (sketchOf (r .draft)) (sym (end-of-machine (l .0) (r .script) (u .program (l .0) (l .1))) ∙ sym i ∙ y) (unbrace-kind t e)
+      (program-takes s (g .0) (sketchOf (r .draft)) (whichVisit (h .1 .0)) (l .0) t (u .drawn) (l .1) (h .1 .1) (g .1)));
 }
 
 -- another token in a program
-taken-within : (s : Progress) (r : Reader) (b : Bool) (t : Token) (q : Listing) (x : Taken) → Holds s r → ReadsFor r b → listingOf s ≡ some q → MachineStepped (visit b) q t x → x .ok ≡ true
+taken-within : (s : Progress) (r : Reader) (b : Bool) (t : TextToken) (q : Listing) (x : Taken) → Holds s r → ReadsFor r b → listingOf s ≡ some q → MachineStepped (whichVisit b) q t x → x .ok ≡ true
     → Answered s t (yes-to (reader (r .draft) (x .script)))
 taken-within s r b t q x u p l (promises.goes {s = f} q′ k i) y =
-    let n = program-goes s (sketchOf (r .draft)) (visit b) q q′ t (u .drawn) l p (k .taken) (k .within) in
+    let n = program-goes s (sketchOf (r .draft)) (whichVisit b) q q′ t (u .drawn) l p (k .taken) (k .within) in
     goes (n .next) (n .goes) (record { drawn = n .drawn; program = λ o m. let z : q′ ≡ o = some-same q′ o (sym (n .reads) ∙ m) in subst (λ w. ScriptIs w f) z i })
   where
     some-same : (c o : Listing) → some c ≡ some o → c ≡ o
     some-same c o e = cc
 taken-within s r b t q x u p l (promises.stays f) y = absurd (true≢false (sym y))
 
-refused-within : (s s′ : Progress) (b : Bool) (t : Token) (q : Listing) (k : Sketch) (x : Taken) → (t ≡ sign UNBRACE → ⊥) → MachineStepped (visit b) q t x → x .ok ≡ false → ProgramTaken (visit b) q t k s′ → ⊥
+refused-within : (s s′ : Progress) (b : Bool) (t : TextToken) (q : Listing) (k : Sketch) (x : Taken) → (t ≡ sign UNBRACE → ⊥) → MachineStepped (whichVisit b) q t x → x .ok ≡ false → ProgramTaken (whichVisit b) q t k s′ → ⊥
 refused-within s s′ b t q k x n (promises.goes q′ m i) y z = true≢false y
 refused-within s s′ b t q k x n (promises.stays f) y (goes-on q′ e w i j l) = f q′ (record { taken = e; within = w })
 refused-within s s′ b t q k x n (promises.stays f) y (ends p e j i l) = n e
 
-stepped-at : (v : Visit) (q : Listing) (t : Token) (f : Script) (kind : ℕ) (x : Taken) → ScriptIs q f → TokenFits t → kindOf t ≡ kind → scripts.Stepped v f kind x → MachineStepped v q t x
+stepped-at : (v : Visit) (q : Listing) (t : TextToken) (f : Script) (kind : ℕ) (x : Taken) → ScriptIs q f → TokenFits t → tokenKind t ≡ kind → scripts.Stepped v f kind x → MachineStepped v q t x
 stepped-at v q t f kind x i w e h = step-of-machine v q t f x i w (subst (λ n. scripts.Stepped v f n x) (sym e) h)
 
 script-stands : (v : Visit) (f : Script) (kind : ℕ) (x : Taken) → scripts.Stepped v f kind x → x .ok ≡ true → Standing (x .script)
 script-stands v f kind x (scripts.taken k g) y = g
 script-stands v f kind x (scripts.refused g) y = absurd (true≢false (sym y))
 
-pub within-takes : (r : Reader) (kind : ℕ) (b : Bool) (x : Taken) → Firm r × (ReadsFor r b × (kind ≡ 28 → ⊥)) → scripts.Stepped (visit b) (r .script) kind x → x .ok ≡ true
+pub within-takes : (r : Reader) (kind : ℕ) (b : Bool) (x : Taken) → Firm r × (ReadsFor r b × (kind ≡ 28 → ⊥)) → scripts.Stepped (whichVisit b) (r .script) kind x → x .ok ≡ true
     → AnswerIs r kind (yes-to (reader (r .draft) (x .script)))
 within-takes r kind b x h i y = record {
-  firm = record { sound = h .0 .sound; standing = script-stands (visit b) (r .script) kind x i y };
+  firm = record { sound = h .0 .sound; standing = script-stands (whichVisit b) (r .script) kind x i y };
   told = λ s t u w e.
       let l = a-listing s r b u (h .1 .0) in
-      taken-within s r b t (l .0) x u (h .1 .0) (l .1) (stepped-at (visit b) (l .0) t (r .script) kind x (u .program (l .0) (l .1)) w e i) y;
+      taken-within s r b t (l .0) x u (h .1 .0) (l .1) (stepped-at (whichVisit b) (l .0) t (r .script) kind x (u .program (l .0) (l .1)) w e i) y;
 }
 
-pub within-refuses : (r : Reader) (kind : ℕ) (b : Bool) (x : Taken) → Firm r × (ReadsFor r b × (kind ≡ 28 → ⊥)) → scripts.Stepped (visit b) (r .script) kind x → x .ok ≡ false → AnswerIs r kind (no-to r)
+pub within-refuses : (r : Reader) (kind : ℕ) (b : Bool) (x : Taken) → Firm r × (ReadsFor r b × (kind ≡ 28 → ⊥)) → scripts.Stepped (whichVisit b) (r .script) kind x → x .ok ≡ false → AnswerIs r kind (no-to r)
 within-refuses r kind b x h i y = record {
   firm = h .0;
   told = λ s t u w e. stays (λ g.
       let l = a-listing s r b u (h .1 .0) in
-      refused-within s (g .0) b t (l .0) (sketchOf (r .draft)) x (λ z. h .1 .1 (sym e ∙ ap kindOf z)) (stepped-at (visit b) (l .0) t (r .script) kind x (u .program (l .0) (l .1)) w e i) y
-      (program-takes s (g .0) (sketchOf (r .draft)) (visit b) (l .0) t (u .drawn) (l .1) (h .1 .0) (g .1)));
+      refused-within s (g .0) b t (l .0) (sketchOf (r .draft)) x (λ z. h .1 .1 (sym e ∙ ap tokenKind z)) (stepped-at (whichVisit b) (l .0) t (r .script) kind x (u .program (l .0) (l .1)) w e i) y
+      (program-takes s (g .0) (sketchOf (r .draft)) (whichVisit b) (l .0) t (u .drawn) (l .1) (h .1 .0) (g .1)));
 }
 
 -- what the place says
-pub asks-unbraced : (r : Reader) (kind : ℕ) (w : Place) → (kind < kinds) × Firm r → PlaceIs (r .draft .point) w → w .reads ≡ true → Firm r × ReadsAny r
+pub asks-unbraced : (r : Reader) (kind : ℕ) (w : Place) → (kind < kinds) × Firm r → PointIs (r .draft .point) w → w .reads ≡ true → Firm r × ReadsAny r
 asks-unbraced r kind w h p y = (h .1, (w .second, p .program ∙ ap (λ b. programIf b (w .second)) y))
 
-pub asks-within : (r : Reader) (kind : ℕ) (w : Place) → (kind < kinds) × Firm r → PlaceIs (r .draft .point) w → w .reads ≡ true → (kind ≡ 28 → ⊥) → Firm r × (ReadsFor r (w .second) × (kind ≡ 28 → ⊥))
+pub asks-within : (r : Reader) (kind : ℕ) (w : Place) → (kind < kinds) × Firm r → PointIs (r .draft .point) w → w .reads ≡ true → (kind ≡ 28 → ⊥) → Firm r × (ReadsFor r (w .second) × (kind ≡ 28 → ⊥))
 asks-within r kind w h p y n = (h .1, (p .program ∙ ap (λ b. programIf b (w .second)) y, n))
 
-pub asks-outside : (r : Reader) (kind : ℕ) (w : Place) → (kind < kinds) × Firm r → PlaceIs (r .draft .point) w → w .reads ≡ false → (kind < kinds) × (Firm r × Plain r)
+pub asks-outside : (r : Reader) (kind : ℕ) (w : Place) → (kind < kinds) × Firm r → PointIs (r .draft .point) w → w .reads ≡ false → (kind < kinds) × (Firm r × Plain r)
 asks-outside r kind w h p y = (h .0, (h .1, p .program ∙ ap (λ b. programIf b (w .second)) y))
 
 pub as-unbraced : (r : Reader) (kind : ℕ) (a : Answer) → kind ≡ 28 → AnswerIs r 28 a → AnswerIs r kind a

@@ -4,18 +4,18 @@ use mathlib.Core.Bool.{Bool, true, false}
 use mathlib.Core.Option.{none, some}
 use mathlib.Core.List.{List}
 use Prim.Native.Nat.{ℕ}
-use Rattle.notation.specs.Tokens.{Token}
+use Rattle.notation.specs.Tokens.{TextToken}
 use Rattle.reading.specs.Statements.{Listing}
 use Rattle.reading.specs.Rules.{Progress, beginning, valueOfRules}
-use Rattle.lexemes.specs.Kinds.{kindOf, TokenFits}
-use Rattle.verdicts.specs.Judged.{Goes, Takes}
+use Rattle.lexemes.specs.Kinds.{tokenKind, TokenFits}
+use Rattle.verdicts.specs.Judged.{Goes, TakesToken}
 use Rattle.verdicts.specs.Steps.{Marks}
-use Rattle.programs.specs.Parsed.{visit}
+use Rattle.programs.specs.Parsed.{whichVisit}
 use Rattle.sketches.specs.Figures.{present}
 use Rattle.sketches.specs.Moves.{programAt}
 use Rattle.sketches.specs.Sketched.{listingOf}
 use Rattle.sketches.specs.Promises.{Drawn}
-use Rattle.drafts.specs.Drafted.{sketchOf, Sound}
+use Rattle.drafts.specs.Drafted.{sketchOf, SoundDraft}
 use Rattle.scripts.specs.Scripts.{Standing}
 use Rattle.scripts.specs.Promises.{ScriptIs}
 use Rattle.rulings.specs.declared.Reader.{Reader}
@@ -28,12 +28,12 @@ pub record Holds (s : Progress) (r : Reader) : Type 0 where
 
 -- what both are wherever they stand
 pub record Firm (r : Reader) : Type 0 where
-  pub sound : Sound (r .draft)
+  pub sound : SoundDraft (r .draft)
   pub standing : Standing (r .script)
 
 -- a program is being read, for a visit; or none
 abbrev pub ReadsFor : Reader → Bool → Type 0
-ReadsFor r second = programAt (r .draft .point) ≡ some (visit second)
+ReadsFor r second = programAt (r .draft .point) ≡ some (whichVisit second)
 
 abbrev pub ReadsAny : Reader → Type 0
 ReadsAny r = (second : Bool) × ReadsFor r second
@@ -42,18 +42,18 @@ abbrev pub Plain : Reader → Type 0
 Plain r = programAt (r .draft .point) ≡ none
 
 -- the machine takes the token, and the next reader holds where it stands then; or it does not
-pub data Answered (s : Progress) (t : Token) : Answer → Type 0 where
+pub data Answered (s : Progress) (t : TextToken) : Answer → Type 0 where
   goes : {r : Reader} (s′ : Progress) → Goes s t s′ → Holds s′ r → Answered s t (record { taken = true; reader = r })
-  stays : {r : Reader} → (Takes s t → ⊥) → Answered s t (record { taken = false; reader = r })
+  stays : {r : Reader} → (TakesToken s t → ⊥) → Answered s t (record { taken = false; reader = r })
 
 -- whichever state it is, and whichever token of the kind
 pub record AnswerIs (r : Reader) (kind : ℕ) (a : Answer) : Type 0 where
   pub firm : Firm (a .reader)
-  pub told : (s : Progress) (t : Token) → Holds s r → TokenFits t → kindOf t ≡ kind → Answered s t a
+  pub told : (s : Progress) (t : TextToken) → Holds s r → TokenFits t → tokenKind t ≡ kind → Answered s t a
 
 -- the row of kinds that the machine takes
-abbrev pub RowIs : Reader → List Bool → Type 0
-RowIs r may = (s : Progress) → Holds s r → Marks s may
+abbrev pub KindsTaken : Reader → List Bool → Type 0
+KindsTaken r may = (s : Progress) → Holds s r → Marks s may
 
 -- before the first token
 pub record StartIs (r : Reader) : Type 0 where

@@ -2,7 +2,7 @@
 ghost use mathlib.Core.Path.{_≡_};
 ghost use Prim.Native.Nat.{_<_};
 ghost use Rattle.lexemes.specs.Kinds.{kinds};
-ghost use Rattle.rulings.specs.Readers.{Firm, ReadsAny, ReadsFor, Plain, AnswerIs, RowIs, StartIs, EndIs};
+ghost use Rattle.rulings.specs.Readers.{Firm, ReadsAny, ReadsFor, Plain, AnswerIs, KindsTaken, StartIs, EndIs};
 
 pub struct Reader {
     pub draft: drafts::Draft,
@@ -117,7 +117,7 @@ pub fn start() -> Reader
 // The kinds of token that may come.
 pub fn row(r: Reader) -> [bool; 35]
     requires { ⌜ Firm r ⌝ }
-    ensures { λ m. ⌜ RowIs r m ⌝ }
+    ensures { λ m. ⌜ KindsTaken r m ⌝ }
 {
     let d = r.draft;
     let p = d.point;

@@ -19,7 +19,7 @@ use Rattle.expressions.specs.Grammar.{contentOf}
 use Rattle.runs.specs.Lookup.{tagOf, find}
 use Rattle.runs.specs.Visits.{grammar}
 use Rattle.runs.specs.Events.{Event, starts, ends, letter, openTags}
-use Rattle.runs.specs.Parse.{yield, depth}
+use Rattle.runs.specs.Parse.{yield, elementDepth}
 use Rattle.runs.specs.Way.{Way, endWay, atomWay}
 use Rattle.runs.specs.Acts.{Act, start-tag, bracket-acts, Store, fresh-store, acts}
 use Rattle.runs.specs.Machine.{Open, at-place, at-start, Control, before, inside, after, Turn, refuse, go, outer, opening-up, start-at, start-by, root-by, productionFor, end-by, same-tag, own-tag, char-by, move, most, Configuration, fresh-configuration, Answer, took, refused, acted, turned, step, finished, stopped, onward, answered, run}
@@ -100,9 +100,9 @@ module _ (g : List Production) (n lim : ℕ) where
       begun-by c m b =
           ⊎-elim
           (λ t. let o : Of-tree g n lim xs bs = t .0 in (
-            depth (o .root),
-            subst (λ (z : List Event). Allowed g n z bs (depth (o .root))) (o .are-events)
-                (subst (λ (z : List Act). Allowed g n (yield (o .root)) z (depth (o .root))) (o .are-acts) (whole (o .root))),
+            elementDepth (o .root),
+            subst (λ (z : List Event). Allowed g n z bs (elementDepth (o .root))) (o .are-events)
+                (subst (λ (z : List Act). Allowed g n (yield (o .root)) z (elementDepth (o .root))) (o .are-acts) (whole (o .root))),
             o .fits,
           ))
           (λ t. let o : Of-open g n lim xs bs = t .0 in (o .deep, begun (o .root), o .fits))
@@ -264,7 +264,7 @@ module _ (s : Sheet) (ok : Passed s) (xs : List Event) (z : Configuration) (ran 
   -- the root is closed exactly where the control stands after it
   pub closed-after : RootClosed s xs → z .control ≡ after
   closed-after r =
-      let wide : ℕ = max most (depth (r .0)) in
+      let wide : ℕ = max most (elementDepth (r .0)) in
       let m = complete g n wide noT noS (r .0) (omega arith) in
       moves-one (moves-wider g n most wide (omega arith) (taken .moved)) (subst (λ (ys : List Event). Moves g n wide before ys (line (r .0)) after) (r .1) m) .1
 

@@ -16,7 +16,7 @@ use Rattle.expressions.specs.Grammar.{tag, character, canBe, Production, tagsOf
 use Rattle.expressions.specs.Grammar.{contentOf}
 use Rattle.runs.specs.Lookup.{tagOf, produces, find}
 use Rattle.runs.specs.Events.{Event, starts, ends, letter}
-use Rattle.runs.specs.Parse.{Element, element, Children, yield, yieldC, depth, depthC}
+use Rattle.runs.specs.Parse.{Element, element, Children, yield, yieldC, elementDepth, depthC}
 use Rattle.runs.specs.Way.{Way}
 use Rattle.runs.specs.Acts.{Act, start-tag, end-tag, letter-read, bracket-acts}
 use Rattle.runs.specs.Machine.{Open, at-start, Control, before, inside, after, refuse, go, outer, root-by, move}
@@ -252,7 +252,7 @@ module _ (g : List Production) (n lim : ℕ) (fin : Control) where
             ap (λ (z : List Act). start-tag q′ ∷ z) (B .are-acts ∙ ap (λ (z : List Act). z ++ end-tag q′ ∷ B .later-acts) (sym y1)
             ∙ sym (append-assoc (lineC (P .0) q′) (end-tag q′ ∷ []) (B .later-acts)))
 
-        whole-depth : (xs : List Event) (cs : List Act) (B : Back q′ (open-at q j ∷ os) [] xs cs) → suc (length os) + depth (whole xs cs B) ≤ lim
+        whole-depth : (xs : List Event) (cs : List Act) (B : Back q′ (open-at q j ∷ os) [] xs cs) → suc (length os) + elementDepth (whole xs cs B) ≤ lim
         whole-depth xs cs B =
             let P = unflatC (contentOf g q′) (B .parts) (B .word) in
             let z1 : depthC (P .0) ≡ depths (B .parts) = flatC-depth (P .0) ∙ ap depths (P .1) in
@@ -299,7 +299,7 @@ module _ (g : List Production) (n lim : ℕ) (fin : Control) where
             let fit₁ = whole-depth xs cs B₁ in
             let fit₂ : suc (length os) + S .deep ≤ lim = S .fits in
             record {
-              deep = max (depth E) (S .deep);
+              deep = max (elementDepth E) (S .deep);
               still = still-is (sym (whole-events xs cs B₁))
                   (sym (append-assoc (bracket-acts q α) (start-tag q′ ∷ []) cs ∙ ap (λ (z : List Act). bracket-acts q α ++ z) (whole-acts xs cs B₁)))
                   refl (before-still q u α (filled j m E) tt (S .still));
@@ -404,7 +404,7 @@ pub record Of-tree (g : List Production) (n lim : ℕ) (xs : List Event) (bs : L
   pub root : Element g n
   pub are-events : yield root ≡ xs
   pub are-acts : line root ≡ bs
-  pub fits : depth root ≤ lim
+  pub fits : elementDepth root ≤ lim
 
 pub record Of-open (g : List Production) (n lim : ℕ) (xs : List Event) (bs : List Act) : Type 0 where
   pub deep : ℕ

@@ -15,7 +15,7 @@ use Rattle.runs.specs.Lookup.{find}
 use Rattle.sheet.specs.Sheet.{Sheet}
 use Rattle.runs.specs.Visits.{grammar}
 use Rattle.runs.specs.Events.{Event, starts, ends, letter}
-use Rattle.runs.specs.Parse.{Element, yield, depth}
+use Rattle.runs.specs.Parse.{Element, yield, elementDepth}
 use Rattle.runs.specs.Way.{Way}
 use Rattle.runs.specs.Acts.{Act, Store, fresh-store, acts}
 use Rattle.runs.specs.Machine.{Open, Control, before, inside, after, Turn, refuse, go, outer, root-by, move, most, Configuration, fresh-configuration, refused, acted, turned, finished, run}
@@ -40,7 +40,7 @@ Text = List Sym
 not-refused : (g : List Production) (n lim : ℕ) → NoTFault g → NoSFault g → (xs : List Event) (x : Event) (bs : List Act) (c : Control) → Moves g n lim before xs bs c →
     move g n lim c x ≡ refuse 23 → (t : Element g n) (ys : List Event) → yield t ≡ xs ++ x ∷ ys → ⊥
 not-refused g n lim keeps-T keeps-S xs x bs c m r t ys e =
-    let wide : ℕ = max lim (depth t) in
+    let wide : ℕ = max lim (elementDepth t) in
     let s = split xs x ys (complete g n wide keeps-T keeps-S t (omega arith)) e in
     let same = moves-one (moves-wider g n lim wide (omega arith) m) (s .first-half) in
     refuse-go (s .now) (s .to) (sym (sym (s .moved) ∙ ap (λ (z : Control). move g n wide z x) (sym (same .1)) ∙ same-refusal g n lim wide (omega arith) 23 (λ q. omega arith) c x r))

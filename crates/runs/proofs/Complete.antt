@@ -18,7 +18,7 @@ use Rattle.expressions.specs.Decide.{count}
 use Rattle.expressions.specs.Grammar.{contentOf}
 use Rattle.runs.specs.Lookup.{tagOf, find}
 use Rattle.runs.specs.Events.{Event, starts, ends, letter}
-use Rattle.runs.specs.Parse.{Element, element, Children, childless, children, Parse, child, one-char, pair, first-of, second-of, repeat, void, Parses, done, next, yield, yieldC, depth, depthC}
+use Rattle.runs.specs.Parse.{Element, element, Children, childless, children, Parse, child, one-char, pair, first-of, second-of, repeat, void, Parses, done, next, yield, yieldC, elementDepth, depthC}
 use Rattle.runs.specs.Way.{Way, endWay, atomWay}
 use Rattle.runs.specs.Acts.{Act, start-tag, end-tag, letter-read, bracket-act, bracket-acts}
 use Rattle.runs.specs.Machine.{Open, at-start, before, inside, after, go, outer, opening-up, start-at, start-by, root-by, end-by, own-tag, char-by, move}
@@ -187,6 +187,6 @@ module _ (g : List Production) (n lim : ℕ) (no-T : NoTFault g) (no-S : NoSFaul
     bodyPs done i j = tt
     bodyPs (next p ps) i j = all-append (flat p i j) (flats ps i j) (bodyP p i j) (bodyPs ps i j)
 
-  pub complete : (t : Element g n) → depth t ≤ lim → Moves g n lim before (yield t) (line t) after
+  pub complete : (t : Element g n) → elementDepth t ≤ lim → Moves g n lim before (yield t) (line t) after
   complete (element q h c) d =
       then (starts (some (tagOf g q))) (start-tag q ∷ []) (ap root-by (find-it g no-T n q h)) (body (element q h c) [] (omega arith))

@@ -15,7 +15,7 @@ use Rattle.runs.specs.Options.{bind}
 use Rattle.runs.specs.Execute.{Effect}
 use Rattle.runs.specs.Visits.{Env, Saved, saved, programsOf, tagName, performed, visited, visit, echoed, returned, opens, revisits, closes, enters, leaves}
 use Rattle.runs.specs.Parse.{Element, element, Children, childless, children, Parse, child, one-char, pair, first-of, second-of, repeat, void, Parses, done, next, size, sizeC, sizeP, sizePs}
-use Rattle.runs.specs.Acts.{Act, node-first, node-second, start-tag, end-tag, letter-read, visitsIn, Store, pushed, innermost, without-node, without-element, act, acts}
+use Rattle.runs.specs.Acts.{Act, node-first, node-second, start-tag, end-tag, letter-read, visitsIn, Store, with-node, innermost, without-node, without-element, act, acts}
 use Rattle.runs.specs.Line.{wrap, line, lineC, lineP, linePs}
 
 module _ (s : Sheet) where
@@ -51,7 +51,7 @@ module _ (s : Sheet) where
 
   act-count : (a : Act) (m m′ : Store) → act s a m ≡ some m′ → m′ .env .count ≡ m .env .count + visitsIn (a ∷ [])
   act-count (node-first q i) m m′ e =
-      let h = visit-count [] (programsOf (s .rules) q i .first-visit) (m .env) (m′ .env) (env-of (λ w. pushed (saved (m .env) w) (m .kept)) (opens s q i (m .env)) m′ e) in
+      let h = visit-count [] (programsOf (s .rules) q i .first-visit) (m .env) (m′ .env) (env-of (λ w. with-node (saved (m .env) w) (m .kept)) (opens s q i (m .env)) m′ e) in
       omega arith
   act-count (node-second q i) m m′ e =
       let k : Saved = innermost (m .kept) in

@@ -19,7 +19,7 @@ use Rattle.runs.specs.Options.{bind}
 use Rattle.runs.specs.Execute.{Effect}
 use Rattle.runs.specs.Lookup.{tagOf, find}
 use Rattle.runs.specs.Visits.{grammar, programsOf, tagName, Env, attributes, Saved, saved, performed, visited, visit, whileOn, echoed, returned, opens, revisits, closes, enters, leaves, reads}
-use Rattle.runs.specs.Acts.{Act, node-first, node-second, start-tag, end-tag, letter-read, bracket-acts, Store, fresh-store, pushed, innermost, without-node, without-element, act, acts}
+use Rattle.runs.specs.Acts.{Act, node-first, node-second, start-tag, end-tag, letter-read, bracket-acts, Store, fresh-store, with-node, innermost, without-node, without-element, act, acts}
 use Rattle.runs.specs.Events.{Event, starts, ends, letter}
 use Rattle.runs.specs.Machine.{at-start, Control, before, inside, after, go, root-by, move, most, Configuration, finished, run}
 use Rattle.runs.specs.Fits.{EventsFit, ProgramFits, SheetFits, AllValues, ValuesFit, AllKeptFit, StoreFits, LettersFit}
@@ -86,7 +86,7 @@ module _ (s : Sheet) (ok : SheetFits s) where
   store-ok f F none h = tt
   store-ok f F (some w) h = record { values-fit = h .0; kept-fit = F w h; output-fits = h .1 }
 
-  pushed-fit : (k : Saved) (kss : List (List Saved)) → ValuesFit (k .values) → AllKeptFit kss → AllKeptFit (pushed k kss)
+  pushed-fit : (k : Saved) (kss : List (List Saved)) → ValuesFit (k .values) → AllKeptFit kss → AllKeptFit (with-node k kss)
   pushed-fit k [] h e = tt
   pushed-fit k (ks ∷ kss) h e = ((h, e .0), e .1)
 
@@ -106,7 +106,7 @@ module _ (s : Sheet) (ok : SheetFits s) where
 
   act-ok : (a : Act) → LettersFit (a ∷ []) → (m : Store) → StoreFits m → StoreOk (act s a m)
   act-ok (node-first q i) l m h =
-      store-ok (λ w. pushed (saved (m .env) w) (m .kept)) (λ w e. pushed-fit (saved (m .env) w) (m .kept) (e .0) (h .kept-fit)) (opens s q i (m .env))
+      store-ok (λ w. with-node (saved (m .env) w) (m .kept)) (λ w e. pushed-fit (saved (m .env) w) (m .kept) (e .0) (h .kept-fit)) (opens s q i (m .env))
       (opens-ok q i (m .env) (h .values-fit, h .output-fits))
   act-ok (node-second q i) l m h =
       let k : Saved = innermost (m .kept) in

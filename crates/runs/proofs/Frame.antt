@@ -10,7 +10,7 @@ use Rattle.sheet.specs.Sheet.{Sheet}
 use Rattle.runs.specs.Options.{bind}
 use Rattle.runs.specs.Execute.{Effect}
 use Rattle.runs.specs.Visits.{Env, Saved, saved, programsOf, tagName, performed, visited, visit, whileOn, echoed, returned, opens, revisits, closes, enters, leaves, reads, behind}
-use Rattle.runs.specs.Acts.{Act, node-first, node-second, start-tag, end-tag, letter-read, Store, pushed, innermost, without-node, without-element, act, acts, store-behind}
+use Rattle.runs.specs.Acts.{Act, node-first, node-second, start-tag, end-tag, letter-read, Store, with-node, innermost, without-node, without-element, act, acts, store-behind}
 
 abbrev env-behind : List Piece → Option Env → Option Env
 env-behind o v = bind v (λ w. some (behind o w))
@@ -63,7 +63,7 @@ module _ (s : Sheet) (o : List Piece) where
 
   act-frame : (a : Act) (m : Store) → act s a (store-behind o m) ≡ bind (act s a m) (λ m′. some (store-behind o m′))
   act-frame (node-first q i) m =
-      store-frame (opens s q i) (λ w. pushed (saved (m .env) w) (m .kept)) (visit-frame [] (programsOf (s .rules) q i .first-visit)) (λ x. refl) (m .env)
+      store-frame (opens s q i) (λ w. with-node (saved (m .env) w) (m .kept)) (visit-frame [] (programsOf (s .rules) q i .first-visit)) (λ x. refl) (m .env)
   act-frame (node-second q i) m =
       store-frame (closes s q i (innermost (m .kept))) (λ w. without-node (m .kept)) (closes-frame q i (innermost (m .kept))) (λ x. refl) (m .env)
   act-frame (start-tag q) m = store-frame (enters s q) (λ w. (saved (m .env) w ∷ []) ∷ m .kept) (enters-frame q) (λ x. refl) (m .env)

@@ -21,7 +21,7 @@ use Rattle.runs.specs.Options.{bind}
 use Rattle.runs.specs.Events.{Event, starts, ends, letter}
 use Rattle.runs.specs.Way.{Way}
 use Rattle.runs.specs.Nodes.{deepest, only-if, through-nodes, KeptOfAll, KeptAt}
-use Rattle.runs.specs.Acts.{Act, start-tag, end-tag, letter-read, bracket-acts, Store, fresh-store, innermost, without-element, keeping, act, acts}
+use Rattle.runs.specs.Acts.{Act, start-tag, end-tag, letter-read, bracket-acts, Store, fresh-store, innermost, without-element, with-kept, act, acts}
 use Rattle.runs.specs.Machine.{Open, at-place, at-start, Control, before, inside, after, go, outer, root-by, move, Configuration, finished, run, fresh-configuration}
 use Rattle.expressions.proofs.Rule.{Rest}
 use Rattle.runs.proofs.Line.{acts-append}
@@ -92,7 +92,7 @@ char-kept s c h m e = let i : store (h .kept) (echoed (output-character c) (h .e
 end-kept : (s : Sheet) (q : ℕ) (ks : List Saved) (kss : Kept) (h m : Store) → h .kept ≡ ks ∷ kss → act s (end-tag q) h ≡ some m → m .kept ≡ kss
 end-kept s q ks kss h m i e = by (leaves s q (innermost (h .kept)) (h .env)) e
   where
-    by : (o : Option Env) → keeping (without-element (h .kept)) o ≡ some m → m .kept ≡ kss
+    by : (o : Option Env) → with-kept (without-element (h .kept)) o ≡ some m → m .kept ≡ kss
     by none e = absurd (none-some m e)
     by (some w) e = let j : store (without-element (h .kept)) w ≡ m = cc in ap (λ (z : Store). z .kept) (sym j) ∙ ap without-element i
 

@@ -12,7 +12,7 @@ use Rattle.sheet.specs.Sheet.{Sheet}
 use Rattle.runs.specs.Options.{bind}
 use Rattle.runs.specs.Visits.{grammar, Env, fresh}
 use Rattle.runs.specs.Events.{Event}
-use Rattle.runs.specs.Parse.{Element, yield, size, depth, eval}
+use Rattle.runs.specs.Parse.{Element, yield, size, elementDepth, eval}
 use Rattle.runs.specs.Acts.{Act, visitsIn, Store, fresh-store, acts}
 use Rattle.runs.specs.Machine.{Control, before, after, Configuration, acted, fresh-configuration, finished, stopped, answered, run, most}
 use Rattle.runs.specs.Line.{line}
@@ -29,14 +29,14 @@ abbrev kept-nothing : Option Env → Option Store
 kept-nothing o = bind o (λ v. some (record { kept = []; env = v }))
 
 -- the machine on the events of a tree: it rejects where the tree's evaluation does, and otherwise comes to the same
-run-tree : (s : Sheet) → Passed s → (t : Element (grammar s) (s .start-nonterminal)) → depth t ≤ most →
+run-tree : (s : Sheet) → Passed s → (t : Element (grammar s) (s .start-nonterminal)) → elementDepth t ≤ most →
     answered (run s fresh-configuration (yield t)) ≡ acted after (kept-nothing (eval t s fresh))
 run-tree s ok t d =
     run-moves s (complete (grammar s) (s .start-nonterminal) most (no-T (grammar s) (ok .keeps-T)) (no-S (grammar s) (ok .keeps-S)) t d) fresh-store
     ∙ ap (acted after) (line-eval t s [] fresh)
 
 -- on the events of a tree whose evaluation rejects the machine stops with 25
-pub rejected : (s : Sheet) → Passed s → (t : Element (grammar s) (s .start-nonterminal)) → depth t ≤ most → eval t s fresh ≡ none →
+pub rejected : (s : Sheet) → Passed s → (t : Element (grammar s) (s .start-nonterminal)) → elementDepth t ≤ most → eval t s fresh ≡ none →
     (z : Configuration) × (left : List Event) × (run s fresh-configuration (yield t) ≡ stopped 25 z left)
 rejected s ok t d e = run-stops (run s fresh-configuration (yield t)) 25 (run-tree s ok t d ∙ ap (λ (o : Option Env). acted after (kept-nothing o)) e)
 

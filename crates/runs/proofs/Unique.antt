@@ -11,7 +11,7 @@ use Rattle.expressions.specs.Grammar.{Production}
 use Rattle.expressions.specs.Grammar.{contentOf}
 use Rattle.runs.specs.Lookup.{produces}
 use Rattle.runs.specs.Events.{Event}
-use Rattle.runs.specs.Parse.{Element, element, Children, childless, children, Parse, child, one-char, pair, first-of, second-of, repeat, void, Parses, done, next, yield, depth}
+use Rattle.runs.specs.Parse.{Element, element, Children, childless, children, Parse, child, one-char, pair, first-of, second-of, repeat, void, Parses, done, next, yield, elementDepth}
 use Rattle.runs.specs.Acts.{Act, node-first, node-second, end-tag, letter-read}
 use Rattle.runs.specs.Machine.{before, after}
 use Rattle.runs.specs.Line.{wrap, line, lineC, lineP, linePs}
@@ -127,7 +127,7 @@ line-one t t′ e = inj t t′ [] [] (ap (λ (z : Acts). z ++ []) e) .0
 -- under rules T and S an event sequence has one parse tree at most
 pub tree-one : (g : List Production) (n : ℕ) → NoTFault g → NoSFault g → (t t′ : Element g n) → yield t ≡ yield t′ → t ≡ t′
 tree-one g n no-T no-S t t′ e =
-    let lim : ℕ = max (depth t) (depth t′) in
+    let lim : ℕ = max (elementDepth t) (elementDepth t′) in
     let a = complete g n lim no-T no-S t (omega arith) in
     let b = complete g n lim no-T no-S t′ (omega arith) in
     line-one t t′ (moves-one a (subst (λ (z : List Event). Moves g n lim before z (line t′) after) (sym e) b) .0)

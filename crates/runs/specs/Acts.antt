@@ -43,9 +43,9 @@ pub record Store : Type 0 where
 abbrev pub fresh-store : Store
 fresh-store = record { kept = []; env = fresh }
 
-abbrev pub pushed : Saved → List (List Saved) → List (List Saved)
-pushed k [] = []
-pushed k (ks ∷ kss) = (k ∷ ks) ∷ kss
+abbrev pub with-node : Saved → List (List Saved) → List (List Saved)
+with-node k [] = []
+with-node k (ks ∷ kss) = (k ∷ ks) ∷ kss
 
 -- what is kept of the innermost open node. In every run something is kept where a node closes
 abbrev pub nothing-kept : Saved
@@ -65,17 +65,17 @@ abbrev pub without-element : List (List Saved) → List (List Saved)
 without-element [] = []
 without-element (ks ∷ kss) = kss
 
-abbrev pub keeping : List (List Saved) → Option Env → Option Store
-keeping kss o = bind o (λ w. some (record { kept = kss; env = w }))
+abbrev pub with-kept : List (List Saved) → Option Env → Option Store
+with-kept kss o = bind o (λ w. some (record { kept = kss; env = w }))
 
 -- none is always a program's rejection
 abbrev pub act : Sheet → Act → Store → Option Store
 act s (node-first q i) m =
-    bind (opens s q i (m .env)) (λ w. some (record { kept = pushed (saved (m .env) w) (m .kept); env = w }))
-act s (node-second q i) m = keeping (without-node (m .kept)) (closes s q i (innermost (m .kept)) (m .env))
+    bind (opens s q i (m .env)) (λ w. some (record { kept = with-node (saved (m .env) w) (m .kept); env = w }))
+act s (node-second q i) m = with-kept (without-node (m .kept)) (closes s q i (innermost (m .kept)) (m .env))
 act s (start-tag q) m = bind (enters s q (m .env)) (λ w. some (record { kept = (saved (m .env) w ∷ []) ∷ m .kept; env = w }))
-act s (end-tag q) m = keeping (without-element (m .kept)) (leaves s q (innermost (m .kept)) (m .env))
-act s (letter-read c) m = keeping (m .kept) (reads s c (m .env))
+act s (end-tag q) m = with-kept (without-element (m .kept)) (leaves s q (innermost (m .kept)) (m .env))
+act s (letter-read c) m = with-kept (m .kept) (reads s c (m .env))
 
 abbrev pub acts : Sheet → List Act → Store → Option Store
 acts s [] m = some m

@@ -63,8 +63,8 @@ child-of n = atom (nonterminal n)
 abbrev pub book : List ℕ
 book = 98 ∷ 111 ∷ 111 ∷ 107 ∷ []
 
-abbrev pub a : List ℕ
-a = 97 ∷ []
+abbrev pub nameA : List ℕ
+nameA = 97 ∷ []
 
 abbrev pub open-tag : ℕ → Token
 open-tag t = start-token (some t)
@@ -87,7 +87,7 @@ current-is v = equal (current 0) (constant v)
 -- root's second visit prints its start tag where it recalls one while neither one nor three is current, and keeps in attribute 1 what it recalls
 abbrev pub recalling : Sheet
 recalling =
-    sheet-of (a ∷ book ∷ [])
+    sheet-of (nameA ∷ book ∷ [])
     (rule 0 (tree (child-of 1))
     (two-visits (become 0 1 ∷ [])
     (branch (both (equal (recalled 0) (constant 1)) (negated (either (current-is 1) (current-is 3)))) (program (print-start 0 ∷ [])) done ∷ recall 1 0 ∷ []))
@@ -96,18 +96,18 @@ recalling =
 -- text, then books: echo is on in the root's first visit, and off in that of book*, node 4
 abbrev pub echoing : Sheet
 echoing =
-    sheet-of (a ∷ book ∷ [])
+    sheet-of (nameA ∷ book ∷ [])
     (rule-with 0 (tree (cat (star (atom anychar)) (star (child-of 1)))) (first-only (echo true ∷ []))
     (no-programs ∷ no-programs ∷ no-programs ∷ first-only (echo false ∷ []) ∷ no-programs ∷ [])
     ∷ rule 1 nothing no-programs ∷ [])
 
 -- n0 ::= a(n0): a sheet may pass and have no tree
 abbrev pub endless : Sheet
-endless = sheet-of (a ∷ []) (rule 0 (tree (child-of 0)) no-programs ∷ [])
+endless = sheet-of (nameA ∷ []) (rule 0 (tree (child-of 0)) no-programs ∷ [])
 
 -- books, each of which is empty
 abbrev pub books : Sheet
-books = sheet-of (a ∷ book ∷ []) (rule 0 (tree (star (child-of 1))) (first-only (echo true ∷ [])) ∷ rule 1 nothing no-programs ∷ [])
+books = sheet-of (nameA ∷ book ∷ []) (rule 0 (tree (star (child-of 1))) (first-only (echo true ∷ [])) ∷ rule 1 nothing no-programs ∷ [])
 
 abbrev pub starts-of-a : ℕ → List Event
 starts-of-a zero = []
@@ -116,7 +116,7 @@ starts-of-a (suc k) = starts (some 0) ∷ starts-of-a k
 -- printed text: the characters A and ≤ from a string
 abbrev pub printing : Sheet
 printing = record {
-  names = a ∷ [];
+  names = nameA ∷ [];
   rules = rule 0 nothing (first-only (print-text 1 4 ∷ [])) ∷ [];
   strings = 0 ∷ 65 ∷ 0xE2 ∷ 0x89 ∷ 0xA4 ∷ [];
   start-nonterminal = 0;
@@ -125,12 +125,12 @@ printing = record {
 abbrev pub examples : List Run
 examples =
     -- white space around the root and inside it is no event
-    accepts recalling (literal 32 ∷ open-tag 0 ∷ literal 9 ∷ empty-tag 1 ∷ close-tag 0 ∷ literal 10 ∷ []) (ended (2 ∷ 1 ∷ 2 ∷ []) (start a ∷ []) 6)
+    accepts recalling (literal 32 ∷ open-tag 0 ∷ literal 9 ∷ empty-tag 1 ∷ close-tag 0 ∷ literal 10 ∷ []) (ended (2 ∷ 1 ∷ 2 ∷ []) (start nameA ∷ []) 6)
     -- also in an element that only happens to be empty; in one whose production has no nodes it is refused
-    ∷ accepts books (open-tag 0 ∷ literal 32 ∷ close-tag 0 ∷ []) (ended [] (start a ∷ end a ∷ []) 4)
-    ∷ halts books (open-tag 0 ∷ open-tag 1 ∷ literal 32 ∷ close-tag 1 ∷ []) 23 (start a ∷ start book ∷ []) (literal 32 ∷ close-tag 1 ∷ [])
+    ∷ accepts books (open-tag 0 ∷ literal 32 ∷ close-tag 0 ∷ []) (ended [] (start nameA ∷ end nameA ∷ []) 4)
+    ∷ halts books (open-tag 0 ∷ open-tag 1 ∷ literal 32 ∷ close-tag 1 ∷ []) 23 (start nameA ∷ start book ∷ []) (literal 32 ∷ close-tag 1 ∷ [])
     -- beside text it is a character
-    ∷ accepts echoing (open-tag 0 ∷ literal 32 ∷ empty-tag 1 ∷ close-tag 0 ∷ []) (ended [] (start a ∷ character 32 ∷ end a ∷ []) 14)
+    ∷ accepts echoing (open-tag 0 ∷ literal 32 ∷ empty-tag 1 ∷ close-tag 0 ∷ []) (ended [] (start nameA ∷ character 32 ∷ end nameA ∷ []) 14)
     ∷ accepts printing (empty-tag 0 ∷ []) (ended [] (character 65 ∷ character 0x2264 ∷ []) 2)
     -- the 33rd open element
     ∷ refuses endless (starts-of-a 33) 24 [] (starts (some 0) ∷ [])

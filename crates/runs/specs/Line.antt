@@ -10,7 +10,7 @@ use Rattle.expressions.specs.Grammar.{Production}
 use Rattle.expressions.specs.Grammar.{contentOf}
 use Rattle.runs.specs.Lookup.{tagOf, produces}
 use Rattle.runs.specs.Events.{Event, starts, letter}
-use Rattle.runs.specs.Parse.{Element, element, Children, childless, children, Parse, child, one-char, pair, first-of, second-of, repeat, void, Parses, done, next, yield, depth}
+use Rattle.runs.specs.Parse.{Element, element, Children, childless, children, Parse, child, one-char, pair, first-of, second-of, repeat, void, Parses, done, next, yield, elementDepth}
 use Rattle.runs.specs.Acts.{Act, node-first, node-second, start-tag, end-tag, letter-read, bracket-act}
 
 abbrev pub wrap : ℕ → ℕ → List Act → List Act
@@ -73,7 +73,7 @@ module _ {g : List Production} where
 
   abbrev pub depthOf : Part g → ℕ
   depthOf (mark c) = 0
-  depthOf (filled j n t) = depth t
+  depthOf (filled j n t) = elementDepth t
   depthOf (lettered j c) = 0
 
   abbrev pub depths : List (Part g) → ℕ

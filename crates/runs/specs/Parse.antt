@@ -82,15 +82,15 @@ abbrev mutual
 
 -- how many elements stand inside each other at most
 abbrev mutual
-  pub depth : {g : List Production} {n : ℕ} → Element g n → ℕ
-  depth (element q h c) = suc (depthC c)
+  pub elementDepth : {g : List Production} {n : ℕ} → Element g n → ℕ
+  elementDepth (element q h c) = suc (depthC c)
 
   pub depthC : {g : List Production} {c : Content} → Children g c → ℕ
   depthC childless = 0
   depthC (children p) = depthP p
 
   pub depthP : {g : List Production} {e : Exp} → Parse g e → ℕ
-  depthP (child t) = depth t
+  depthP (child t) = elementDepth t
   depthP (one-char c) = 0
   depthP (pair a b) = max (depthP a) (depthP b)
   depthP (first-of a) = depthP a

@@ -13,7 +13,7 @@ use Rattle.expressions.specs.Grammar.{contentOf}
 use Rattle.runs.specs.Lookup.{tagOf}
 use Rattle.runs.specs.Visits.{grammar, Env, fresh}
 use Rattle.runs.specs.Events.{Event, starts, ends, letter}
-use Rattle.runs.specs.Parse.{Element, element, Children, childless, children, Parse, child, one-char, pair, first-of, second-of, repeat, void, Parses, done, next, depth, eval}
+use Rattle.runs.specs.Parse.{Element, element, Children, childless, children, Parse, child, one-char, pair, first-of, second-of, repeat, void, Parses, done, next, elementDepth, eval}
 use Rattle.runs.specs.Machine.{Control, before, inside, after, most, Configuration, Answer, took, refused, answered, run}
 
 -- a tag is its number, and none where the sheet has no tag of that name
@@ -101,7 +101,7 @@ pub data Spells (last : Bool) : List Mark → List Token → Type 0 where
 pub record Spelled (s : Sheet) (ts : List Token) (v : Env) : Type 0 where
   pub root : Element (grammar s) (s .start-nonterminal)
   pub spells : Spells true (marks root true) ts
-  pub fits : depth root ≤ most
+  pub fits : elementDepth root ≤ most
   pub value : eval root s fresh ≡ some v
 
 -- the machine over tokens

@@ -12,7 +12,7 @@ use Rattle.sheet.specs.Sheet.{Sheet}
 use Rattle.expressions.specs.Grammar.{contentOf}
 use Rattle.runs.specs.Visits.{grammar, Env, fresh}
 use Rattle.runs.specs.Events.{Event, ends, OpenTags, openTags}
-use Rattle.runs.specs.Parse.{Element, yield, depth, eval}
+use Rattle.runs.specs.Parse.{Element, yield, elementDepth, eval}
 use Rattle.runs.specs.Acts.{Act, Store, fresh-store, acts}
 use Rattle.runs.specs.Machine.{Configuration, after, most}
 use Rattle.runs.specs.Line.{line, Opened}
@@ -26,7 +26,7 @@ pub record Passed (s : Sheet) : Type 0 where
 pub record ParsedTo (s : Sheet) (xs : List Event) (v : Env) : Type 0 where
   pub root : Element (grammar s) (s .start-nonterminal)
   pub are-events : yield root ≡ xs
-  pub fits : depth root ≤ most
+  pub fits : elementDepth root ≤ most
   pub value : eval root s fresh ≡ some v
 
 -- the root is closed, and nothing is kept
@@ -37,7 +37,7 @@ closed-with v = record { control = after; store = record { kept = []; env = v } 
 -- them, or an open tree, whether or not any tree goes on from it
 pub data Allowed (g : List Production) (n : ℕ) : List Event → List Act → ℕ → Type 0 where
   no-event : Allowed g n [] [] 0
-  whole : (t : Element g n) → Allowed g n (yield t) (line t) (depth t)
+  whole : (t : Element g n) → Allowed g n (yield t) (line t) (elementDepth t)
   begun : {xs : List Event} {bs : List Act} {d : ℕ} → Opened g n xs bs d → Allowed g n xs bs d
 
 -- the events so far are allowed within the limit, none of the acts that they ask for rejects, and m is what they come to

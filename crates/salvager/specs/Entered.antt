@@ -12,7 +12,7 @@ use Rattle.salvage.specs.Shaped.{recordTags}
 use Rattle.state.specs.Bytes.{stateFrom}
 use Rattle.state.specs.Changes.{notClosed}
 use Rattle.rescued.specs.Fits.{SalvageFits}
-use Rattle.rescued.specs.Salvaged.{GivenBack}
+use Rattle.rescued.specs.Salvaged.{SalvageGivenBack}
 
 -- the sheet passes and is of the shape, and the bytes fit it and are not closed
 pub record MaySalvage (s b area part : List ℕ) : Type 0 where
@@ -27,4 +27,4 @@ pub record MaySalvage (s b area part : List ℕ) : Type 0 where
 -- whatever else is lent
 pub data SalvageEntered (s b area part : List ℕ) : ℕ → Type 0 where
   may-run : MaySalvage s b area part → SalvageEntered s b area part 0
-  given-back : {n : ℕ} → 1 ≤ n → ((out report : List ℕ) → GivenBack s part (record { state = b; output = out; area = area; report = report }) n) → SalvageEntered s b area part n
+  given-back : {n : ℕ} → 1 ≤ n → ((out report : List ℕ) → SalvageGivenBack s part (record { state = b; output = out; area = area; report = report }) n) → SalvageEntered s b area part n

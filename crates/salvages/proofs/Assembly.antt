@@ -30,16 +30,16 @@ use Rattle.rescue.specs.Held.{Mode, HeldSalvage, Rescued}
 use Rattle.rescue.specs.Call.{Rescues, RescuedBy, setting}
 use Rattle.rescued.specs.Bytes.{modeAt, passedAt, salvageWidth, modeFrom, salvageIn, modeBytes, areaAfter, entryWidth, reportBytes}
 use Rattle.rescued.specs.Fits.{SalvageFits}
-use Rattle.rescued.specs.Salvaged.{Put, Ran}
+use Rattle.rescued.specs.Salvaged.{Put, SalvageRan}
 use Rattle.rescued.specs.declared.SalvageCounts.{SalvageCounts}
 use Rattle.turns.specs.declared.Stand.{Stand}
 use Rattle.turns.specs.declared.Given.{Given}
-use Rattle.turns.specs.Stands.{modeOf, Stands, HoldsIn, holds-between, holds-inside, holds-skipping, Grounds, ReadyOn, Ready}
+use Rattle.turns.specs.Stands.{modeOf, RunStands, HoldsIn, holds-between, holds-inside, holds-skipping, Grounds, ReadyOn, Ready}
 use Rattle.holding.specs.Told.{StandAs}
 use Rattle.resting.specs.Laid.{StandPut}
 use Rattle.strides.proofs.Basics.{stands-same, mode-same}
 use Rattle.rescuer.specs.declared.Ending.{Ending}
-use Rattle.rescuer.specs.Ran.{atStart, RanOn, RanAs}
+use Rattle.rescuer.specs.Ran.{atStart, RanOn, StepsRanAs}
 use Rattle.rescuer.proofs.Going.{report-width}
 use Rattle.salvager.specs.Entered.{MaySalvage}
 use Rattle.handback.specs.Begun.{BegunAs}
@@ -120,7 +120,7 @@ module _ {s part b area : List ℕ} (M : MaySalvage s b area part) (g : Given) (
 
 -- ---- after it
 module _ {s part b out area rep : List ℕ} (M : MaySalvage s b area part) (g : Given) (t : Stand) (base : g .base ≡ longAt b passedAt) (K : StandAs b t)
-    (stack out′ area₁ rep′ : List ℕ) (r : Ending) (W : RanAs s g part t (lentFrames b) stack out out′ area area₁ rep rep′ r)
+    (stack out′ area₁ rep′ : List ℕ) (r : Ending) (W : StepsRanAs s g part t (lentFrames b) stack out out′ area area₁ rep rep′ r)
     (sl : length stack ≡ length (lentFrames b)) (ol : length out′ ≡ length out) (rl : length rep′ ≡ length rep) where
   abbrev G : Grounds s (g .tag)
   G = W .grounds
@@ -179,7 +179,7 @@ module _ {s part b out area rep : List ℕ} (M : MaySalvage s b area part) (g : 
 
   pub ran-here : (left : Live) (b′ area′ : List ℕ) (v : ℕ) → left ≡ leftLive (r .number) (r .stand .live) → StandPut (r .stand) left (g .base + r .place .at) (withFrames b stack) b′ →
       area′ ≡ put true area₁ (r .stand .waits) (replicate (r .deep - r .stand .waits) 0) → v ≡ stateFrom b′ .count →
-      Ran s part (g .ended) (lending b out area rep) (lending b′ out′ area′ rep′)
+      SalvageRan s part (g .ended) (lending b out area rep) (lending b′ out′ area′ rep′)
       (record { number = r .number; taken = r .place .at; written = r .place .put; reported = r .place .told; waited = r .deep; visits = v })
   ran-here left b′ area′ v e P f c =
       record {

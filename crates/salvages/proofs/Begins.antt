@@ -26,10 +26,10 @@ use Rattle.converter.specs.Answered.{FitsSheet}
 use Rattle.converter.proofs.Replies.{some-inj}
 use Rattle.rescued.specs.Bytes.{modeAt, returningBytes, returningIn}
 use Rattle.rescued.specs.Fits.{ModeFits}
-use Rattle.rescued.specs.Salvaged.{GivenBack, SalvagedAs, as-given}
+use Rattle.rescued.specs.Salvaged.{SalvageGivenBack, SalvagedAs, as-given}
 use Rattle.rescued.specs.declared.SalvageCounts.{SalvageCounts}
 use Rattle.turns.specs.Stands.{Grounds}
-use Rattle.rescuer.specs.Ran.{Marked}
+use Rattle.rescuer.specs.Ran.{ResumptionIs}
 use Rattle.salvager.specs.Entered.{MaySalvage, SalvageEntered, may-run, given-back}
 use Rattle.salvages.specs.Lending.{lending, untouchedWith}
 
@@ -63,7 +63,7 @@ module _ {s b area part : List ℕ} (M : MaySalvage s b area part) where
     same-tags : (G : Grounds s tag) → tags ≡ G .tags
     same-tags G = some-inj (T .is (G .sheet) (G .is-sheet) ∙ G .of-shape)
 
-    pub marked-here : (start end : List ℕ) (n k : ℕ) → MarkPut s tag false start n → MarkPut s root true end k → Marked s tag (take n start) (take k end)
+    pub marked-here : (start end : List ℕ) (n k : ℕ) → MarkPut s tag false start n → MarkPut s root true end k → ResumptionIs s tag (take n start) (take k end)
     marked-here start end n k P Q =
         record {
           start-is = λ G. P .is (G .sheet) (G .is-sheet) ∙ marks (G .is-sheet) .record-start ∙ ap (recordStart (G .sheet)) (same-tags G);
@@ -76,7 +76,7 @@ module _ {s b area part : List ℕ} where
   entered-run (may-run m) e = m
   entered-run (given-back k f) e = absurd (omega arith)
 
-  entered-back : {n : ℕ} → SalvageEntered s b area part n → (n ≡ 0 → ⊥) → (out rep : List ℕ) → GivenBack s part (lending b out area rep) n
+  entered-back : {n : ℕ} → SalvageEntered s b area part n → (n ≡ 0 → ⊥) → (out rep : List ℕ) → SalvageGivenBack s part (lending b out area rep) n
   entered-back (may-run m) h out rep = absurd (h refl)
   entered-back (given-back k f) h out rep = f out rep
 

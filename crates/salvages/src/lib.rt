@@ -8,9 +8,9 @@ ghost use Rattle.shapes.specs.Told.{ShapeTold};
 ghost use Rattle.shapes.specs.declared.Shape.the-variants.{Records};
 ghost use Rattle.turns.specs.Stands.{Grounds};
 ghost use Rattle.holding.specs.Told.{StandAs};
-ghost use Rattle.rescuer.specs.Ran.{Marked};
+ghost use Rattle.rescuer.specs.Ran.{ResumptionIs};
 ghost use Rattle.rescued.specs.Bytes.{passedAt};
-ghost use Rattle.rescued.specs.Salvaged.{Ran, SalvagedAs};
+ghost use Rattle.rescued.specs.Salvaged.{SalvageRan, SalvagedAs};
 ghost use Rattle.salvager.specs.Entered.{MaySalvage};
 ghost use Rattle.salvages.specs.Lending.{lending, untouchedWith};
 ghost use Rattle.salvages.specs.Started.{SalvageStarted};
@@ -64,10 +64,10 @@ fn run_from(
     requires { ⌜ LaidOut (now s) l ⌝ }
     requires { ⌜ MaySalvage (now s) (now state) (now waiting) (now part) ⌝ }
     requires { ⌜ Grounds (now s) (g .tag) ⌝ }
-    requires { ⌜ Marked (now s) (g .tag) (now start) (now end) ⌝ }
+    requires { ⌜ ResumptionIs (now s) (g .tag) (now start) (now end) ⌝ }
     requires { ⌜ g .base ≡ longAt (now state) passedAt ⌝ }
     requires { ⌜ StandAs (now state) stand ⌝ }
-    ensures { λ r. ⌜ Ran (now (s .entry)) (now (part .entry)) (g .ended) (lending (now (state .entry)) (now (out .entry)) (now (waiting .entry)) (now (report .entry))) (lending (now (state .exit)) (now (out .exit)) (now (waiting .exit)) (now (report .exit))) r ⌝ }
+    ensures { λ r. ⌜ SalvageRan (now (s .entry)) (now (part .entry)) (g .ended) (lending (now (state .entry)) (now (out .entry)) (now (waiting .entry)) (now (report .entry))) (lending (now (state .exit)) (now (out .exit)) (now (waiting .exit)) (now (report .exit))) r ⌝ }
 {
     let frames = State::HEAD;
     let ending = run_steps(
@@ -116,7 +116,7 @@ fn run_bytes(
     requires { ⌜ LaidOut (now s) l ⌝ }
     requires { ⌜ MaySalvage (now s) (now state) (now waiting) (now part) ⌝ }
     requires { ⌜ ShapeTold (now s) (Records root tag) ⌝ }
-    ensures { λ r. ⌜ Ran (now (s .entry)) (now (part .entry)) ended (lending (now (state .entry)) (now (out .entry)) (now (waiting .entry)) (now (report .entry))) (lending (now (state .exit)) (now (out .exit)) (now (waiting .exit)) (now (report .exit))) r ⌝ }
+    ensures { λ r. ⌜ SalvageRan (now (s .entry)) (now (part .entry)) ended (lending (now (state .entry)) (now (out .entry)) (now (waiting .entry)) (now (report .entry))) (lending (now (state .exit)) (now (out .exit)) (now (waiting .exit)) (now (report .exit))) r ⌝ }
 {
     let mut start = [0u8; shapes::MARK];
     let mut end = [0u8; shapes::MARK];

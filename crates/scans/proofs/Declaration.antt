@@ -21,7 +21,7 @@ use Rattle.models.specs.Reader.{Phase, opening, naming, named, contents, emptyi
 use Rattle.models.specs.Promises.{DtdFits}
 use Rattle.models.specs.Sheets.{declaredNames}
 use Rattle.models.proofs.Grows.{finished-some}
-use Rattle.judging.specs.Standing.{StandsAt, ContentMayBegin, NumberAt}
+use Rattle.judging.specs.Standing.{StandsBehind, ContentMayBegin, NumberAt}
 use Rattle.judging.proofs.Refused.{one-byte-on, refused-by-grammar, refused-by-nodes, refused-by-depth}
 use Rattle.judging.proofs.Contents.{where-content-begins}
 use Rattle.judging.proofs.Much.{too-much-there}
@@ -30,7 +30,7 @@ use Rattle.stages.specs.declared.Fate.{Fate}
 use Rattle.stages.specs.declared.Moved.{Moved}
 use Rattle.stages.specs.declared.NameEnd.{NameEnd}
 use Rattle.stages.specs.Headway.{stationOf, HeadwayIs, ContentShown}
-use Rattle.stages.specs.Steps.{FateAs, moves, completes, too-deep, TakenAs, FewNodesIn, NameEndIs, none-ends, own-ends, inner-ends, NameEndAs, StepIs, SizesAs}
+use Rattle.stages.specs.Steps.{FateAs, moves, completes, too-deep, ByteTakenAs, FewNodesIn, NameEndIs, none-ends, own-ends, inner-ends, NameEndAs, ByteStepIs, SizesAs}
 use Rattle.strata.proofs.Promises.{headway-stays, step-has-room}
 use Rattle.declaring.proofs.Sections.{one-declaration-more}
 use Rattle.rosters.specs.Names.{declaredIn, mentionedIn, namesEnded, endingAt}
@@ -59,7 +59,7 @@ pub record AmidAt (text : List ℕ) (at : ℕ) (s : Scan) (nb ne tb te productio
   pub q : Phase
   pub rows : Names
   pub tag-rows : Names
-  pub stands : StandsAt text at (within ds q)
+  pub stands : StandsBehind text at (within ds q)
   pub held : NamesHeld (mentioned ds ++ mentionedIn q) (declaredNames ds ++ declaredIn q) (s .docket) nb ne tb te rows tag-rows
   pub element : ElementIs (s .docket) rows tag-rows (declaredIn q)
   pub headway : HeadwayIs (placeOf rows) q (s .headway)
@@ -68,7 +68,7 @@ pub record AmidAt (text : List ℕ) (at : ℕ) (s : Scan) (nb ne tb te productio
 pub amid-of : (text : List ℕ) (at : ℕ) (s : Scan) (nb ne tb te productions nodes : List ℕ) → s .out ≡ false → ReadUpTo text at s nb ne tb te productions nodes → AmidAt text at s nb ne tb te productions nodes
 amid-of text at s nb ne tb te productions nodes o h = on (h .state) (h .stands) (h .kept)
   where
-    on : (z : DtdProgress) → StandsAt text at z → ScanIs text s nb ne tb te productions nodes z → AmidAt text at s nb ne tb te productions nodes
+    on : (z : DtdProgress) → StandsBehind text at z → ScanIs text s nb ne tb te productions nodes z → AmidAt text at s nb ne tb te productions nodes
     on (outside ds) st (between rows tag-rows e i k) = not-both e o
     on (within ds q) st (amid rows tag-rows e i el hw k) = record { ds = ds; q = q; rows = rows; tag-rows = tag-rows; stands = st; held = i; element = el; headway = hw; kept = k }
 
@@ -149,8 +149,8 @@ module _ (text : List ℕ) (at b : ℕ) (s : Scan) (nb ne tb te productions node
       pub rooms-now : Rooms nb′ ne′ tb′ te′ productions nodes
       rooms-now = record { name-room = f .name-room; tag-room = f .tag-room; section-room = i .up-to .rooms .section-room }
 
-      module _ (m : Moved) (st : StepIs (s .headway) b (k .names .number) m) where
-        taken : TakenAs (placeOf (noted .rows-now)) (here .q) b m
+      module _ (m : Moved) (st : ByteStepIs (s .headway) b (k .names .number) m) where
+        taken : ByteTakenAs (placeOf (noted .rows-now)) (here .q) b m
         taken = st .is (placeOf (noted .rows-now)) (here .q) headway-now few-here (noted .inner-is)
 
         taken-as : (g : Fate) → m .fate ≡ g → FateAs (placeOf (noted .rows-now)) (λ p. stepPhase p (here .q) b) (finishedPhase (here .q)) g (m .headway)

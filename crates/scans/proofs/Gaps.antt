@@ -18,7 +18,7 @@ use Rattle.models.specs.Family.{mentioned}
 use Rattle.models.specs.Reader.{Phase, opening, DtdProgress, outside, within, movedBy, onlyIfTrue, stepDeclarations, finishedPhase, finishedDtd}
 use Rattle.models.specs.Promises.{DtdFits}
 use Rattle.models.specs.Sheets.{declaredNames}
-use Rattle.judging.specs.Standing.{StandsAt, ContentMayBegin, NumberAt}
+use Rattle.judging.specs.Standing.{StandsBehind, ContentMayBegin, NumberAt}
 use Rattle.judging.proofs.Refused.{stands-first, one-byte-on, refused-by-grammar}
 use Rattle.judging.proofs.Contents.{where-content-begins}
 use Rattle.stages.specs.declared.Headway.{Headway}
@@ -44,14 +44,14 @@ pub record BetweenAt (text : List ℕ) (at : ℕ) (s : Scan) (nb ne tb te produc
   pub ds : List Declaration
   pub rows : Names
   pub tag-rows : Names
-  pub stands : StandsAt text at (outside ds)
+  pub stands : StandsBehind text at (outside ds)
   pub held : NamesHeld (mentioned ds) (declaredNames ds) (s .docket) nb ne tb te rows tag-rows
   pub kept : DeclarationsKept text ds (s .docket) productions nodes
 
 pub between-of : (text : List ℕ) (at : ℕ) (s : Scan) (nb ne tb te productions nodes : List ℕ) → s .out ≡ true → ReadUpTo text at s nb ne tb te productions nodes → BetweenAt text at s nb ne tb te productions nodes
 between-of text at s nb ne tb te productions nodes o h = on (h .state) (h .stands) (h .kept)
   where
-    on : (z : DtdProgress) → StandsAt text at z → ScanIs text s nb ne tb te productions nodes z → BetweenAt text at s nb ne tb te productions nodes
+    on : (z : DtdProgress) → StandsBehind text at z → ScanIs text s nb ne tb te productions nodes z → BetweenAt text at s nb ne tb te productions nodes
     on (outside ds) st (between rows tag-rows e i k) = record { ds = ds; rows = rows; tag-rows = tag-rows; stands = st; held = i; kept = k }
     on (within ds q) st (amid rows tag-rows e i el hw k) = absurd (true≢false (sym o ∙ e))
 

@@ -12,7 +12,7 @@ use Rattle.models.specs.Family.{mentioned}
 use Rattle.models.specs.Answers.{refuses, ReadModels}
 use Rattle.models.specs.Reader.{Phase, DtdProgress, outside, within}
 use Rattle.models.specs.Sheets.{declaredNames}
-use Rattle.judging.specs.Standing.{StandsAt}
+use Rattle.judging.specs.Standing.{StandsBehind}
 use Rattle.levels.specs.declared.ModelSize.{ModelSize}
 use Rattle.stages.specs.declared.Station.{Station}
 use Rattle.stages.specs.declared.Station.the-variants.{Opening, Naming, Named, Contents, Emptying, Inside, Hashing, Mixing, Barred, MixedName, MixedClosed, Wants, InName, Marking, After, GroupClosed, Ended}
@@ -86,7 +86,7 @@ pub record ReadUpTo (text : List ℕ) (at : ℕ) (s : Scan) (names name-ends tag
   pub small : DocketSmall (s .docket)
   pub going : s .halt ≡ 0
   pub state : DtdProgress
-  pub stands : StandsAt text at state
+  pub stands : StandsBehind text at state
   pub kept : ScanIs text s names name-ends tags tag-ends productions nodes state
 
 -- and b is the next

@@ -29,7 +29,7 @@ use Rattle.extents.proofs.Stacks.{top}
 use Rattle.extents.proofs.Parts.{extent-same}
 use Rattle.scripts.specs.declared.Place.{Place}
 use Rattle.scripts.specs.declared.Place.the-variants.{Opening, Separated, Branching}
-use Rattle.scripts.specs.Scripts.{placeOf, testedOf, separatedAs, unblockedAs}
+use Rattle.scripts.specs.Scripts.{readingPlace, testedOf, separatedAs, unblockedAs}
 
 pub with-layers : (s : statements.Stage) {ls ls′ : List statements.Layer} → ls ≡ ls′ → _≡_ {A = Option Outline} (some (outlined s ls)) (some (outlined s ls′))
 with-layers s e = ap (λ x. some (outlined s x)) e
@@ -45,23 +45,23 @@ pub ended-some : (xs : List Around) (n : ℕ) (p : outlines.Extent) → (n ≡ 0
 ended-some xs zero p h = absurd (h refl)
 ended-some xs (suc n) p h = refl
 
-pub end-opening : (w : Place) (ls : List statements.Layer) (c : statements.Closed) → w ≡ Opening → closedList ls vacant ≡ c → endedIn (c .outside) vacant ≡ endedAt (placeOf w) ls
-end-opening w ls c e h = subst (λ x. endedIn (c .outside) vacant ≡ endedAt (placeOf x) ls) (sym e) (ap (λ x. endedIn (x .outside) vacant) (sym h))
+pub end-opening : (w : Place) (ls : List statements.Layer) (c : statements.Closed) → w ≡ Opening → closedList ls vacant ≡ c → endedIn (c .outside) vacant ≡ endedAt (readingPlace w) ls
+end-opening w ls c e h = subst (λ x. endedIn (c .outside) vacant ≡ endedAt (readingPlace x) ls) (sym e) (ap (λ x. endedIn (x .outside) vacant) (sym h))
 
-pub end-separated : (w : Place) (ls : List statements.Layer) → w ≡ Separated → none ≡ endedAt (placeOf w) ls
-end-separated w ls e = subst (λ x. none ≡ endedAt (placeOf x) ls) (sym e) refl
+pub end-separated : (w : Place) (ls : List statements.Layer) → w ≡ Separated → none ≡ endedAt (readingPlace w) ls
+end-separated w ls e = subst (λ x. none ≡ endedAt (readingPlace x) ls) (sym e) refl
 
-pub end-branching : (w : Place) (ls : List statements.Layer) → w ≡ Branching → none ≡ endedAt (placeOf w) ls
-end-branching w ls e = subst (λ x. none ≡ endedAt (placeOf x) ls) (sym e) refl
+pub end-branching : (w : Place) (ls : List statements.Layer) → w ≡ Branching → none ≡ endedAt (readingPlace w) ls
+end-branching w ls e = subst (λ x. none ≡ endedAt (readingPlace x) ls) (sym e) refl
 
-pub begin-opening : (w : Place) (ls : List statements.Layer) → w ≡ Opening → none ≡ begunAt (placeOf w) ls
-begin-opening w ls e = subst (λ x. none ≡ begunAt (placeOf x) ls) (sym e) refl
+pub begin-opening : (w : Place) (ls : List statements.Layer) → w ≡ Opening → none ≡ begunAt (readingPlace w) ls
+begin-opening w ls e = subst (λ x. none ≡ begunAt (readingPlace x) ls) (sym e) refl
 
-pub begin-separated : (w : Place) (ls : List statements.Layer) → w ≡ Separated → none ≡ begunAt (placeOf w) ls
-begin-separated w ls e = subst (λ x. none ≡ begunAt (placeOf x) ls) (sym e) refl
+pub begin-separated : (w : Place) (ls : List statements.Layer) → w ≡ Separated → none ≡ begunAt (readingPlace w) ls
+begin-separated w ls e = subst (λ x. none ≡ begunAt (readingPlace x) ls) (sym e) refl
 
-pub begin-branching : (w : Place) (ls : List statements.Layer) → w ≡ Branching → some (outlined (at reading.opening) (among vacant ∷ ls)) ≡ begunAt (placeOf w) ls
-begin-branching w ls e = subst (λ x. some (outlined (at reading.opening) (among vacant ∷ ls)) ≡ begunAt (placeOf x) ls) (sym e) refl
+pub begin-branching : (w : Place) (ls : List statements.Layer) → w ≡ Branching → some (outlined (at reading.opening) (among vacant ∷ ls)) ≡ begunAt (readingPlace w) ls
+begin-branching w ls e = subst (λ x. some (outlined (at reading.opening) (among vacant ∷ ls)) ≡ begunAt (readingPlace x) ls) (sym e) refl
 
 -- where a statement may begin
 module _ (v : Visit) (w : reading.Place) (ls : List statements.Layer) (k : ℕ) where

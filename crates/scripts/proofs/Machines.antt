@@ -3,9 +3,9 @@ use mathlib.Core.Path.{_≡_, refl, sym, _∙_, ap, subst}
 use mathlib.Core.Bool.{true, false}
 use Prim.Native.Nat.{ℕ, suc}
 use Rattle.programs.specs.Limits.{Visit}
-use Rattle.notation.specs.Tokens.{Token}
+use Rattle.notation.specs.Tokens.{TextToken}
 use Rattle.reading.specs.Statements.{Listing}
-use Rattle.lexemes.specs.Kinds.{kindOf, TokenFits}
+use Rattle.lexemes.specs.Kinds.{tokenKind, TokenFits}
 use Rattle.outlines.specs.Extents.{ExtentWithin}
 use Rattle.outlines.specs.Statements.{Outline, outline, endsHere, finished}
 use Rattle.outlines.specs.Promises.{OutlineKeeps}
@@ -20,9 +20,9 @@ start-of-machine s e h = record { same = e ∙ sym starts-alike; standing = h }
 
 pub step-of-machine : StepOfMachine
 step-of-machine v q t s r i h (taken {s′ = n} k g) =
-    let w = keeps-alike v q t h .1 (outlineOf n) (subst (λ o. OutlineKeeps v o (kindOf t) (outlineOf n)) (i .same) k) in
+    let w = keeps-alike v q t h .1 (outlineOf n) (subst (λ o. OutlineKeeps v o (tokenKind t) (outlineOf n)) (i .same) k) in
     goes (w .0) (w .1) (record { same = w .2; standing = g })
-step-of-machine v q t s r i h (refused f) = stays (λ q′ k. f (outline q′) (subst (λ o. OutlineKeeps v o (kindOf t) (outline q′)) (sym (i .same)) (keeps-alike v q t h .0 q′ k)))
+step-of-machine v q t s r i h (refused f) = stays (λ q′ k. f (outline q′) (subst (λ o. OutlineKeeps v o (tokenKind t) (outline q′)) (sym (i .same)) (keeps-alike v q t h .0 q′ k)))
 
 pub end-of-machine : EndOfMachine
 end-of-machine q s i = ap endsHere (i .same) ∙ ends-alike q

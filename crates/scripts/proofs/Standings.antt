@@ -15,7 +15,7 @@ use Rattle.outlines.specs.Conditions.{wanting, behind, withMargins}
 use Rattle.outlines.specs.Statements as statements
 use Rattle.outlines.specs.Statements.{wrappedIn, Outline, stepOutline, stepStage, stepTested, endsAt, endsHere, finished, kernel}
 use Rattle.outlines.specs.Promises.{OutlineKeeps}
-use Rattle.outlines.specs.Shape.{ConditionFirm, StageFirm, Sound, ExtentUnder, SideUnder, StageUnder, PartsUnder}
+use Rattle.outlines.specs.Shape.{ConditionFirm, StageFirm, SoundOutline, ExtentUnder, SideUnder, StageUnder, PartsUnder}
 use Rattle.outlines.proofs.Shapes.{stays-sound, few-layers, small-parts, parts-stay-small, one-layer-more, finished-kernel, extent-more, side-more, layers-more, margins-more}
 use Rattle.extents.specs.declared.Extent.{Extent}
 use Rattle.extents.specs.declared.Side.{Side}
@@ -27,7 +27,7 @@ use Rattle.scripts.specs.declared.Stage.{Stage}
 use Rattle.scripts.specs.declared.Stage.the-variants.{At, Assign, Operand, Item, Single, Equals, Other, Behind, Past}
 use Rattle.scripts.specs.declared.Script.{Script}
 use Rattle.scripts.specs.declared.Taken.{Taken}
-use Rattle.scripts.specs.Scripts.{stageOf, layersIn, marginsIn, outlineOf, Standing, Steady, Level, MarginsHeld, Firmly, answerOf, testedOf, Stepped, taken, refused}
+use Rattle.scripts.specs.Scripts.{stageOf, layersIn, marginsIn, outlineOf, Standing, LayerRoom, MarginRoom, MarginsHeld, ScriptFirm, answerOf, testedOf, Stepped, taken, refused}
 
 pub extent-under : {m n : ℕ} {e : outlines.Extent} → m ≤ n → ExtentUnder m e → ExtentUnder n e
 extent-under g h = record { few-bytes = omega arith; few-deep = omega arith }
@@ -66,14 +66,14 @@ stage-more (statements.in-condition (wanting w ms)) h = margins-more ms h
 stage-more (statements.in-condition (behind d o ms)) h = (extent-more (h .0), side-more o (h .1), margins-more ms (h .2))
 stage-more (statements.past b p) h = extent-more h
 
-pub steady : (s : Script) → Standing s → Steady s
+pub steady : (s : Script) → Standing s → LayerRoom s
 steady s h =
     record {
       room = omega (arith, few-layers (outlineOf s) (h .sound) (h .within), depth-is s);
       small = layers-more (layersIn s) (small-parts (outlineOf s) (h .sound) (h .within) .around);
     }
 
-pub firmly : (s : Script) → Standing s → Firmly s
+pub firmly : (s : Script) → Standing s → ScriptFirm s
 firmly s h =
     let p = small-parts (outlineOf s) (h .sound) (h .within) in
     record {
@@ -83,26 +83,26 @@ firmly s h =
     }
 
 -- by the stage
-module _ (s : Script) (h : Firmly s) where
+module _ (s : Script) (h : ScriptFirm s) where
   held-as : (g : Stage) → s .stage ≡ g → MarginsHeld g (s .deep)
   held-as g e = subst (λ x. MarginsHeld x (s .deep)) e (h .margins-held)
 
   inner-as : (g : Stage) → s .stage ≡ g → StageUnder 1000 (stageOf g (marginsIn s))
   inner-as g e = subst (λ x. StageUnder 1000 (stageOf x (marginsIn s))) e (h .small .inner)
 
-  pub level-single : s .stage ≡ Single → Level s
+  pub level-single : s .stage ≡ Single → MarginRoom s
   level-single e = record { room = held-as Single e; small = inner-as Single e }
 
-  pub level-equals : s .stage ≡ Equals → Level s
+  pub level-equals : s .stage ≡ Equals → MarginRoom s
   level-equals e = record { room = held-as Equals e; small = inner-as Equals e }
 
-  pub level-other : s .stage ≡ Other → Level s
+  pub level-other : s .stage ≡ Other → MarginRoom s
   level-other e = record { room = held-as Other e; small = inner-as Other e }
 
   pub room-behind : (d : Extent) (o : Side) → s .stage ≡ Behind d o → s .deep < mostMargins
   room-behind d o e = held-as (Behind d o) e
 
-  pub level-behind : (d : Extent) (o : Side) → s .stage ≡ Behind d o → Level s
+  pub level-behind : (d : Extent) (o : Side) → s .stage ≡ Behind d o → MarginRoom s
   level-behind d o e = record { room = omega (arith, room-behind d o e); small = inner-as (Behind d o) e .2 }
 
   pub behind-extent : (d : Extent) (o : Side) → s .stage ≡ Behind d o → ExtentUnder 1000 (extentOf d)
@@ -150,10 +150,10 @@ step-refused v s k false n e q = refused (λ o h. none-some (q ∙ h .taken))
     none-some p = let z : _≡_ {A = ℕ} 0 1 = cc in omega arith
 
 module _ (v : Visit) (s n : Script) (k : ℕ) (h : Standing s) (q : stepOutline v (outlineOf s) k ≡ some (outlineOf n)) where
-  next-sound : Sound (outlineOf n)
+  next-sound : SoundOutline (outlineOf n)
   next-sound = stays-sound v (outlineOf s) (outlineOf n) k (h .sound) q
 
-  pub next-firmly : Firmly n
+  pub next-firmly : ScriptFirm n
   next-firmly =
       record {
         low = omega (arith, one-layer-more v (outlineOf s) (outlineOf n) k q, few-layers (outlineOf s) (h .sound) (h .within), depth-is n, depth-is s);

@@ -4,9 +4,9 @@ use mathlib.Core.Bool.{true, false}
 use Prim.Native.Nat.{ℕ, suc}
 use Rattle.programs.specs.Limits.{Visit}
 use Rattle.notation.specs.Limits.{sizeOf, ProgramWithin}
-use Rattle.notation.specs.Tokens.{Token}
+use Rattle.notation.specs.Tokens.{TextToken}
 use Rattle.reading.specs.Statements.{Listing, listStart, valueOfList, finishedList}
-use Rattle.lexemes.specs.Kinds.{kindOf, TokenFits}
+use Rattle.lexemes.specs.Kinds.{tokenKind, TokenFits}
 use Rattle.outlines.specs.Statements.{outline, outlineStart, endsHere, finished}
 use Rattle.outlines.specs.Promises.{MachineKeeps, given}
 use Rattle.scripts.specs.declared.Script.{Script}
@@ -19,7 +19,7 @@ pub record ScriptIs (q : Listing) (s : Script) : Type 0 where
   pub standing : Standing s
 
 -- the machine takes the token and keeps the limits, and the next script holds where it stands then; or it does not
-pub data MachineStepped (v : Visit) (q : Listing) (t : Token) : Taken → Type 0 where
+pub data MachineStepped (v : Visit) (q : Listing) (t : TextToken) : Taken → Type 0 where
   goes : {s : Script} (q′ : Listing) → MachineKeeps v q t q′ → ScriptIs q′ s → MachineStepped v q t (record { ok = true; script = s })
   stays : {s : Script} → ((q′ : Listing) → MachineKeeps v q t q′ → ⊥) → MachineStepped v q t (record { ok = false; script = s })
 
@@ -28,7 +28,7 @@ StartOfMachine = (s : Script) → outlineOf s ≡ outlineStart → Standing s �
 
 -- whichever token of the kind it is
 abbrev pub StepOfMachine : Type 0
-StepOfMachine = (v : Visit) (q : Listing) (t : Token) (s : Script) (r : Taken) → ScriptIs q s → TokenFits t → Stepped v s (kindOf t) r → MachineStepped v q t r
+StepOfMachine = (v : Visit) (q : Listing) (t : TextToken) (s : Script) (r : Taken) → ScriptIs q s → TokenFits t → Stepped v s (tokenKind t) r → MachineStepped v q t r
 
 abbrev pub EndOfMachine : Type 0
 EndOfMachine = (q : Listing) (s : Script) → ScriptIs q s → endsHere (outlineOf s) ≡ given (valueOfList q)

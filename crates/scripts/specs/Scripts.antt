@@ -10,7 +10,7 @@ use Rattle.outlines.specs.Extents.{ExtentWithin}
 use Rattle.outlines.specs.Conditions as conditions
 use Rattle.outlines.specs.Statements as statements
 use Rattle.outlines.specs.Statements.{Outline, outlined, finished}
-use Rattle.outlines.specs.Shape.{Sound, mostLayers, LayersUnder, MarginsUnder, PartsUnder}
+use Rattle.outlines.specs.Shape.{SoundOutline, mostLayers, LayersUnder, MarginsUnder, PartsUnder}
 use Rattle.outlines.specs.Promises.{OutlineKeeps}
 use Rattle.extents.specs.Held.{extentOf, sideOf, layersAt, marginsAt, mostAround, mostMargins}
 use Rattle.scripts.specs.declared.Place.{Place}
@@ -20,13 +20,13 @@ use Rattle.scripts.specs.declared.Stage.the-variants.{At, Assign, Operan
 use Rattle.scripts.specs.declared.Script.{Script}
 use Rattle.scripts.specs.declared.Taken.{Taken}
 
-abbrev pub placeOf : Place → reading.Place
-placeOf Opening = reading.opening
-placeOf Separated = reading.separated
-placeOf Branching = reading.branching
+abbrev pub readingPlace : Place → reading.Place
+readingPlace Opening = reading.opening
+readingPlace Separated = reading.separated
+readingPlace Branching = reading.branching
 
 abbrev pub stageOf : Stage → List conditions.Margin → statements.Stage
-stageOf (At w) ms = statements.at (placeOf w)
+stageOf (At w) ms = statements.at (readingPlace w)
 stageOf Assign ms = statements.at-assign
 stageOf Operand ms = statements.at-operand
 stageOf Item ms = statements.at-item
@@ -47,11 +47,11 @@ outlineOf s = outlined (stageOf (s .stage) (marginsIn s)) (layersIn s)
 
 -- the outline has its shape and keeps the limits
 pub record Standing (s : Script) : Type 0 where
-  pub sound : Sound (outlineOf s)
+  pub sound : SoundOutline (outlineOf s)
   pub within : ExtentWithin (finished (outlineOf s))
 
 -- room for one layer more, around parts that are small
-pub record Steady (s : Script) : Type 0 where
+pub record LayerRoom (s : Script) : Type 0 where
   pub room : s .depth ≤ mostLayers
   pub small : LayersUnder 1000 (layersIn s)
 
@@ -68,13 +68,13 @@ MarginsHeld (Behind d o) n = suc n ≤ mostMargins
 MarginsHeld (Past b p) n = Unit {0}
 
 -- parts that are small, and as many layers and margins as the arrays have
-pub record Firmly (s : Script) : Type 0 where
+pub record ScriptFirm (s : Script) : Type 0 where
   pub low : s .depth ≤ mostAround
   pub margins-held : MarginsHeld (s .stage) (s .deep)
   pub small : PartsUnder 1000 (outlineOf s)
 
 -- room for a margin
-pub record Level (s : Script) : Type 0 where
+pub record MarginRoom (s : Script) : Type 0 where
   pub room : s .deep ≤ mostMargins
   pub small : MarginsUnder 1000 (marginsIn s)
 

@@ -4,7 +4,7 @@ ghost use mathlib.Core.Bool.{true, false, cond};
 ghost use mathlib.Core.Option.{none, some};
 ghost use mathlib.Core.List.{[], _∷_};
 ghost use Prim.Native.Nat.{suc, _≤_, _<_};
-ghost use Rattle.programs.specs.Parsed.{visit};
+ghost use Rattle.programs.specs.Parsed.{whichVisit};
 ghost use Rattle.outlines.specs.Extents.{comparison, paired, inTurn, branching, unnested, vacant, ExtentWithin};
 ghost use Rattle.outlines.specs.Kinds.{isSign, isOperand};
 ghost use Rattle.notation.specs.Tokens.{ASSIGNED};
@@ -13,7 +13,7 @@ ghost use Rattle.outlines.specs.Conditions.{pairedWith, upToAnd, wholeOf, withM
 ghost use Rattle.outlines.specs.Statements.{wrapped, wrappedIn, closedList, elseOf, at, at-operand, then-of, past, in-condition, outlined, noneOutside, begunAt, endedIn, endedAt, stepAt, elsedAt, stepPast, stepItem, stepOutline, stepTested, endsHere, finished, kernel, outlineStart};
 ghost use Rattle.outlines.specs.Shape.{ExtentUnder, LayerUnder, LayersUnder, SideUnder, MarginUnder, MarginsUnder};
 ghost use Rattle.extents.specs.Held.{extentOf, sideOf, marginOf, layerOf, layersAt, marginsAt, mostAround, mostMargins};
-ghost use Rattle.scripts.specs.Scripts.{placeOf, stageOf, layersIn, marginsIn, outlineOf, Standing, Steady, Level, Firmly, answerOf, testedOf, separatedAs, unblockedAs, Stepped};
+ghost use Rattle.scripts.specs.Scripts.{readingPlace, stageOf, layersIn, marginsIn, outlineOf, Standing, LayerRoom, MarginRoom, ScriptFirm, answerOf, testedOf, separatedAs, unblockedAs, Stepped};
 use extents::Around;
 use extents::Extent;
 use extents::Layer;
@@ -178,8 +178,8 @@ impl Script {
     }
 
     fn begin(self, place: Place) -> Taken
-        requires { ⌜ Steady self ⌝ }
-        ensures { λ r. ⌜ answerOf r ≡ begunAt (placeOf place) (layersIn self) ⌝ }
+        requires { ⌜ LayerRoom self ⌝ }
+        ensures { λ r. ⌜ answerOf r ≡ begunAt (readingPlace place) (layersIn self) ⌝ }
     {
         match place {
             Place::Opening => self.refused(),
@@ -200,8 +200,8 @@ impl Script {
 
     // An end where a list opens.
     fn end(self, place: Place) -> Taken
-        requires { ⌜ Steady self ⌝ }
-        ensures { λ r. ⌜ answerOf r ≡ endedAt (placeOf place) (layersIn self) ⌝ }
+        requires { ⌜ LayerRoom self ⌝ }
+        ensures { λ r. ⌜ answerOf r ≡ endedAt (readingPlace place) (layersIn self) ⌝ }
     {
         match place {
             Place::Opening => {
@@ -248,8 +248,8 @@ impl Script {
 
     // Where a statement may begin.
     fn start(self, place: Place, kind: usize, second: bool) -> Taken
-        requires { ⌜ Steady self ⌝ }
-        ensures { λ r. ⌜ answerOf r ≡ stepAt (visit second) (placeOf place) (layersIn self) kind ⌝ }
+        requires { ⌜ LayerRoom self ⌝ }
+        ensures { λ r. ⌜ answerOf r ≡ stepAt (whichVisit second) (readingPlace place) (layersIn self) kind ⌝ }
     {
         if extents::is_plain(kind, second) {
             return self.plain(false, 1);
@@ -289,7 +289,7 @@ impl Script {
 
     // An else: it is the nearest if's that has none.
     fn otherwise(self, p: Extent) -> Taken
-        requires { ⌜ Steady self ⌝ }
+        requires { ⌜ LayerRoom self ⌝ }
         requires { ⌜ ExtentUnder 1000 (extentOf p) ⌝ }
         ensures { λ r. ⌜ answerOf r ≡ elsedAt (elseOf (layersIn self) (extentOf p)) ⌝ }
     {
@@ -316,7 +316,7 @@ impl Script {
 
     // A statement p ends, with a ; behind it.
     fn separate(self, p: Extent) -> Taken
-        requires { ⌜ Steady self ⌝ }
+        requires { ⌜ LayerRoom self ⌝ }
         requires { ⌜ ExtentUnder 1000 (extentOf p) ⌝ }
         ensures { λ r. ⌜ answerOf r ≡ separatedAs (closedList (layersIn self) (extentOf p)) ⌝ }
     {
@@ -333,7 +333,7 @@ impl Script {
 
     // A list ends behind p.
     fn unblock(self, p: Extent) -> Taken
-        requires { ⌜ Steady self ⌝ }
+        requires { ⌜ LayerRoom self ⌝ }
         requires { ⌜ ExtentUnder 1000 (extentOf p) ⌝ }
         ensures { λ r. ⌜ answerOf r ≡ unblockedAs (closedList (layersIn self) (extentOf p)) ⌝ }
     {
@@ -362,7 +362,7 @@ impl Script {
 
     // Behind a statement.
     fn follow(self, print: bool, p: Extent, kind: usize) -> Taken
-        requires { ⌜ Steady self ⌝ }
+        requires { ⌜ LayerRoom self ⌝ }
         requires { ⌜ ExtentUnder 1000 (extentOf p) ⌝ }
         ensures { λ r. ⌜ answerOf r ≡ stepPast print (extentOf p) (closedList (layersIn self) (extentOf p)) (layersIn self) kind ⌝ }
     {
@@ -386,7 +386,7 @@ impl Script {
 
     // One more not.
     fn not(self) -> Taken
-        requires { ⌜ Level self ⌝ }
+        requires { ⌜ MarginRoom self ⌝ }
         ensures { λ r. ⌜ answerOf r ≡ testedOf (layersIn self) (notAt (marginsIn self)) ⌝ }
     {
         let deep = self.deep;
@@ -408,7 +408,7 @@ impl Script {
 
     // A parenthesis opens.
     fn parenthesis(self) -> Taken
-        requires { ⌜ Level self ⌝ }
+        requires { ⌜ MarginRoom self ⌝ }
         ensures { λ r. ⌜ answerOf r ≡ testedOf (layersIn self) (openAt (marginsIn self)) ⌝ }
     {
         let deep = self.deep;
@@ -430,7 +430,7 @@ impl Script {
 
     // A single condition c is read.
     fn got(self, c: Extent) -> Taken
-        requires { ⌜ Level self ⌝ }
+        requires { ⌜ MarginRoom self ⌝ }
         requires { ⌜ ExtentUnder 10000 (extentOf c) ⌝ }
         ensures { λ r. ⌜ answerOf r ≡ testedOf (layersIn self) (gotAt (marginsIn self) (extentOf c)) ⌝ }
     {
@@ -459,8 +459,8 @@ impl Script {
 
     // Where a single condition is wanted.
     fn single(self, kind: usize, second: bool) -> Taken
-        requires { ⌜ Level self ⌝ }
-        ensures { λ r. ⌜ answerOf r ≡ testedOf (layersIn self) (stepWanting (visit second) a-single (marginsIn self) kind) ⌝ }
+        requires { ⌜ MarginRoom self ⌝ }
+        ensures { λ r. ⌜ answerOf r ≡ testedOf (layersIn self) (stepWanting (whichVisit second) a-single (marginsIn self) kind) ⌝ }
     {
         if extents::is_operand(kind, second) {
             let stage = Stage::Equals;
@@ -477,7 +477,7 @@ impl Script {
 
     // Where an = is wanted.
     fn equals(self, kind: usize, second: bool) -> Taken
-        ensures { λ r. ⌜ answerOf r ≡ testedOf (layersIn self) (stepWanting (visit second) an-equals (marginsIn self) kind) ⌝ }
+        ensures { λ r. ⌜ answerOf r ≡ testedOf (layersIn self) (stepWanting (whichVisit second) an-equals (marginsIn self) kind) ⌝ }
     {
         if kind == 33 {
             let stage = Stage::Other;
@@ -488,8 +488,8 @@ impl Script {
 
     // Where the other operand is wanted.
     fn other(self, kind: usize, second: bool) -> Taken
-        requires { ⌜ Level self ⌝ }
-        ensures { λ r. ⌜ answerOf r ≡ testedOf (layersIn self) (stepWanting (visit second) an-operand (marginsIn self) kind) ⌝ }
+        requires { ⌜ MarginRoom self ⌝ }
+        ensures { λ r. ⌜ answerOf r ≡ testedOf (layersIn self) (stepWanting (whichVisit second) an-operand (marginsIn self) kind) ⌝ }
     {
         if extents::is_operand(kind, second) {
             let c = Extent {
@@ -503,7 +503,7 @@ impl Script {
 
     // A condition ends, with then behind it.
     fn branch(self, c: Extent) -> Taken
-        requires { ⌜ Steady self ⌝ }
+        requires { ⌜ LayerRoom self ⌝ }
         ensures { λ r. ⌜ answerOf r ≡ some (outlined (at reading.branching) (then-of (extentOf c) ∷ layersIn self)) ⌝ }
     {
         let layer = Layer::Then(c);
@@ -515,7 +515,7 @@ impl Script {
 
     // Behind a single condition.
     fn behind(self, d: Extent, o: Side, kind: usize) -> Taken
-        requires { ⌜ Steady self × Level self ⌝ }
+        requires { ⌜ LayerRoom self × MarginRoom self ⌝ }
         requires { ⌜ self .deep < mostMargins ⌝ }
         requires { ⌜ ExtentUnder 1000 (extentOf d) × SideUnder 1000 (sideOf o) ⌝ }
         ensures { λ r. ⌜ answerOf r ≡ stepTested (stepBehind (extentOf d) (sideOf o) (marginsIn self) kind) (readCondition (behind (extentOf d) (sideOf o) (marginsIn self))) (layersIn self) kind ⌝ }
@@ -566,7 +566,7 @@ impl Script {
     }
 
     fn assigned(self, kind: usize, second: bool) -> Taken
-        ensures { λ r. ⌜ answerOf r ≡ cond (isOperand (visit second) kind) (some (outlined (past false (unnested 3)) (layersIn self))) none ⌝ }
+        ensures { λ r. ⌜ answerOf r ≡ cond (isOperand (whichVisit second) kind) (some (outlined (past false (unnested 3)) (layersIn self))) none ⌝ }
     {
         if extents::is_operand(kind, second) {
             return self.plain(false, 3);
@@ -577,7 +577,7 @@ impl Script {
     // By the grammar alone.
     fn go(self, kind: usize, second: bool) -> Taken
         requires { ⌜ Standing self ⌝ }
-        ensures { λ r. ⌜ answerOf r ≡ stepOutline (visit second) (outlineOf self) kind ⌝ }
+        ensures { λ r. ⌜ answerOf r ≡ stepOutline (whichVisit second) (outlineOf self) kind ⌝ }
     {
         let stage = self.stage;
         match stage {
@@ -595,7 +595,7 @@ impl Script {
 
     // The condition that the shortest continuation of c makes, as an if.
     fn tested(self, c: Extent) -> Extent
-        requires { ⌜ Level self ⌝ }
+        requires { ⌜ MarginRoom self ⌝ }
         requires { ⌜ ExtentUnder 10000 (extentOf c) ⌝ }
         ensures { λ r. ⌜ (extentOf r ≡ branching (withMargins (marginsIn self) (extentOf c)) vacant vacant) × ExtentUnder 300000 (extentOf r) ⌝ }
     {
@@ -611,7 +611,7 @@ impl Script {
 
     // What the shortest continuation puts at the place itself.
     fn kernel(self) -> Extent
-        requires { ⌜ Firmly self ⌝ }
+        requires { ⌜ ScriptFirm self ⌝ }
         ensures { λ r. ⌜ (extentOf r ≡ kernel (stageOf (self .stage) (marginsIn self))) × ExtentUnder 300000 (extentOf r) ⌝ }
     {
         let stage = self.stage;
@@ -642,7 +642,7 @@ impl Script {
 
     // The bytes and the nesting of the shortest continuation.
     fn measure(self) -> Extent
-        requires { ⌜ Firmly self ⌝ }
+        requires { ⌜ ScriptFirm self ⌝ }
         ensures { λ r. ⌜ extentOf r ≡ wrappedIn (layersIn self) (kernel (stageOf (self .stage) (marginsIn self))) ⌝ }
     {
         let e = self.kernel();
@@ -663,7 +663,7 @@ impl Script {
     // The next token is of that kind.
     pub fn step(self, kind: usize, second: bool) -> Taken
         requires { ⌜ Standing self ⌝ }
-        ensures { λ r. ⌜ Stepped (visit second) self kind r ⌝ }
+        ensures { λ r. ⌜ Stepped (whichVisit second) self kind r ⌝ }
     {
         let t = self.go(kind, second);
         if !t.ok {
@@ -688,7 +688,7 @@ impl Script {
 
     // Whether no list lies around that in which p stands.
     fn outermost(self, p: Extent) -> bool
-        requires { ⌜ Steady self ⌝ }
+        requires { ⌜ LayerRoom self ⌝ }
         requires { ⌜ ExtentUnder 1000 (extentOf p) ⌝ }
         ensures { λ r. ⌜ r ≡ noneOutside (closedList (layersIn self) (extentOf p) .outside) ⌝ }
     {
@@ -740,7 +740,7 @@ fn plainly(bytes: usize) -> Extent
 
 // Where a statement may begin: nothing, but a reject behind a ;.
 fn place_kernel(place: Place) -> Extent
-    ensures { λ r. ⌜ (extentOf r ≡ kernel (at (placeOf place))) × ExtentUnder 1000 (extentOf r) ⌝ }
+    ensures { λ r. ⌜ (extentOf r ≡ kernel (at (readingPlace place))) × ExtentUnder 1000 (extentOf r) ⌝ }
 {
     match place {
         Place::Opening => plainly(0),

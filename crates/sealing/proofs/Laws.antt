@@ -10,16 +10,16 @@ use Rattle.lent.proofs.Laws.{put-all}
 use Rattle.notation.specs.Rules.{Rules}
 use Rattle.sheet.specs.Tags.{tagRecord}
 use Rattle.encoding.specs.Distinct.{run-together}
-use Rattle.encoding.specs.Encoded.{tagsOf, stringsOf, programsOf}
+use Rattle.encoding.specs.Encoded.{tagsStored, stringsStored, programsStored}
 use Rattle.stores.specs.Rows.{RowsIn}
 use Rattle.packing.specs.Packed.{tagsSection, trailer, productionsSection, nodesSection, sheetBytes}
 use Rattle.writing.specs.Written.{WrittenAs, too-short, written}
-use Rattle.binding.specs.Bound.{AllShort, TagRows, boundBytes, BoundIs}
+use Rattle.binding.specs.Bound.{ShortNames, TagRows, boundBytes, BoundIs}
 use Rattle.binding.proofs.Tags.{sixteen, short-all}
 use Rattle.binding.proofs.Sections.{binds-sheets}
 use Rattle.sealing.specs.Sealed.{SectionsOf, SealedIs}
 
-pub tags-length : (l : List (List ℕ)) → AllShort l → length (tagsSection l) ≡ 16 * length l
+pub tags-length : (l : List (List ℕ)) → ShortNames l → length (tagsSection l) ≡ 16 * length l
 tags-length [] s = refl
 tags-length (n ∷ l) s = omega (arith, length-append (tagRecord n) (tagsSection l), sixteen n (s .0), tags-length l (s .1))
 
@@ -40,17 +40,17 @@ module _ (bytes ends : List ℕ) (count : ℕ) (p n g s : List ℕ) (start : ℕ
       omega (arith, a, b, c, d, e, f, rows .number)
 
   -- the sheet of rules whose sections these are
-  sheet-is : (r : Rules) → SectionsOf r bytes ends count p n g s start → boundBytes (tagsOf r) p n g s start ≡ sheetBytes r
+  sheet-is : (r : Rules) → SectionsOf r bytes ends count p n g s start → boundBytes (tagsStored r) p n g s start ≡ sheetBytes r
   sheet-is r h =
-      ap (λ x. boundBytes (tagsOf r) x n g s start) (h .productions-are)
-      ∙ ap (λ x. boundBytes (tagsOf r) (productionsSection r 0 (r .productions)) x g s start) (h .nodes-are)
-      ∙ ap (λ x. boundBytes (tagsOf r) (productionsSection r 0 (r .productions)) (nodesSection r (r .productions)) x s start) (h .programs-are)
-      ∙ ap (λ x. boundBytes (tagsOf r) (productionsSection r 0 (r .productions)) (nodesSection r (r .productions)) (run-together (programsOf r)) x start) (h .strings-are)
-      ∙ ap (λ x. boundBytes (tagsOf r) (productionsSection r 0 (r .productions)) (nodesSection r (r .productions)) (run-together (programsOf r)) (run-together (stringsOf r)) x) (h .start-is)
+      ap (λ x. boundBytes (tagsStored r) x n g s start) (h .productions-are)
+      ∙ ap (λ x. boundBytes (tagsStored r) (productionsSection r 0 (r .productions)) x g s start) (h .nodes-are)
+      ∙ ap (λ x. boundBytes (tagsStored r) (productionsSection r 0 (r .productions)) (nodesSection r (r .productions)) x s start) (h .programs-are)
+      ∙ ap (λ x. boundBytes (tagsStored r) (productionsSection r 0 (r .productions)) (nodesSection r (r .productions)) (run-together (programsStored r)) x start) (h .strings-are)
+      ∙ ap (λ x. boundBytes (tagsStored r) (productionsSection r 0 (r .productions)) (nodesSection r (r .productions)) (run-together (programsStored r)) (run-together (stringsStored r)) x) (h .start-is)
       ∙ binds-sheets r
 
   sheet-length : (r : Rules) → TagRows bytes ends count → SectionsOf r bytes ends count p n g s start → length (sheetBytes r) ≡ need
-  sheet-length r t h = sym (ap length (sheet-is r h)) ∙ bound-length (tagsOf r) t (h .tags-are)
+  sheet-length r t h = sym (ap length (sheet-is r h)) ∙ bound-length (tagsStored r) t (h .tags-are)
 
   pub seals-short : (area : List ℕ) → TagRows bytes ends count → length area < need → SealedIs bytes ends count p n g s start area area (record { number = 43; count = need })
   seals-short area t short = record {
@@ -63,7 +63,7 @@ module _ (bytes ends : List ℕ) (count : ℕ) (p n g s : List ℕ) (start : ℕ
   seals-whole area after k t room b = record {
     is = λ text r is-text room′ h.
         let e = sheet-length r t h in
-        let put′ : PutAs true area 0 (sheetBytes r) after k = subst (λ x. PutAs true area 0 x after k) (sheet-is r h) (b .is (tagsOf r) (h .tags-are)) in
+        let put′ : PutAs true area 0 (sheetBytes r) after k = subst (λ x. PutAs true area 0 x after k) (sheet-is r h) (b .is (tagsStored r) (h .tags-are)) in
         let left : after ≡ sheetBytes r ++ drop (0 + length (sheetBytes r)) area = put′ .left ∙ put-all area 0 (sheetBytes r) (omega (arith, e, room)) in
         let zero-more : 0 + length (sheetBytes r) ≡ length (sheetBytes r) = omega arith in
         let all : sheetBytes r ++ drop (length (sheetBytes r)) area ≡ after = sym (left ∙ ap (λ m. sheetBytes r ++ drop m area) zero-more) in

@@ -20,7 +20,7 @@ use Rattle.sheet.specs.Sheet.{Sheet, IsSheet}
 use Rattle.sheet.proofs.SheetLaws.{from-counted, sheet-grammar, numbered-productions, one-sheet}
 use Rattle.runs.specs.Execute.{nameOf}
 use Rattle.runs.specs.Visits.{grammar}
-use Rattle.visits.specs.Written.{Written, tagText, NameAt, TagOf}
+use Rattle.visits.specs.Written.{Written, tagText, TagNameAt, TagOf}
 use Rattle.visits.specs.Ran.{mostPrinted}
 use Rattle.visits.proofs.Performing.{sources}
 use Rattle.salvage.specs.Shape.{RecordTags}
@@ -39,7 +39,7 @@ module _ (s : List ℕ) (l : Layout) (L : LaidOut s l) (t : ℕ) (T : TagThere s
       name : List ℕ
       name = nameOf (T .sheet .names) t
 
-      there : NameAt s t name
+      there : TagNameAt s t name
       there = sources s l L (T .sheet) (T .is-sheet) .names-are t (T .named)
 
       short : length (tagText ending name) ≤ mostMark

@@ -8,21 +8,21 @@ use lib.ListN.{length}
 use Rattle.limits.specs.Limits.{mostTags, mostStringBytes, mostProgramBytes}
 use Rattle.text.specs.Characters.{utf8s}
 use Rattle.programs.specs.Program.{programBytes}
-use Rattle.notation.specs.Program.{Program}
+use Rattle.notation.specs.Program.{TextProgram}
 use Rattle.notation.specs.Rules.{Rules}
-use Rattle.notation.specs.Tokens.{Token, nonterminal, value, attribute, name, start-tag, end-tag, empty-tag, string, word, sign, Sign, DEFINED, ASSIGNED, OPEN, CLOSE, BRACE, UNBRACE, DOT, BAR, STAR, SEMICOLON, EQUALS}
+use Rattle.notation.specs.Tokens.{TextToken, nonterminal, value, attribute, name, start-tag, end-tag, empty-tag, string, word, sign, Sign, DEFINED, ASSIGNED, OPEN, CLOSE, BRACE, UNBRACE, DOT, BAR, STAR, SEMICOLON, EQUALS}
 use Rattle.encoding.specs.Distinct.{has, distinct, placeOf, offsetOf}
 use Rattle.encoding.specs.Encoded.{programOf}
 use Rattle.reading.specs.Rules.{Progress}
-use Rattle.lexemes.specs.Kinds.{kindOf, TokenFits}
+use Rattle.lexemes.specs.Kinds.{tokenKind, TokenFits}
 use Rattle.verdicts.specs.Judged.{Goes}
 use Rattle.sketches.specs.Sketched.{listingOf}
 use Rattle.stores.specs.Rows.{RowsIn, HasRows}
 use Rattle.stores.specs.Mentioned.{TooManyFor}
 use Rattle.mentions.specs.SoFar.{soFar, wholeIn, Tidy}
-use Rattle.ledgers.specs.Trodden.{Leads}
-use Rattle.ledgers.specs.Space.{Space}
-use Rattle.desks.specs.Kept.{StoresHold, PlaceIs}
+use Rattle.ledgers.specs.Trodden.{LeadsToRules}
+use Rattle.ledgers.specs.Space.{SpaceFor}
+use Rattle.desks.specs.Kept.{StoresHold, RowPlaceIs}
 use Rattle.shelves.specs.declared.Filing.{Filing}
 use Rattle.shelves.specs.declared.Shelved.{Shelved}
 
@@ -56,38 +56,38 @@ pub record Rowed (a : Shelved) (tag-bytes tag-ends string-bytes string-ends prog
   pub program-rows : HasRows program-bytes program-ends (a .programs)
 
 -- the bytes that a token's tag, its string, or the program that it ends, has in the sheet
-abbrev pub RowOfSign : Rules → Option Program → Sign → List ℕ → Type 0
+abbrev pub RowOfSign : Rules → Option TextProgram → Sign → List ℕ → Type 0
 RowOfSign r o DEFINED x = Unit {0}
 RowOfSign r o ASSIGNED x = Unit {0}
 RowOfSign r o OPEN x = Unit {0}
 RowOfSign r o CLOSE x = Unit {0}
 RowOfSign r o BRACE x = Unit {0}
-RowOfSign r o UNBRACE x = (p : Program) → o ≡ some p → x ≡ programBytes (programOf r p)
+RowOfSign r o UNBRACE x = (p : TextProgram) → o ≡ some p → x ≡ programBytes (programOf r p)
 RowOfSign r o DOT x = Unit {0}
 RowOfSign r o BAR x = Unit {0}
 RowOfSign r o STAR x = Unit {0}
 RowOfSign r o SEMICOLON x = Unit {0}
 RowOfSign r o EQUALS x = Unit {0}
 
-abbrev pub RowIs : Rules → Progress → Token → List ℕ → Type 0
-RowIs r s (nonterminal n) x = Unit {0}
-RowIs r s (value v) x = Unit {0}
-RowIs r s (attribute m a) x = Unit {0}
-RowIs r s (name n) x = x ≡ n
-RowIs r s (start-tag n) x = x ≡ n
-RowIs r s (end-tag n) x = x ≡ n
-RowIs r s (empty-tag n) x = x ≡ n
-RowIs r s (string cs) x = x ≡ utf8s cs
-RowIs r s (word w) x = Unit {0}
-RowIs r s (sign g) x = RowOfSign r (wholeIn (listingOf s)) g x
+abbrev pub RowMentioned : Rules → Progress → TextToken → List ℕ → Type 0
+RowMentioned r s (nonterminal n) x = Unit {0}
+RowMentioned r s (value v) x = Unit {0}
+RowMentioned r s (attribute m a) x = Unit {0}
+RowMentioned r s (name n) x = x ≡ n
+RowMentioned r s (start-tag n) x = x ≡ n
+RowMentioned r s (end-tag n) x = x ≡ n
+RowMentioned r s (empty-tag n) x = x ≡ n
+RowMentioned r s (string cs) x = x ≡ utf8s cs
+RowMentioned r s (word w) x = Unit {0}
+RowMentioned r s (sign g) x = RowOfSign r (wholeIn (listingOf s)) g x
 
 -- with the row the stores hold what is mentioned now, and the number is the row's in the sheet; or there is no space for what is mentioned now
-pub record Outcome (r : Rules) (s s′ : Progress) (t : Token) (a : Shelved) (tb te sb se pb pe : List ℕ) : Type 0 where
+pub record ShelvedAs (r : Rules) (s s′ : Progress) (t : TextToken) (a : Shelved) (tb te sb se pb pe : List ℕ) : Type 0 where
   pub stored : a .full ≡ false → StoresHold r s′ tb te (a .tags) sb se (a .strings) pb pe (a .programs)
-  pub placed : a .full ≡ false → PlaceIs r s t (a .place)
-  pub no-space : a .full ≡ true → Space r (soFar s′) → ⊥
+  pub placed : a .full ≡ false → RowPlaceIs r s t (a .place)
+  pub no-space : a .full ≡ true → SpaceFor r (soFar s′) → ⊥
 
 pub record ShelvedIs (kind : ℕ) (row : List ℕ) (old : Shelved) (tb te sb se pb pe tb′ te′ sb′ se′ pb′ pe′ : List ℕ) (a : Shelved) : Type 0 where
   pub rowed : Rowed a tb′ te′ sb′ se′ pb′ pe′
-  pub is : (r : Rules) (s s′ : Progress) (t : Token) → old .full ≡ false → kind ≡ kindOf t → TokenFits t → Tidy s → Goes s t s′ → Leads s′ r → RowIs r s t row
-      → StoresHold r s tb te (old .tags) sb se (old .strings) pb pe (old .programs) → Outcome r s s′ t a tb′ te′ sb′ se′ pb′ pe′
+  pub is : (r : Rules) (s s′ : Progress) (t : TextToken) → old .full ≡ false → kind ≡ tokenKind t → TokenFits t → Tidy s → Goes s t s′ → LeadsToRules s′ r → RowMentioned r s t row
+      → StoresHold r s tb te (old .tags) sb se (old .strings) pb pe (old .programs) → ShelvedAs r s s′ t a tb′ te′ sb′ se′ pb′ pe′

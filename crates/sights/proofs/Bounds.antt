@@ -5,7 +5,7 @@ use mathlib.Core.List.{List, _∷_, _++_}
 use Prim.Native.Nat.{ℕ, _+_, _≤_, _<_}
 use native.Mathlib.Omega.{arith}
 use lib.ListN.{length, drop, length-append, length-drop}
-use Rattle.notation.specs.Tokens.{bytesOf}
+use Rattle.notation.specs.Tokens.{tokenBytes}
 use Rattle.gaps.specs.declared.Skipped.{Skipped}
 use Rattle.gaps.specs.Skipped.{SkippedIs, a-byte, a-comment}
 use Rattle.lexing.proofs.Spellings.{part, part-is}
@@ -20,7 +20,7 @@ pub bad-below : (x : List ℕ) (i : ℕ) → SkippedIs x (Skipped.Bad i) → i �
 bad-below x i (a-comment {b = b} g c y h a e l n m) = omega (arith, l, ap length e, length-append g (35 ∷ (c ++ b ∷ y)), length-append c (b ∷ y))
 
 token-below : (may : List Bool) (x : List ℕ) (k n l : ℕ) → Lexed may x (Lexeme.Token k n l) → (k < kinds) × (l ≤ length x)
-token-below may x k n l (Lexed.a-token t w a c d) = (subst (λ z. z < kinds) (sym a) (kind-below t), omega (arith, d, ap length (w .are), length-append (bytesOf t) (w .rest)))
+token-below may x k n l (Lexed.a-token t w a c d) = (subst (λ z. z < kinds) (sym a) (kind-below t), omega (arith, d, ap length (w .are), length-append (tokenBytes t) (w .rest)))
 
 stuck-below : (may : List Bool) (x : List ℕ) (k : ℕ) → Lexed may x (Lexeme.Stuck k) → k ≤ length x
 stuck-below may x k (Lexed.no-token s) = s .reached

@@ -13,7 +13,7 @@ use Rattle.rulings.specs.Readers.{Holds, Firm}
 use Rattle.ledgers.proofs.Telling.{later-none, later-twice, judged-on}
 use Rattle.sights.specs.declared.Glance.{Glance}
 use Rattle.sights.specs.declared.Ruling.{Ruling}
-use Rattle.sights.specs.Glances.{Met, Seen, meets, writes-rules, refuses, GlanceIs, Somewhere, Told, rest-writes, rest-refused, RestIs}
+use Rattle.sights.specs.Glances.{Met, Seen, meets, writes-rules, refuses, GlanceIs, Somewhere, RestTold, rest-writes, rest-refused, RestIs}
 
 -- what is found behind the first bytes
 pub record Onto (s : Progress) (x : List ℕ) (from : ℕ) (g : Glance) : Type 0 where
@@ -68,12 +68,12 @@ along-on x first from g h a y i =
 pub along-onward : (x : List ℕ) (first : Glance) (from : ℕ) (g : Glance) → Along x first from g → g .going ≡ true → 1 ≤ g .long
 along-onward x first from g a y = let f = a .onto (a .some-state) (a .some-seen) in met-of (f .state) (drop from x) g y (f .seen) .onward
 
-rules-told : (s : Progress) (x : List ℕ) (from : ℕ) (g : Glance) (f : Onto s x from g) → g .going ≡ false → g .written ≡ true → Seen (f .state) (drop from x) g → Told s x Ruling.Rules
+rules-told : (s : Progress) (x : List ℕ) (from : ℕ) (g : Glance) (f : Onto s x from g) → g .going ≡ false → g .written ≡ true → Seen (f .state) (drop from x) g → RestTold s x Ruling.Rules
 rules-told s x from g f y w (meets e m) = absurd (true≢false (sym e ∙ y))
 rules-told s x from g f y w (writes-rules e h v a j) = rest-writes v (f .judged (writes v) (ended j a))
 rules-told s x from g f y w (refuses e h j) = absurd (true≢false (sym w ∙ h))
 
-refusal-told : (s : Progress) (x : List ℕ) (from : ℕ) (g : Glance) (f : Onto s x from g) → g .going ≡ false → g .written ≡ false → Seen (f .state) (drop from x) g → Told s x (Ruling.Refused (from + g .at))
+refusal-told : (s : Progress) (x : List ℕ) (from : ℕ) (g : Glance) (f : Onto s x from g) → g .going ≡ false → g .written ≡ false → Seen (f .state) (drop from x) g → RestTold s x (Ruling.Refused (from + g .at))
 refusal-told s x from g f y w (meets e m) = absurd (true≢false (sym e ∙ y))
 refusal-told s x from g f y w (writes-rules e h v a j) = absurd (true≢false (sym h ∙ w))
 refusal-told s x from g f y w (refuses e h j) = rest-refused (f .judged (refused-at (g .at)) j)

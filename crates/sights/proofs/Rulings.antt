@@ -11,7 +11,7 @@ use Rattle.verdicts.proofs.Judging.{judged-right}
 use Rattle.rulings.specs.declared.Reader.{Reader}
 use Rattle.rulings.specs.Readers.{StartIs}
 use Rattle.sights.specs.declared.Ruling.{Ruling}
-use Rattle.sights.specs.Glances.{Somewhere, Told, rest-writes, rest-refused, RestIs}
+use Rattle.sights.specs.Glances.{Somewhere, RestTold, rest-writes, rest-refused, RestIs}
 use Rattle.sights.specs.Rulings.{RulingIs, writes-rules, writes-none, OneRuling}
 
 pub one-ruling : OneRuling
@@ -23,7 +23,7 @@ one-ruling text a b (writes-none {k = j} h) (writes-none {k = k} i) = ap Ruling.
 pub somewhere-first : (r : Reader) → StartIs r → Somewhere r
 somewhere-first r h = record { state = beginning; holds = h .holds }
 
-told-ruling : (text : List ℕ) (a : Ruling) → Told beginning text a → RulingIs text a
+told-ruling : (text : List ℕ) (a : Ruling) → RestTold beginning text a → RulingIs text a
 told-ruling text a (rest-writes v j) = writes-rules v (judged-right text (writes v) j)
 told-ruling text a (rest-refused {k = k} j) = writes-none (judged-right text (refused-at k) j)
 

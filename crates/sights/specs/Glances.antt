@@ -6,10 +6,10 @@ use mathlib.Core.List.{List}
 use Prim.Native.Nat.{ℕ, _+_, _≤_}
 use lib.ListN.{length}
 use Rattle.notation.specs.Rules.{Rules}
-use Rattle.notation.specs.Tokens.{Token}
+use Rattle.notation.specs.Tokens.{TextToken}
 use Rattle.notation.specs.Gaps.{Ending}
 use Rattle.reading.specs.Rules.{Progress, valueOfRules}
-use Rattle.lexemes.specs.Kinds.{kindOf, numberOf}
+use Rattle.lexemes.specs.Kinds.{tokenKind, tokenNumber}
 use Rattle.verdicts.specs.Judged.{writes, refused-at, Judged}
 use Rattle.rulings.specs.declared.Reader.{Reader}
 use Rattle.rulings.specs.Readers.{Holds, Firm}
@@ -19,11 +19,11 @@ use Rattle.sights.specs.declared.Ruling.{Ruling}
 
 -- a token that the machine takes
 pub record Met (s : Progress) (x : List ℕ) (a : Glance) : Type 0 where
-  pub token : Token
+  pub token : TextToken
   pub next : Progress
   pub stands : TokenAt s x (a .at) (a .long) token next
-  pub kind-is : a .kind ≡ kindOf token
-  pub number-is : a .number ≡ numberOf token
+  pub kind-is : a .kind ≡ tokenKind token
+  pub number-is : a .number ≡ tokenNumber token
   pub onward : 1 ≤ a .long
   pub holds : Holds next (a .reader)
 
@@ -44,9 +44,9 @@ pub record Somewhere (r : Reader) : Type 0 where
   pub holds : Holds state r
 
 -- what is told of the rest of a text
-pub data Told (s : Progress) (x : List ℕ) : Ruling → Type 0 where
-  rest-writes : (v : Rules) → Judged s x (writes v) → Told s x Ruling.Rules
-  rest-refused : {k : ℕ} → Judged s x (refused-at k) → Told s x (Ruling.Refused k)
+pub data RestTold (s : Progress) (x : List ℕ) : Ruling → Type 0 where
+  rest-writes : (v : Rules) → Judged s x (writes v) → RestTold s x Ruling.Rules
+  rest-refused : {k : ℕ} → Judged s x (refused-at k) → RestTold s x (Ruling.Refused k)
 
 pub record RestIs (x : List ℕ) (r : Reader) (a : Ruling) : Type 0 where
-  pub told : (s : Progress) → Holds s r → Told s x a
+  pub told : (s : Progress) → Holds s r → RestTold s x a

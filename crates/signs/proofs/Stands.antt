@@ -11,37 +11,37 @@ use lib.Seq.{drop-append-seam, drop-drop}
 use borrow.Author.Tests.{eqb-true}
 use Rattle.expressions.specs.Expr.{Exp}
 use Rattle.parting.specs.Parting.{Node}
-use Rattle.notation.specs.Rules.{Tree, expression, Rule, Rules}
-use Rattle.notation.specs.Tokens.{Token, name, bytesOf}
+use Rattle.notation.specs.Rules.{Tree, expression, TextRule, Rules}
+use Rattle.notation.specs.Tokens.{TextToken, name, tokenBytes}
 use Rattle.notation.specs.RuleText.{RuleText}
 use Rattle.posts.specs.declared.Milestone.{Milestone}
 use Rattle.posts.specs.declared.Wanted.{Wanted}
 use Rattle.posts.specs.declared.Halt.{Halt}
 use Rattle.posts.specs.Posts.{setOut, passedAll, isPost, isWanted}
-use Rattle.posts.specs.Found.{StandsAt, next, behind, FirstWanted, Told, there, nowhere, HaltIs}
-use Rattle.posts.specs.Promises.{ownToken, inOrderOf, Numbered}
+use Rattle.posts.specs.Found.{StandsAt, next, behind, FirstWanted, WantedTold, there, nowhere, HaltIs}
+use Rattle.posts.specs.Promises.{ownToken, inOrderOf, Kth}
 use Rattle.posts.proofs.Nodes.{posts-are-nodes, posts-there}
 use Rattle.signs.specs.Order.{rank}
 use Rattle.signs.specs.Promises.{OwnAt, SignStands}
 use Rattle.signs.proofs.Own.{own-token-there}
 
 -- the bytes from a token's place on begin with it
-stands-there : {before : List Token} {t : Token} {x : List ℕ} {i : ℕ} → StandsAt before t x i → (rest : List ℕ) × (drop i x ≡ bytesOf t ++ rest)
+stands-there : {before : List TextToken} {t : TextToken} {x : List ℕ} {i : ℕ} → StandsAt before t x i → (rest : List ℕ) × (drop i x ≡ tokenBytes t ++ rest)
 stands-there {t = t} {x = x} {i = i} (next g r e h m n) =
-    (r, ap (λ (k : ℕ). drop k x) n ∙ ap (λ (y : List ℕ). drop (length g) y) e ∙ drop-append-seam g (bytesOf t ++ r))
+    (r, ap (λ (k : ℕ). drop k x) n ∙ ap (λ (y : List ℕ). drop (length g) y) e ∙ drop-append-seam g (tokenBytes t ++ r))
 stands-there {t = t} {x = x} {i = i} (behind {u = u} {j = j} g r e h m s n) =
     let z = stands-there s in (
       z .0,
       ap (λ (k : ℕ). drop k x) (n ∙ far)
-          ∙ sym (drop-drop (length (bytesOf u) + j) (length g) x)
-          ∙ ap (λ (y : List ℕ). drop (length (bytesOf u) + j) (drop (length g) y)) e
-          ∙ ap (λ (y : List ℕ). drop (length (bytesOf u) + j) y) (drop-append-seam g (bytesOf u ++ r))
-          ∙ sym (drop-drop j (length (bytesOf u)) (bytesOf u ++ r))
-          ∙ ap (λ (y : List ℕ). drop j y) (drop-append-seam (bytesOf u) r)
+          ∙ sym (drop-drop (length (tokenBytes u) + j) (length g) x)
+          ∙ ap (λ (y : List ℕ). drop (length (tokenBytes u) + j) (drop (length g) y)) e
+          ∙ ap (λ (y : List ℕ). drop (length (tokenBytes u) + j) y) (drop-append-seam g (tokenBytes u ++ r))
+          ∙ sym (drop-drop j (length (tokenBytes u)) (tokenBytes u ++ r))
+          ∙ ap (λ (y : List ℕ). drop j y) (drop-append-seam (tokenBytes u) r)
           ∙ z .1,
     )
   where
-    far : length g + length (bytesOf u) + j ≡ length g + (length (bytesOf u) + j)
+    far : length g + length (tokenBytes u) + j ≡ length g + (length (tokenBytes u) + j)
     far = omega arith
 
 both-true : (a b : Bool) → a && b ≡ true → (a ≡ true) × (b ≡ true)
@@ -49,11 +49,11 @@ both-true true b e = (refl, e)
 both-true false b e = absurd (true≢false (sym e))
 
 -- what a token that is wanted is
-record Met (p k : ℕ) (m : Milestone) (t : Token) : Type 0 where
+record Met (p k : ℕ) (m : Milestone) (t : TextToken) : Type 0 where
   is-post : isPost t ≡ true
   milestone : m ≡ record { productions = p; posts = k }
 
-met : (p k : ℕ) (m : Milestone) (t : Token) → isWanted (Wanted.Post p k) m t ≡ true → Met p k m t
+met : (p k : ℕ) (m : Milestone) (t : TextToken) → isWanted (Wanted.Post p k) m t ≡ true → Met p k m t
 met p k m t e =
     let a = both-true (isPost t) (eqb (m .productions) p && eqb (m .posts) k) e in
     let b = both-true (eqb (m .productions) p) (eqb (m .posts) k) (a .1) in
@@ -67,13 +67,13 @@ sign-stands text v h q d nth t inside n f node r halt = on (r .found) refl (halt
     post : ℕ
     post = suc (rank (expression t) 1 n)
 
-    own : Numbered (name (d .tag) ∷ inOrderOf (d .inside)) post (ownToken f)
-    own = subst (λ o. Numbered (inOrderOf o) (rank (expression t) 1 n) (ownToken f)) (sym inside) (own-token-there (expression t) f 1 n node)
+    own : Kth (name (d .tag) ∷ inOrderOf (d .inside)) post (ownToken f)
+    own = subst (λ o. Kth (inOrderOf o) (rank (expression t) 1 n) (ownToken f)) (sym inside) (own-token-there (expression t) f 1 n node)
 
-    on : (b : Bool) → r .found ≡ b → Told (Wanted.Post (suc q) post) (h .tokens) text (r .at) b → OwnAt text f r
+    on : (b : Bool) → r .found ≡ b → WantedTold (Wanted.Post (suc q) post) (h .tokens) text (r .at) b → OwnAt text f r
     on true e (there w) =
         let m = met (suc q) post (passedAll setOut (w .before)) (w .token) (w .wanted) in
         let same : w .token ≡ ownToken f = posts-are-nodes (h .tokens) v (h .grammatical) q d nth (w .before) (w .token) (ownToken f) (w .after) (w .are) (m .is-post) post (m .milestone) own in
         let s = stands-there (w .stands) in
-        record { there = e; rest = s .0; are = s .1 ∙ ap (λ k. bytesOf k ++ s .0) same }
+        record { there = e; rest = s .0; are = s .1 ∙ ap (λ k. tokenBytes k ++ s .0) same }
     on false e (nowhere w) = absurd (posts-there (h .tokens) v (h .grammatical) q d nth post (ownToken f) own w)

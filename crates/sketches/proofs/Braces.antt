@@ -1,10 +1,10 @@
 -- Which token has the kind of a closing brace. Assumes nothing.
 use mathlib.Core.Path.{_≡_, refl}
 use native.Mathlib.Omega.{arith}
-use Rattle.notation.specs.Tokens.{plain, left, right, Token, nonterminal, value, attribute, name, start-tag, end-tag, empty-tag, string, word, CHAR, ECHO, ECHO-OFF, REJECT, PRINT, IF, THEN, ELSE, BEGIN, END, AND, OR, NOT, EMPTY, sign, DEFINED, ASSIGNED, OPEN, CLOSE, BRACE, UNBRACE, DOT, BAR, STAR, SEMICOLON, EQUALS}
-use Rattle.lexemes.specs.Kinds.{kindOf}
+use Rattle.notation.specs.Tokens.{plain, left, right, TextToken, nonterminal, value, attribute, name, start-tag, end-tag, empty-tag, string, word, CHAR, ECHO, ECHO-OFF, REJECT, PRINT, IF, THEN, ELSE, BEGIN, END, AND, OR, NOT, EMPTY, sign, DEFINED, ASSIGNED, OPEN, CLOSE, BRACE, UNBRACE, DOT, BAR, STAR, SEMICOLON, EQUALS}
+use Rattle.lexemes.specs.Kinds.{tokenKind}
 
-pub unbrace-kind : (t : Token) → kindOf t ≡ 28 → t ≡ sign UNBRACE
+pub unbrace-kind : (t : TextToken) → tokenKind t ≡ 28 → t ≡ sign UNBRACE
 unbrace-kind (sign UNBRACE) e = refl
 unbrace-kind (nonterminal n) e = absurd (omega (arith, e))
 unbrace-kind (value v) e = absurd (omega (arith, e))

@@ -7,9 +7,9 @@ use Prim.Native.Nat.{ℕ, suc, _+_, max}
 use native.Mathlib.Numerals.{add-one}
 use native.Mathlib.Omega.{arith}
 use Rattle.expressions.specs.Expr.{nodes, depth}
-use Rattle.notation.specs.Program.{Program}
+use Rattle.notation.specs.Program.{TextProgram}
 use Rattle.notation.specs.Rules.{Tree, node, Form, star, expression}
-use Rattle.reading.specs.Expressions.{Level, joinedCat, joinedAlt, whole, sealed, around}
+use Rattle.reading.specs.Expressions.{ExpressionLevel, joinedCat, joinedAlt, wholeExpression, sealed, aroundExpression}
 use Rattle.sketches.specs.declared.Figure.{Figure}
 use Rattle.sketches.specs.declared.Beside.{Beside}
 use Rattle.sketches.specs.declared.Surround.{Surround}
@@ -27,16 +27,16 @@ alt-figure (some a) e = simp add-one
 pub star-figure : (e : Tree) → figureOf (node none none (star e)) ≡ starred (figureOf e)
 star-figure e = simp add-one
 
-pub sealed-figure : (b : Option Program) (t : Tree) → figureOf (sealed b t) ≡ sealedBy (present b) (figureOf t)
+pub sealed-figure : (b : Option TextProgram) (t : Tree) → figureOf (sealed b t) ≡ sealedBy (present b) (figureOf t)
 sealed-figure none (node f g k) = refl
 sealed-figure (some p) (node none g k) = refl
 sealed-figure (some p) (node (some f) g k) = simp add-one
 
-pub whole-figure : (l : Level) (m : Surround) (e : Tree) → figureOf (whole l e) ≡ wholeIn (parenIn l m) (figureOf e)
+pub whole-figure : (l : ExpressionLevel) (m : Surround) (e : Tree) → figureOf (wholeExpression l e) ≡ wholeIn (parenIn l m) (figureOf e)
 whole-figure l m e = alt-figure (l .alt-left) (joinedCat (l .cat-left) e) ∙ ap (joinedTo (besideOf (l .alt-left))) (cat-figure (l .cat-left) e)
 
-pub held-figure : (l : Level) (m : Surround) (e : Tree) → figureOf (sealed (l .before) (whole l e)) ≡ heldIn (parenIn l m) (figureOf e)
-held-figure l m e = sealed-figure (l .before) (whole l e) ∙ ap (sealedBy (present (l .before))) (whole-figure l m e)
+pub held-figure : (l : ExpressionLevel) (m : Surround) (e : Tree) → figureOf (sealed (l .before) (wholeExpression l e)) ≡ heldIn (parenIn l m) (figureOf e)
+held-figure l m e = sealed-figure (l .before) (wholeExpression l e) ∙ ap (sealedBy (present (l .before))) (whole-figure l m e)
 
 -- one part further in
 fronting-nodes : (b f : Bool) (m : Surround) (n d : ℕ) (g : Bool) → nodesWith (fronting b m) (figure n d f g) ≡ nodesWith m (sealedBy b (figure n d f g))
@@ -81,12 +81,12 @@ inner-depth p e =
     ∙ beyond-depth (u .there) (u .nodes) (u .depth) m (joinedTo c e)
     ∙ fronting-depth (p .before) (w .first) (p .surround) (w .nodes) (w .depth) (w .second)
 
-pub around-nodes : (ls : List Level) (e : Tree) → nodes (expression (around ls e)) ≡ nodesWith (surroundOf ls) (figureOf e)
+pub around-nodes : (ls : List ExpressionLevel) (e : Tree) → nodes (expression (aroundExpression ls e)) ≡ nodesWith (surroundOf ls) (figureOf e)
 around-nodes [] e = omega (arith, no-first (firstOf e))
 around-nodes (l ∷ ls) e =
-    around-nodes ls (sealed (l .before) (whole l e)) ∙ ap (nodesWith (surroundOf ls)) (held-figure l (surroundOf ls) e) ∙ sym (inner-nodes (parenOf l ls) (figureOf e))
+    around-nodes ls (sealed (l .before) (wholeExpression l e)) ∙ ap (nodesWith (surroundOf ls)) (held-figure l (surroundOf ls) e) ∙ sym (inner-nodes (parenOf l ls) (figureOf e))
 
-pub around-depth : (ls : List Level) (e : Tree) → depth (expression (around ls e)) ≡ depthWith (surroundOf ls) (figureOf e)
+pub around-depth : (ls : List ExpressionLevel) (e : Tree) → depth (expression (aroundExpression ls e)) ≡ depthWith (surroundOf ls) (figureOf e)
 around-depth [] e = omega (arith, no-first (firstOf e))
 around-depth (l ∷ ls) e =
-    around-depth ls (sealed (l .before) (whole l e)) ∙ ap (depthWith (surroundOf ls)) (held-figure l (surroundOf ls) e) ∙ sym (inner-depth (parenOf l ls) (figureOf e))
+    around-depth ls (sealed (l .before) (wholeExpression l e)) ∙ ap (depthWith (surroundOf ls)) (held-figure l (surroundOf ls) e) ∙ sym (inner-depth (parenOf l ls) (figureOf e))

@@ -9,18 +9,18 @@ use native.Mathlib.Omega.{arith}
 use lib.ListN.{getD}
 use Rattle.expressions.specs.Expr.{Atom}
 use Rattle.programs.specs.Limits.{Visit, first, second}
-use Rattle.notation.specs.Program.{Program}
+use Rattle.notation.specs.Program.{TextProgram}
 use Rattle.notation.specs.Rules.{Tree, node, Form}
-use Rattle.notation.specs.Limits.{ProgramWithin, OptionWithin, ContentWithin, EachWithin, Within}
-use Rattle.notation.specs.Tokens.{Token, nonterminal, value, attribute, name, start-tag, end-tag, empty-tag, string, word, Word, CHAR, ECHO, ECHO-OFF, REJECT, PRINT, IF, THEN, ELSE, BEGIN, END, AND, OR, NOT, EMPTY, sign, Sign, DEFINED, ASSIGNED, OPEN, CLOSE, BRACE, UNBRACE, DOT, BAR, STAR, SEMICOLON, EQUALS}
+use Rattle.notation.specs.Limits.{ProgramWithin, OptionWithin, ContentWithin, EachWithin, WithinLimits}
+use Rattle.notation.specs.Tokens.{TextToken, nonterminal, value, attribute, name, start-tag, end-tag, empty-tag, string, word, Keyword, CHAR, ECHO, ECHO-OFF, REJECT, PRINT, IF, THEN, ELSE, BEGIN, END, AND, OR, NOT, EMPTY, sign, Sign, DEFINED, ASSIGNED, OPEN, CLOSE, BRACE, UNBRACE, DOT, BAR, STAR, SEMICOLON, EQUALS}
 use Rattle.reading.specs.Statements.{Listing, listStart, stepStatements, valueOfList, finishedList}
-use Rattle.reading.specs.Expressions.{Piece, a-leaf, a-star, a-dot, a-bar, an-open, a-close, a-brace, an-unbrace, other, pieceOf, nonterminal?, atomIf, unbraces, listing, Parsing, wants, in-front, after, behind, over, level}
-use Rattle.reading.specs.Rules.{Key, a-nonterminal, a-name, a-definition, keyOf, Head, Progress, beginning, first-word, named, defined, own-front, wants-tag, tagged, within, closed, own-back, complete, ruleOf, closes, parsing, stepRules, valueOfRules, finishedRules}
+use Rattle.reading.specs.Expressions.{ExpressionPart, a-leaf, a-star, a-dot, a-bar, an-open, a-close, a-brace, an-unbrace, other, pieceOf, nonterminal?, atomIf, unbraces, listing, Parsing, wants, in-front, after, behind, over, expressionLevel}
+use Rattle.reading.specs.Rules.{Key, a-nonterminal, a-name, a-definition, keyOf, Head, Progress, beginning, first-word, named, defined, own-front, wants-tag, tagged, within, closed, own-back, complete, ruleRead, closesContent, parsing, stepRules, valueOfRules, finishedRules}
 use Rattle.reading.proofs.Telling.{none≢some}
 use Rattle.reading.proofs.Statements.{finished-value}
-use Rattle.lexemes.specs.Kinds.{kinds, kindOf, TokenFits, Allowed}
+use Rattle.lexemes.specs.Kinds.{kinds, tokenKind, TokenFits, MarkedKind}
 use Rattle.lexemes.proofs.Found.{kind-below}
-use Rattle.verdicts.specs.Judged.{Goes, Takes}
+use Rattle.verdicts.specs.Judged.{Goes, TakesToken}
 use Rattle.verdicts.specs.Steps.{Marks}
 use Rattle.sketches.specs.Figures.{present}
 use Rattle.sketches.specs.Moves.{Sketch, sketched, after-move, moveOf, sketchFits, sketchIf, where-fit, stepSketch, programAt, unbracedSketch, textEnds}
@@ -36,7 +36,7 @@ pub drawn-first : DrawnFirst
 drawn-first = record { numbers = refl; kept = tt; fitting = refl }
 
 -- a drawn state keeps the limits
-drawn-within : (s : Progress) (k : Sketch) → Drawn s k → Within (finishedRules s)
+drawn-within : (s : Progress) (k : Sketch) → Drawn s k → WithinLimits (finishedRules s)
 drawn-within s k d = kept-within s (d .kept) (ap sketchFits (d .numbers) ∙ d .fitting)
 
 pub programs-alike : ProgramsAlike
@@ -79,8 +79,8 @@ plain-takes s s′ k t d z g =
     let w = drawn-within s k d in
     let n = subst EnteredIf (g .taken) (plain-enters s t z (d .kept) w) in
     let f = within-fits s′ (g .fits) in
-    let m : after-move k (moveOf (k .point) (kindOf t)) ≡ some (sketch s′) =
-    ap (λ x. after-move x (moveOf (x .point) (kindOf t))) (sym (d .numbers)) ∙ sym (plain-follows s t z fit) ∙ ap (Option·map sketch) (g .taken) in
+    let m : after-move k (moveOf (k .point) (tokenKind t)) ≡ some (sketch s′) =
+    ap (λ x. after-move x (moveOf (x .point) (tokenKind t))) (sym (d .numbers)) ∙ sym (plain-follows s t z fit) ∙ ap (Option·map sketch) (g .taken) in
     record {
       fit = fit;
       stepped = ap where-fit m ∙ ap (λ b. sketchIf b (sketch s′)) f;
@@ -121,11 +121,11 @@ begun-kept (complete r h) i = tt
 pub plain-goes : PlainGoes
 plain-goes s k k′ t d z fit e = on (stepRules s t) refl
   where
-    a : (after-move k (moveOf (k .point) (kindOf t)) ≡ some k′) × (sketchFits k′ ≡ true)
-    a = taken-fits (after-move k (moveOf (k .point) (kindOf t))) k′ e
+    a : (after-move k (moveOf (k .point) (tokenKind t)) ≡ some k′) × (sketchFits k′ ≡ true)
+    a = taken-fits (after-move k (moveOf (k .point) (tokenKind t))) k′ e
 
     m : Option·map sketch (stepRules s t) ≡ some k′
-    m = plain-follows s t z fit ∙ ap (λ x. after-move x (moveOf (x .point) (kindOf t))) (d .numbers) ∙ a .0
+    m = plain-follows s t z fit ∙ ap (λ x. after-move x (moveOf (x .point) (tokenKind t))) (d .numbers) ∙ a .0
 
     on : (o : Option Progress) → stepRules s t ≡ o → (s′ : Progress) × Goes s t s′ × (sketch s′ ≡ k′)
     on none i = absurd (none≢some (ap (Option·map sketch) i) m)
@@ -140,20 +140,20 @@ record ReadsProgram (s : Progress) : Type 1 where
   visit : Visit
   list : Listing
   hold : Listing → Progress
-  done : Program → Progress
+  done : TextProgram → Progress
   reads : listingOf s ≡ some list
   at : programAt (sketch s .point) ≡ some visit
-  steps : (t : Token) → stepRules s t ≡ listing (stepStatements visit list t) hold (unbraces (pieceOf t) (valueOfList list) done)
+  steps : (t : TextToken) → stepRules s t ≡ listing (stepStatements visit list t) hold (unbraces (pieceOf t) (valueOfList list) done)
   held : (r : Listing) → (sketch (hold r) ≡ sketch s) × (listingOf (hold r) ≡ some r)
-  left : (p : Program) → (sketch (done p) ≡ unbracedSketch (sketch s)) × (listingOf (done p) ≡ none)
+  left : (p : TextProgram) → (sketch (done p) ≡ unbracedSketch (sketch s)) × (listingOf (done p) ≡ none)
   same-fits : sketchFits (unbracedSketch (sketch s)) ≡ sketchFits (sketch s)
   was-kept : ProgramWithin (finishedList list)
   held-list : (r : Listing) → ListKept (hold r) → ProgramWithin (finishedList r)
   held-kept : (r : Listing) → ProgramWithin (finishedList r) → KeptSoFar (hold r)
-  left-kept : (p : Program) → ProgramWithin p → KeptSoFar (done p)
+  left-kept : (p : TextProgram) → ProgramWithin p → KeptSoFar (done p)
 
-module _ (f : Option Program) (u : List ℕ) (h : Head) where
-  no-closes : (k : Key) → closes k none f u h ≡ none
+module _ (f : Option TextProgram) (u : List ℕ) (h : Head) where
+  no-closes : (k : Key) → closesContent k none f u h ≡ none
   no-closes (a-nonterminal n) = refl
   no-closes (a-name v) = refl
   no-closes a-definition = refl
@@ -162,7 +162,7 @@ module _ (f : Option Program) (u : List ℕ) (h : Head) where
   no-closes Key.a-brace = refl
   no-closes Key.other = refl
 
-  listing-within : (o : Option Listing) (a : Listing → Parsing) (d : Program → Parsing) (p : Piece) (v : Option Program)
+  listing-within : (o : Option Listing) (a : Listing → Parsing) (d : TextProgram → Parsing) (p : ExpressionPart) (v : Option TextProgram)
       → parsing (listing o a (unbraces p v d)) none f u h ≡ listing o (λ r. within (a r) f u h) (unbraces p v (λ x. within (d x) f u h))
   listing-within (some r) a d p v = refl
   listing-within none a d (a-leaf k) v = refl
@@ -204,12 +204,12 @@ program-view (within (in-front q ls) f u h) k = inr (record {
   visit = first;
   list = q;
   hold = λ r. within (in-front r ls) f u h;
-  done = λ p. within (wants false (level (some p) none none) ls) f u h;
+  done = λ p. within (wants false (expressionLevel (some p) none none) ls) f u h;
   reads = refl;
   at = refl;
   steps = λ t.
-      ap (λ y. parsing (listing (stepStatements first q t) (λ r. in-front r ls) (unbraces (pieceOf t) (valueOfList q) (λ p. wants false (level (some p) none none) ls))) y f u h) (no-closes f u h (keyOf t))
-      ∙ listing-within f u h (stepStatements first q t) (λ r. in-front r ls) (λ p. wants false (level (some p) none none) ls) (pieceOf t) (valueOfList q);
+      ap (λ y. parsing (listing (stepStatements first q t) (λ r. in-front r ls) (unbraces (pieceOf t) (valueOfList q) (λ p. wants false (expressionLevel (some p) none none) ls))) y f u h) (no-closes f u h (keyOf t))
+      ∙ listing-within f u h (stepStatements first q t) (λ r. in-front r ls) (λ p. wants false (expressionLevel (some p) none none) ls) (pieceOf t) (valueOfList q);
   held = λ r. (refl, refl);
   left = λ p. (refl, refl);
   same-fits = refl;
@@ -243,7 +243,7 @@ program-view (own-back q f u e h) k = inr (record {
   visit = second;
   list = q;
   hold = λ r. own-back r f u e h;
-  done = λ p. complete (ruleOf f (some p) u e h) h;
+  done = λ p. complete (ruleRead f (some p) u e h) h;
   reads = refl;
   at = refl;
   steps = λ t. refl;
@@ -268,14 +268,14 @@ module _ (s : Progress) (k : Sketch) (d : Drawn s k) (r : ReadsProgram s) where
   drawn-held : (q : Listing) → ProgramWithin (finishedList q) → Drawn (r .hold q) k
   drawn-held q w = record { numbers = r .held q .0 ∙ d .numbers; kept = r .held-kept q w; fitting = d .fitting }
 
-  drawn-left : (p : Program) → ProgramWithin p → Drawn (r .done p) (unbracedSketch k)
+  drawn-left : (p : TextProgram) → ProgramWithin p → Drawn (r .done p) (unbracedSketch k)
   drawn-left p w = record {
     numbers = r .left p .0 ∙ ap unbracedSketch (d .numbers);
     kept = r .left-kept p w;
     fitting = ap (λ x. sketchFits (unbracedSketch x)) (sym (d .numbers)) ∙ r .same-fits ∙ ap sketchFits (d .numbers) ∙ d .fitting;
   }
 
-  goes-held : (q : Listing) (t : Token) → stepStatements (r .visit) (r .list) t ≡ some q → ProgramWithin (finishedList q) → GoesOnIn s k t q
+  goes-held : (q : Listing) (t : TextToken) → stepStatements (r .visit) (r .list) t ≡ some q → ProgramWithin (finishedList q) → GoesOnIn s k t q
   goes-held q t e w =
       let n = drawn-held q w in
       record {
@@ -285,7 +285,7 @@ module _ (s : Progress) (k : Sketch) (d : Drawn s k) (r : ReadsProgram s) where
         reads = r .held q .1;
       }
 
-  goes-left : (p : Program) → valueOfList (r .list) ≡ some p → EndsIn s k
+  goes-left : (p : TextProgram) → valueOfList (r .list) ≡ some p → EndsIn s k
   goes-left p e =
       let n = drawn-left p (subst ProgramWithin (finished-value (r .list) p e) (r .was-kept)) in
       record {
@@ -299,8 +299,8 @@ module _ (s : Progress) (k : Sketch) (d : Drawn s k) (r : ReadsProgram s) where
       }
 
   -- a brace that is taken ends the program
-  braced-taken : (t : Token) (s′ : Progress) (p : Piece) (v : Option Program) → pieceOf t ≡ p → valueOfList (r .list) ≡ v → unbraces p v (r .done) ≡ some s′
-      → (pieceOf t ≡ an-unbrace) × ((x : Program) × (valueOfList (r .list) ≡ some x) × (r .done x ≡ s′))
+  braced-taken : (t : TextToken) (s′ : Progress) (p : ExpressionPart) (v : Option TextProgram) → pieceOf t ≡ p → valueOfList (r .list) ≡ v → unbraces p v (r .done) ≡ some s′
+      → (pieceOf t ≡ an-unbrace) × ((x : TextProgram) × (valueOfList (r .list) ≡ some x) × (r .done x ≡ s′))
   braced-taken t s′ (a-leaf k) v i j e = absurd (none≢some refl e)
   braced-taken t s′ a-star v i j e = absurd (none≢some refl e)
   braced-taken t s′ a-dot v i j e = absurd (none≢some refl e)
@@ -313,7 +313,7 @@ module _ (s : Progress) (k : Sketch) (d : Drawn s k) (r : ReadsProgram s) where
   braced-taken t s′ an-unbrace (some x) i j e = (i, (x, j, cc))
 
 -- the only token that is a closing brace
-is-unbrace : (t : Token) → pieceOf t ≡ an-unbrace → t ≡ sign UNBRACE
+is-unbrace : (t : TextToken) → pieceOf t ≡ an-unbrace → t ≡ sign UNBRACE
 is-unbrace (nonterminal n) e = absurd (on (nonterminal? n) e)
   where
     on : {P : Type 0} (d : Dec P) → atomIf d (Atom.nonterminal n) ≡ an-unbrace → ⊥
@@ -379,7 +379,7 @@ program-takes s s′ k v q t d z a g = on (program-view s (d .kept))
         with-list : (o : Option Listing) → stepStatements (r .visit) (r .list) t ≡ o → ProgramTaken v q t k s′
         with-list (some q′) i =
             let j : r .hold q′ ≡ s′ = (let y = sym (ap (λ o. listing o (r .hold) (unbraces (pieceOf t) (valueOfList (r .list)) (r .done))) i) ∙ sym (r .steps t) ∙ g .taken in cc) in
-            let w = subst (λ x. Within (finishedRules x)) (sym j) (g .fits) in
+            let w = subst (λ x. WithinLimits (finishedRules x)) (sym j) (g .fits) in
             let l : ProgramWithin (finishedList q′) = r .held-list q′ (within-list (r .hold q′) w) in
             goes-on q′ (sym old ∙ i) l (listed-fits v q q′ t (sym old ∙ i)) (subst (λ x. Drawn x k) j (drawn-held s k d r q′ l)) (ap listingOf (sym j) ∙ r .held q′ .1)
         with-list none i =
@@ -398,18 +398,18 @@ some-there (some x) e = (x, refl)
 pub plain-marks : PlainMarks
 plain-marks s k may d z h = record {
   taken = λ t a.
-      let x = some-there (stepSketch k (kindOf t)) (sym (h (kindOf t) (kind-below t)) ∙ a .marked) in
+      let x = some-there (stepSketch k (tokenKind t)) (sym (h (tokenKind t) (kind-below t)) ∙ a .marked) in
       let y = plain-goes s k (x .0) t d z (a .fit) (x .1) in
       (y .0, y .1);
   marked = λ t g.
       let x = plain-takes s (g .0) k t d z (g .1) in
-      record { marked = h (kindOf t) (kind-below t) ∙ ap present (x .stepped); fit = x .fit };
+      record { marked = h (tokenKind t) (kind-below t) ∙ ap present (x .stepped); fit = x .fit };
 }
 
-unbrace? : (t : Token) → Dec (t ≡ sign UNBRACE)
+unbrace? : (t : TextToken) → Dec (t ≡ sign UNBRACE)
 unbrace? t = on (pieceOf t) refl
   where
-    on : (p : Piece) → pieceOf t ≡ p → Dec (t ≡ sign UNBRACE)
+    on : (p : ExpressionPart) → pieceOf t ≡ p → Dec (t ≡ sign UNBRACE)
     on an-unbrace i = yes (is-unbrace t i)
     on (a-leaf x) i = no (λ e. let y : an-unbrace ≡ (a-leaf x) = ap pieceOf (sym e) ∙ i in let z : _≡_ {A = ℕ} 0 1 = cc in omega arith)
     on a-star i = no (λ e. let y : an-unbrace ≡ a-star = ap pieceOf (sym e) ∙ i in let z : _≡_ {A = ℕ} 0 1 = cc in omega arith)
@@ -423,16 +423,16 @@ unbrace? t = on (pieceOf t) refl
 pub program-marks : ProgramMarks
 program-marks s k v q may d z a h = record { taken = λ t m. takes t m (unbrace? t); marked = λ t g. marks t (program-takes s (g .0) k v q t d z a (g .1)) }
   where
-    takes : (t : Token) → Allowed may t → Dec (t ≡ sign UNBRACE) → Takes s t
+    takes : (t : TextToken) → MarkedKind may t → Dec (t ≡ sign UNBRACE) → TakesToken s t
     takes t m (yes e) =
-        let x = some-there (valueOfList q) (sym (h .brace) ∙ ap (λ y. getD may (kindOf y) false) (sym e) ∙ m .marked) in
+        let x = some-there (valueOfList q) (sym (h .brace) ∙ ap (λ y. getD may (tokenKind y) false) (sym e) ∙ m .marked) in
         let y = program-ends s k q (x .0) d z (x .1) in
-        subst (Takes s) (sym e) (y .next, y .goes)
+        subst (TakesToken s) (sym e) (y .next, y .goes)
     takes t m (no e) =
         let x = h .goes-on t (m .fit) e (m .marked) in
         let y = program-goes s k v q (x .0) t d z a (x .1) (x .2) in
         (y .next, y .goes)
 
-    marks : (t : Token) {s′ : Progress} → ProgramTaken v q t k s′ → Allowed may t
+    marks : (t : TextToken) {s′ : Progress} → ProgramTaken v q t k s′ → MarkedKind may t
     marks t (goes-on q′ e w f n r) = record { marked = h .marked t q′ f e w; fit = f }
-    marks t (ends p e i n r) = subst (Allowed may) (sym e) (record { marked = h .brace ∙ ap present i; fit = tt })
+    marks t (ends p e i n r) = subst (MarkedKind may) (sym e) (record { marked = h .brace ∙ ap present i; fit = tt })

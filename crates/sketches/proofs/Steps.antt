@@ -8,17 +8,17 @@ use native.Mathlib.Omega.{arith}
 use lib.Dec.{ltb}
 use lib.ListN.{length, length-append}
 use Rattle.expressions.specs.Expr.{Atom}
-use Rattle.notation.specs.Program.{Program}
-use Rattle.notation.specs.Rules.{Tree, node, Form, Rule}
+use Rattle.notation.specs.Program.{TextProgram}
+use Rattle.notation.specs.Rules.{Tree, node, Form, TextRule}
 use Rattle.notation.specs.Limits.{nodesInAll}
 use Rattle.notation.specs.Statements.{parentheses}
-use Rattle.notation.specs.Tokens.{Mark, Token, nonterminal, value, attribute, name, start-tag, end-tag, empty-tag, string, word, Word, CHAR, ECHO, ECHO-OFF, REJECT, PRINT, IF, THEN, ELSE, BEGIN, END, AND, OR, NOT, EMPTY, sign, Sign, DEFINED, ASSIGNED, OPEN, CLOSE, BRACE, UNBRACE, DOT, BAR, STAR, SEMICOLON, EQUALS, TagName}
+use Rattle.notation.specs.Tokens.{Dollar, TextToken, nonterminal, value, attribute, name, start-tag, end-tag, empty-tag, string, word, Keyword, CHAR, ECHO, ECHO-OFF, REJECT, PRINT, IF, THEN, ELSE, BEGIN, END, AND, OR, NOT, EMPTY, sign, Sign, DEFINED, ASSIGNED, OPEN, CLOSE, BRACE, UNBRACE, DOT, BAR, STAR, SEMICOLON, EQUALS, TagName}
 use Rattle.reading.specs.Tests.{tagName?}
-use Rattle.reading.specs.Expressions.{Piece, a-leaf, a-star, a-dot, a-bar, an-open, a-close, a-brace, an-unbrace, other, pieceOf, nonterminal?, atomIf, Level, whole, fronted, Parsing, wants, in-front, after, behind, over, opened, closed, braced, backed, stepPiece, wholeValue, emptyValue, valueOfContent}
-use Rattle.reading.specs.Rules.{Key, a-nonterminal, a-name, a-definition, keyOf, keyIf, Head, Progress, beginning, first-word, named, defined, own-front, wants-tag, tagged, within, own-back, complete, ruleOf, nextHead, stepKey, closes, parsing, stepRules}
+use Rattle.reading.specs.Expressions.{ExpressionPart, a-leaf, a-star, a-dot, a-bar, an-open, a-close, a-brace, an-unbrace, other, pieceOf, nonterminal?, atomIf, ExpressionLevel, wholeExpression, fronted, Parsing, wants, in-front, after, behind, over, expressionOpened, expressionClosed, braced, backed, stepPiece, wholeValue, emptyValue, valueOfContent}
+use Rattle.reading.specs.Rules.{Key, a-nonterminal, a-name, a-definition, keyOf, keyIf, Head, Progress, beginning, first-word, named, defined, own-front, wants-tag, tagged, within, own-back, complete, ruleRead, nextHead, stepKey, closesContent, parsing, stepRules}
 use Rattle.reading.proofs.RuleSize.{nodes-append}
 use Rattle.reading.proofs.Telling.{none≢some}
-use Rattle.lexemes.specs.Kinds.{kindOf, TokenFits}
+use Rattle.lexemes.specs.Kinds.{tokenKind, TokenFits}
 use Rattle.sketches.specs.declared.Inside.{Inside}
 use Rattle.sketches.specs.declared.Outside.{Outside}
 use Rattle.sketches.specs.declared.Point.{Point}
@@ -39,7 +39,7 @@ outsideKey Key.a-close = Outside.Other
 outsideKey Key.a-brace = Outside.Brace
 outsideKey Key.other = Outside.Other
 
-abbrev insidePiece : Piece → Inside
+abbrev insidePiece : ExpressionPart → Inside
 insidePiece (a-leaf k) = Inside.Leaf
 insidePiece a-star = Inside.Star
 insidePiece a-dot = Inside.Dot
@@ -51,7 +51,7 @@ insidePiece an-unbrace = Inside.Other
 insidePiece other = Inside.Other
 
 -- of a ) alone
-abbrev closeKey : Piece → Key
+abbrev closeKey : ExpressionPart → Key
 closeKey (a-leaf k) = Key.other
 closeKey a-star = Key.other
 closeKey a-dot = Key.other
@@ -70,7 +70,7 @@ key-kept : {P : Type 0} (d : Dec P) (k : Key) → P → keyIf d k ≡ k
 key-kept (yes h) k p = refl
 key-kept (no h) k p = absurd (h p)
 
-outside-kind : (t : Token) → TokenFits t → outsideKey (keyOf t) ≡ outsideOf (kindOf t)
+outside-kind : (t : TextToken) → TokenFits t → outsideKey (keyOf t) ≡ outsideOf (tokenKind t)
 outside-kind (nonterminal n) h = ap outsideKey (key-kept (nonterminal? n) (a-nonterminal n) h)
 outside-kind (name n) h = ap outsideKey (key-kept (tagName? n) (a-name n) h)
 outside-kind (value n) h = refl
@@ -78,9 +78,9 @@ outside-kind (start-tag n) h = refl
 outside-kind (end-tag n) h = refl
 outside-kind (empty-tag n) h = refl
 outside-kind (string cs) h = refl
-outside-kind (attribute Mark.plain a) h = refl
-outside-kind (attribute Mark.left a) h = refl
-outside-kind (attribute Mark.right a) h = refl
+outside-kind (attribute Dollar.plain a) h = refl
+outside-kind (attribute Dollar.left a) h = refl
+outside-kind (attribute Dollar.right a) h = refl
 outside-kind (word CHAR) h = refl
 outside-kind (word ECHO) h = refl
 outside-kind (word ECHO-OFF) h = refl
@@ -107,7 +107,7 @@ outside-kind (sign STAR) h = refl
 outside-kind (sign SEMICOLON) h = refl
 outside-kind (sign EQUALS) h = refl
 
-inside-kind : (t : Token) → TokenFits t → insidePiece (pieceOf t) ≡ insideOf (kindOf t)
+inside-kind : (t : TextToken) → TokenFits t → insidePiece (pieceOf t) ≡ insideOf (tokenKind t)
 inside-kind (nonterminal n) h = ap insidePiece (atom-kept (nonterminal? n) (Atom.nonterminal n) h)
 inside-kind (name n) h = refl
 inside-kind (value n) h = refl
@@ -115,9 +115,9 @@ inside-kind (start-tag n) h = refl
 inside-kind (end-tag n) h = refl
 inside-kind (empty-tag n) h = refl
 inside-kind (string cs) h = refl
-inside-kind (attribute Mark.plain a) h = refl
-inside-kind (attribute Mark.left a) h = refl
-inside-kind (attribute Mark.right a) h = refl
+inside-kind (attribute Dollar.plain a) h = refl
+inside-kind (attribute Dollar.left a) h = refl
+inside-kind (attribute Dollar.right a) h = refl
 inside-kind (word CHAR) h = refl
 inside-kind (word ECHO) h = refl
 inside-kind (word ECHO-OFF) h = refl
@@ -144,20 +144,20 @@ inside-kind (sign STAR) h = refl
 inside-kind (sign SEMICOLON) h = refl
 inside-kind (sign EQUALS) h = refl
 
-module _ (o : Option (Option Tree)) (f : Option Program) (u : List ℕ) (h : Head) where
-  shut-key : {P : Type 0} (d : Dec P) (n : ℕ) → closes (keyIf d (a-nonterminal n)) o f u h ≡ none
+module _ (o : Option (Option Tree)) (f : Option TextProgram) (u : List ℕ) (h : Head) where
+  shut-key : {P : Type 0} (d : Dec P) (n : ℕ) → closesContent (keyIf d (a-nonterminal n)) o f u h ≡ none
   shut-key (yes p) n = refl
   shut-key (no p) n = refl
 
-  shut-name : {P : Type 0} (d : Dec P) (n : List ℕ) → closes (keyIf d (a-name n)) o f u h ≡ none
+  shut-name : {P : Type 0} (d : Dec P) (n : List ℕ) → closesContent (keyIf d (a-name n)) o f u h ≡ none
   shut-name (yes p) n = refl
   shut-name (no p) n = refl
 
-  shut-atom : {P : Type 0} (d : Dec P) (k : Atom) → closes (closeKey (atomIf d k)) o f u h ≡ none
+  shut-atom : {P : Type 0} (d : Dec P) (k : Atom) → closesContent (closeKey (atomIf d k)) o f u h ≡ none
   shut-atom (yes p) k = refl
   shut-atom (no p) k = refl
 
-  closes-alike : (t : Token) → closes (keyOf t) o f u h ≡ closes (closeKey (pieceOf t)) o f u h
+  closes-alike : (t : TextToken) → closesContent (keyOf t) o f u h ≡ closesContent (closeKey (pieceOf t)) o f u h
   closes-alike (nonterminal n) = shut-key (nonterminal? n) n ∙ sym (shut-atom (nonterminal? n) (Atom.nonterminal n))
   closes-alike (name n) = shut-name (tagName? n) n
   closes-alike (value n) = refl
@@ -193,7 +193,7 @@ module _ (o : Option (Option Tree)) (f : Option Program) (u : List ℕ) (h : Hea
   closes-alike (sign EQUALS) = refl
 
 -- a production more
-next-follows : (r : Rule) (h : Head) (n : ℕ) → sketch (named (nextHead r h n)) ≡ sketched Point.Named [] (length (h .earlier) + 1) (nodesInAll (h .earlier) + nodesInside (r .inside))
+next-follows : (r : TextRule) (h : Head) (n : ℕ) → sketch (named (nextHead r h n)) ≡ sketched Point.Named [] (length (h .earlier) + 1) (nodesInAll (h .earlier) + nodesInside (r .inside))
 next-follows r h n =
     let a : length (h .earlier ++ r ∷ []) ≡ length (h .earlier) + 1 = simp length-append (omega arith) in
     let b : nodesInAll (h .earlier ++ r ∷ []) ≡ nodesInAll (h .earlier) + nodesInside (r .inside) = omega (arith, nodes-append (h .earlier) (r ∷ [])) in
@@ -260,7 +260,7 @@ key-follows (tagged f w h) Key.a-close i z o = refl
 key-follows (tagged f w h) Key.a-brace i z o = refl
 key-follows (tagged f w h) Key.other i z o = refl
 key-follows (within x f w h) k i z o = absurd o
-key-follows (Progress.closed f w e h) (a-nonterminal n) i z o = ap some (next-follows (ruleOf f none w e h) h n)
+key-follows (Progress.closed f w e h) (a-nonterminal n) i z o = ap some (next-follows (ruleRead f none w e h) h n)
 key-follows (Progress.closed f w e h) (a-name u) i z o = refl
 key-follows (Progress.closed f w e h) a-definition i z o = refl
 key-follows (Progress.closed f w e h) Key.an-open i z o = refl
@@ -276,20 +276,20 @@ key-follows (complete r h) Key.a-close i z o = refl
 key-follows (complete r h) Key.a-brace i z o = refl
 key-follows (complete r h) Key.other i z o = refl
 
-parens-length : (ls : List Level) → length (parensOf ls) ≡ length ls
+parens-length : (ls : List ExpressionLevel) → length (parensOf ls) ≡ length ls
 parens-length [] = refl
 parens-length (l ∷ ls) = ap suc (parens-length ls)
 
-module _ (f : Option Program) (u : List ℕ) (h : Head) where
+module _ (f : Option TextProgram) (u : List ℕ) (h : Head) where
   -- what a token does between a tag's parentheses
-  abbrev within-steps : Parsing → Piece → Option Progress
-  within-steps x p = parsing (stepPiece x p) (closes (closeKey p) (valueOfContent x) f u h) f u h
+  abbrev within-steps : Parsing → ExpressionPart → Option Progress
+  within-steps x p = parsing (stepPiece x p) (closesContent (closeKey p) (valueOfContent x) f u h) f u h
 
-  open-follows : (b c : Bool) (l : Level) (ls : List Level) → Option·map sketch (parsing (opened b l ls) none f u h) ≡ openedIf b (parenOf l ls) (insideHead (wants c l ls) h)
+  open-follows : (b c : Bool) (l : ExpressionLevel) (ls : List ExpressionLevel) → Option·map sketch (parsing (expressionOpened b l ls) none f u h) ≡ openedIf b (parenOf l ls) (insideHead (wants c l ls) h)
   open-follows true c l ls = refl
   open-follows false c l ls = refl
 
-  close-follows : (x : Parsing) (ls : List Level) (b : Option Program) (t : Tree) → Option·map sketch (parsing (closed ls (fronted b t)) (closes Key.a-close (wholeValue ls (fronted b t)) f u h) f u h)
+  close-follows : (x : Parsing) (ls : List ExpressionLevel) (b : Option TextProgram) (t : Tree) → Option·map sketch (parsing (expressionClosed ls (fronted b t)) (closesContent Key.a-close (wholeValue ls (fronted b t)) f u h) f u h)
       ≡ after-move (sketched (pointOf x) (parensOf ls) (length (h .earlier)) (nodesInAll (h .earlier))) (shut (present b) (figureOf t))
   close-follows x [] none (node a g k) = refl
   close-follows x (l ∷ ls) none (node a g k) = refl
@@ -298,7 +298,7 @@ module _ (f : Option Program) (u : List ℕ) (h : Head) where
   close-follows x [] (some p) (node (some a) g k) = refl
   close-follows x (l ∷ ls) (some p) (node (some a) g k) = refl
 
-  back-follows : (l : Level) (ls : List Level) (b : Option Program) (t : Tree) (x : Parsing) → Option·map sketch (parsing (backed (fronted b t) ls) none f u h)
+  back-follows : (l : ExpressionLevel) (ls : List ExpressionLevel) (b : Option TextProgram) (t : Tree) (x : Parsing) → Option·map sketch (parsing (backed (fronted b t) ls) none f u h)
       ≡ after-move (sketched (pointOf x) (parensOf ls) (length (h .earlier)) (nodesInAll (h .earlier))) (backedBy (present b) (surroundOf ls) (figureOf t))
   back-follows l ls none (node a none k) x = refl
   back-follows l ls none (node none (some g) k) x = refl
@@ -307,20 +307,20 @@ module _ (f : Option Program) (u : List ℕ) (h : Head) where
   back-follows l ls (some p) (node none (some g) k) x = refl
   back-follows l ls (some p) (node (some a) g k) x = refl
 
-  empty-follows : (b : Bool) (l : Level) (ls : List Level) (o : Outside) → Follows (within (wants b l ls) f u h) (closes Key.a-close (emptyValue b ls) f u h) o Inside.Close
+  empty-follows : (b : Bool) (l : ExpressionLevel) (ls : List ExpressionLevel) (o : Outside) → Follows (within (wants b l ls) f u h) (closesContent Key.a-close (emptyValue b ls) f u h) o Inside.Close
   empty-follows true l [] o = refl
   empty-follows true l (m ∷ ls) o = refl
   empty-follows false l ls o = refl
 
-  brace-follows : (b : Bool) (l : Level) (ls : List Level) (o : Outside) → Follows (within (wants b l ls) f u h) (parsing (braced b ls) none f u h) o Inside.Brace
+  brace-follows : (b : Bool) (l : ExpressionLevel) (ls : List ExpressionLevel) (o : Outside) → Follows (within (wants b l ls) f u h) (parsing (braced b ls) none f u h) o Inside.Brace
   brace-follows true l ls o = refl
   brace-follows false l ls o = refl
 
-  over-follows : (e : Tree) (ls : List Level) (o : Outside) → Follows (within (over e ls) f u h) (within-steps (over e ls) a-close) o Inside.Close
+  over-follows : (e : Tree) (ls : List ExpressionLevel) (o : Outside) → Follows (within (over e ls) f u h) (within-steps (over e ls) a-close) o Inside.Close
   over-follows e [] o = refl
   over-follows e (l ∷ ls) o = refl
 
-  piece-follows : (x : Parsing) (p : Piece) (o : Outside) → listingOf (within x f u h) ≡ none → Follows (within x f u h) (within-steps x p) o (insidePiece p)
+  piece-follows : (x : Parsing) (p : ExpressionPart) (o : Outside) → listingOf (within x f u h) ≡ none → Follows (within x f u h) (within-steps x p) o (insidePiece p)
   piece-follows (wants b l ls) (a-leaf none) o z = refl
   piece-follows (wants b l ls) (a-leaf (some k)) o z = refl
   piece-follows (wants b l ls) a-star o z = refl
@@ -340,9 +340,9 @@ module _ (f : Option Program) (u : List ℕ) (h : Head) where
       ap (λ x. some (sketched (Wants false (paren (present (l .before)) (leftOf x) (besideOf none) (surroundOf ls))) (parensOf ls) (length (h .earlier)) (nodesInAll (h .earlier)))) (whole-figure l (surroundOf ls) e)
   piece-follows (after e l ls) an-open o z = refl
   piece-follows (after e l ls) a-close o z =
-      close-follows (after e l ls) ls (l .before) (whole l e) ∙ ap (λ x. after-move (insideHead (after e l ls) h) (shut (present (l .before)) x)) (whole-figure l (surroundOf ls) e)
+      close-follows (after e l ls) ls (l .before) (wholeExpression l e) ∙ ap (λ x. after-move (insideHead (after e l ls) h) (shut (present (l .before)) x)) (whole-figure l (surroundOf ls) e)
   piece-follows (after e l ls) a-brace o z =
-      back-follows l ls (l .before) (whole l e) (after e l ls) ∙ ap (λ x. after-move (insideHead (after e l ls) h) (backedBy (present (l .before)) (surroundOf ls) x)) (whole-figure l (surroundOf ls) e)
+      back-follows l ls (l .before) (wholeExpression l e) (after e l ls) ∙ ap (λ x. after-move (insideHead (after e l ls) h) (backedBy (present (l .before)) (surroundOf ls) x)) (whole-figure l (surroundOf ls) e)
   piece-follows (after e l ls) an-unbrace o z = refl
   piece-follows (after e l ls) other o z = refl
   piece-follows (behind q g j ls) p o z = absurd (none≢some z refl)
@@ -357,7 +357,7 @@ module _ (f : Option Program) (u : List ℕ) (h : Head) where
   piece-follows (over e ls) other o z = refl
 
 -- outside programs
-step-follows : (s : Progress) (t : Token) → listingOf s ≡ none → Follows s (stepRules s t) (outsideKey (keyOf t)) (insidePiece (pieceOf t))
+step-follows : (s : Progress) (t : TextToken) → listingOf s ≡ none → Follows s (stepRules s t) (outsideKey (keyOf t)) (insidePiece (pieceOf t))
 step-follows beginning t z = key-follows beginning (keyOf t) (insidePiece (pieceOf t)) z tt
 step-follows (first-word n) t z = key-follows (first-word n) (keyOf t) (insidePiece (pieceOf t)) z tt
 step-follows (named h) t z = key-follows (named h) (keyOf t) (insidePiece (pieceOf t)) z tt
@@ -377,5 +377,5 @@ step-follows (Progress.closed f u e h) t z = key-follows (Progress.closed f u e 
 step-follows (own-back q f u e h) t z = absurd (none≢some z refl)
 step-follows (complete r h) t z = key-follows (complete r h) (keyOf t) (insidePiece (pieceOf t)) z tt
 
-pub plain-follows : (s : Progress) (t : Token) → listingOf s ≡ none → TokenFits t → Option·map sketch (stepRules s t) ≡ after-move (sketch s) (moveOf (sketch s .point) (kindOf t))
+pub plain-follows : (s : Progress) (t : TextToken) → listingOf s ≡ none → TokenFits t → Option·map sketch (stepRules s t) ≡ after-move (sketch s) (moveOf (sketch s .point) (tokenKind t))
 plain-follows s t z h = step-follows s t z ∙ cc (outside-kind t h, inside-kind t h)

@@ -5,7 +5,7 @@ use mathlib.Core.List.{List, [], _∷_}
 use Prim.Native.Nat.{ℕ, _+_, max}
 use Rattle.expressions.specs.Expr.{nodes, depth}
 use Rattle.notation.specs.Rules.{Tree, node, expression}
-use Rattle.reading.specs.Expressions.{Level}
+use Rattle.reading.specs.Expressions.{ExpressionLevel}
 use Rattle.sketches.specs.declared.Figure.{Figure}
 use Rattle.sketches.specs.declared.Beside.{Beside}
 use Rattle.sketches.specs.declared.Surround.{Surround}
@@ -117,16 +117,16 @@ abbrev pub justOpened : Surround → Paren
 justOpened m = paren false (beside false 0 0) (beside false 0 0) m
 
 -- of the machine's levels, innermost first
-abbrev pub parenIn : Level → Surround → Paren
+abbrev pub parenIn : ExpressionLevel → Surround → Paren
 parenIn l m = paren (present (l .before)) (besideOf (l .alt-left)) (besideOf (l .cat-left)) m
 
-abbrev pub surroundOf : List Level → Surround
+abbrev pub surroundOf : List ExpressionLevel → Surround
 surroundOf [] = bare
 surroundOf (l ∷ ls) = innerOf (parenIn l (surroundOf ls))
 
-abbrev pub parenOf : Level → List Level → Paren
+abbrev pub parenOf : ExpressionLevel → List ExpressionLevel → Paren
 parenOf l ls = parenIn l (surroundOf ls)
 
-abbrev pub parensOf : List Level → List Paren
+abbrev pub parensOf : List ExpressionLevel → List Paren
 parensOf [] = []
 parensOf (l ∷ ls) = parenOf l ls ∷ parensOf ls

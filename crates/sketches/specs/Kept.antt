@@ -1,15 +1,15 @@
 -- What has been read of programs keeps their limits, and so do the productions before. Assumes nothing.
 use mathlib.Core.List.{List, [], _∷_}
-use Rattle.notation.specs.Rules.{visits, visitsOf, visitsIn}
+use Rattle.notation.specs.Rules.{visits, visitsOf, visitsInside}
 use Rattle.notation.specs.Limits.{ProgramWithin, OptionWithin, AllWithin, ContentWithin, RuleWithin, EachWithin}
 use Rattle.reading.specs.Statements.{finishedList}
-use Rattle.reading.specs.Expressions.{Level, Parsing, wants, in-front, after, behind, over}
+use Rattle.reading.specs.Expressions.{ExpressionLevel, Parsing, wants, in-front, after, behind, over}
 use Rattle.reading.specs.Rules.{Progress, beginning, first-word, named, defined, own-front, wants-tag, tagged, within, closed, own-back, complete}
 
-abbrev pub LevelKept : Level → Type 0
-LevelKept l = OptionWithin (l .before) × (AllWithin (visitsIn (l .alt-left)) × AllWithin (visitsIn (l .cat-left)))
+abbrev pub LevelKept : ExpressionLevel → Type 0
+LevelKept l = OptionWithin (l .before) × (AllWithin (visitsInside (l .alt-left)) × AllWithin (visitsInside (l .cat-left)))
 
-abbrev pub LevelsKept : List Level → Type 0
+abbrev pub LevelsKept : List ExpressionLevel → Type 0
 LevelsKept [] = Unit {0}
 LevelsKept (l ∷ ls) = LevelKept l × LevelsKept ls
 

@@ -5,10 +5,10 @@ use mathlib.Core.List.{List, []}
 use Prim.Native.Nat.{ℕ}
 use lib.ListN.{length}
 use Rattle.expressions.specs.Expr.{nodes, depth, nodesOf}
-use Rattle.notation.specs.Rules.{Tree, Rule, expressionOf, contentOf}
+use Rattle.notation.specs.Rules.{Tree, TextRule, expressionOf, contentInside}
 use Rattle.notation.specs.Limits.{nodesInAll}
 use Rattle.reading.specs.Statements.{Listing}
-use Rattle.reading.specs.Expressions.{Level, Parsing, wants, in-front, after, behind, over}
+use Rattle.reading.specs.Expressions.{ExpressionLevel, Parsing, wants, in-front, after, behind, over}
 use Rattle.reading.specs.Rules.{Head, Progress, beginning, first-word, named, defined, own-front, wants-tag, tagged, within, closed, own-back, complete}
 use Rattle.sketches.specs.declared.Point.{Point}
 use Rattle.sketches.specs.declared.Point.the-variants.{Beginning, FirstWord, Named, Defined, OwnFront, WantsTag, Tagged, Wants, InFront, After, Behind, Over, Closed, OwnBack, Complete}
@@ -22,7 +22,7 @@ pointOf (after e l ls) = After (figureOf e) (parenOf l ls)
 pointOf (behind q f k ls) = Behind (figure (nodes (expressionOf k)) (depth (expressionOf k)) (present f) true) (surroundOf ls)
 pointOf (over e ls) = Over (figureOf e) (surroundOf ls)
 
-abbrev pub levelsOf : Parsing → List Level
+abbrev pub levelsOf : Parsing → List ExpressionLevel
 levelsOf (wants b l ls) = ls
 levelsOf (in-front q ls) = ls
 levelsOf (after e l ls) = ls
@@ -30,7 +30,7 @@ levelsOf (behind q f k ls) = ls
 levelsOf (over e ls) = ls
 
 abbrev pub nodesInside : Option Tree → ℕ
-nodesInside e = nodesOf (contentOf e)
+nodesInside e = nodesOf (contentInside e)
 
 abbrev pub atHead : Point → Head → Sketch
 atHead p h = sketched p [] (length (h .earlier)) (nodesInAll (h .earlier))

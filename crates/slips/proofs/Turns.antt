@@ -5,24 +5,24 @@ use mathlib.Core.List.{List, []}
 use Prim.Native.Nat.{ℕ}
 use Rattle.programs.specs.Program.{Condition}
 use Rattle.programs.specs.Limits.{Visit, first, second}
-use Rattle.notation.specs.Program.{Program}
+use Rattle.notation.specs.Program.{TextProgram}
 use Rattle.notation.specs.Rules.{Tree, Rules}
 use Rattle.notation.specs.Statements.{parentheses}
-use Rattle.notation.specs.Tokens.{Mark, plain, left, right, Token, nonterminal, value, attribute, name, start-tag, end-tag, empty-tag, string, word, Word, CHAR, ECHO, ECHO-OFF, REJECT, PRINT, IF, THEN, ELSE, BEGIN, END, AND, OR, NOT, EMPTY, sign, Sign, DEFINED, ASSIGNED, OPEN, CLOSE, BRACE, UNBRACE, DOT, BAR, STAR, SEMICOLON, EQUALS}
+use Rattle.notation.specs.Tokens.{Dollar, plain, left, right, TextToken, nonterminal, value, attribute, name, start-tag, end-tag, empty-tag, string, word, Keyword, CHAR, ECHO, ECHO-OFF, REJECT, PRINT, IF, THEN, ELSE, BEGIN, END, AND, OR, NOT, EMPTY, sign, Sign, DEFINED, ASSIGNED, OPEN, CLOSE, BRACE, UNBRACE, DOT, BAR, STAR, SEMICOLON, EQUALS}
 use Rattle.reading.specs.Tests.{tagName?}
-use Rattle.reading.specs.Conditions.{Reading, Part, partOf, stepPart, stepCondition, valueOf}
-use Rattle.reading.specs.Statements.{Start, no-start, startOf, Behind, nothing, nextOf, started, targeted, assignedBy, printed, followed, thenned, tested, Listing, wants, target, assigning, printing, testing, after, stepStatements, valueOfList}
+use Rattle.reading.specs.Conditions.{Reading, ConditionPart, partOf, stepPart, stepCondition, valueOfCondition}
+use Rattle.reading.specs.Statements.{Start, no-start, startOf, Behind, nothing, behindOf, startedList, targeted, assignedBy, printed, followed, thenned, tested, Listing, wants, target, assigning, printing, testing, after, stepStatements, valueOfList}
 use Rattle.reading.specs.Expressions.{Parsing, in-front, behind, over, nonterminal?, pieceOf, unbraces, listing, stepExpression, valueOfContent}
-use Rattle.reading.specs.Rules.{Key, a-nonterminal, a-name, a-definition, an-open, a-close, a-brace, other, keyIf, keyOf, Head, head, Progress, beginning, first-word, named, defined, own-front, wants-tag, tagged, within, closed, own-back, complete, ruleOf, nextHead, stepKey, closes, parsing, stepRules}
+use Rattle.reading.specs.Rules.{Key, a-nonterminal, a-name, a-definition, an-open, a-close, a-brace, other, keyIf, keyOf, Head, head, Progress, beginning, first-word, named, defined, own-front, wants-tag, tagged, within, closed, own-back, complete, ruleRead, nextHead, stepKey, closesContent, parsing, stepRules}
 use Rattle.reading.proofs.Telling.{none≢some}
-use Rattle.lexemes.specs.Kinds.{kindOf, numberOf}
+use Rattle.lexemes.specs.Kinds.{tokenKind, tokenNumber}
 use Rattle.sketches.specs.Sketched.{sketch}
 use Rattle.mentions.proofs.Statements.{no-unbrace}
 use Rattle.mentions.proofs.Expressions.{unbraced}
 use Rattle.desks.specs.Spots.{spot, spotOf}
-use Rattle.desks.specs.Kept.{PlaceIs}
+use Rattle.desks.specs.Kept.{RowPlaceIs}
 use Rattle.slips.specs.declared.Slip.{Slip}
-use Rattle.slips.specs.Slips.{turned, Slipped, Turns}
+use Rattle.slips.specs.Slips.{slipTurned, Slipped, Turns}
 
 -- the spot is that of the sketch
 pub spots-alike : (s : Progress) → spotOf (sketch s .point) ≡ spot s
@@ -43,19 +43,19 @@ spots-alike (own-back q f t e h) = refl
 spots-alike (complete r h) = refl
 
 -- no list of statements goes on with a token that is nothing there
-other-stops : (p : ℕ) (r : Reading) → stepPart p r Part.other ≡ none
+other-stops : (p : ℕ) (r : Reading) → stepPart p r ConditionPart.other ≡ none
 other-stops p (Reading.wants l ls) = refl
 other-stops p (Reading.compares x l ls) = refl
 other-stops p (Reading.wants-other x l ls) = refl
 other-stops p (Reading.after d o ls) = refl
 
-pub no-step : (v : Visit) (q : Listing) (t : Token) → startOf v t ≡ no-start → nextOf t ≡ nothing → partOf v t ≡ Part.other → stepStatements v q t ≡ none
-no-step v (wants w l ls) t a b c = ap (started w l ls) a
+pub no-step : (v : Visit) (q : Listing) (t : TextToken) → startOf v t ≡ no-start → behindOf t ≡ nothing → partOf v t ≡ ConditionPart.other → stepStatements v q t ≡ none
+no-step v (wants w l ls) t a b c = ap (startedList w l ls) a
 no-step v (target n l ls) t a b c = ap (targeted n l ls) b
 no-step v (assigning n l ls) t a b c = ap (assignedBy n l ls) c
 no-step v (printing l ls) t a b c = ap (printed l ls) b
 no-step v (testing r l ls) t a b c =
-    ap (λ o. tested o (valueOf r) l ls (nextOf t)) (ap (stepPart parentheses r) c ∙ other-stops parentheses r) ∙ ap (λ k. thenned (valueOf r) l ls k) b ∙ on (valueOf r)
+    ap (λ o. tested o (valueOfCondition r) l ls (behindOf t)) (ap (stepPart parentheses r) c ∙ other-stops parentheses r) ∙ ap (λ k. thenned (valueOfCondition r) l ls k) b ∙ on (valueOfCondition r)
   where
     on : (o : Option Condition) → thenned o l ls nothing ≡ none
     on none = refl
@@ -69,7 +69,7 @@ no-name-inside (Parsing.after e l ls) n = refl
 no-name-inside (behind q f k ls) n = ap (λ o. listing o (λ r. behind r f k ls) none) (no-step second q (name n) refl refl refl)
 no-name-inside (over e ls) n = refl
 
-pub word-quiet : (o : Slip) (here place : ℕ) (w : Word) → turned o here (kindOf (word w)) 0 place ≡ o
+pub word-quiet : (o : Slip) (here place : ℕ) (w : Keyword) → slipTurned o here (tokenKind (word w)) 0 place ≡ o
 word-quiet o here place CHAR = refl
 word-quiet o here place ECHO = refl
 word-quiet o here place ECHO-OFF = refl
@@ -85,13 +85,13 @@ word-quiet o here place OR = refl
 word-quiet o here place NOT = refl
 word-quiet o here place EMPTY = refl
 
-pub mark-quiet : (o : Slip) (here place a : ℕ) (m : Mark) → turned o here (kindOf (attribute m a)) a place ≡ o
+pub mark-quiet : (o : Slip) (here place a : ℕ) (m : Dollar) → slipTurned o here (tokenKind (attribute m a)) a place ≡ o
 mark-quiet o here place a plain = refl
 mark-quiet o here place a left = refl
 mark-quiet o here place a right = refl
 
 -- a token that is none of the three leaves the slip
-quiet : (o : Slip) (here place : ℕ) (t : Token) → ((n : ℕ) → t ≡ nonterminal n → ⊥) → ((n : List ℕ) → t ≡ name n → ⊥) → (t ≡ sign UNBRACE → ⊥) → turned o here (kindOf t) (numberOf t) place ≡ o
+quiet : (o : Slip) (here place : ℕ) (t : TextToken) → ((n : ℕ) → t ≡ nonterminal n → ⊥) → ((n : List ℕ) → t ≡ name n → ⊥) → (t ≡ sign UNBRACE → ⊥) → slipTurned o here (tokenKind t) (tokenNumber t) place ≡ o
 quiet o here place (nonterminal n) a b c = absurd (a n refl)
 quiet o here place (value v) a b c = refl
 quiet o here place (attribute m n) a b c = mark-quiet o here place n m
@@ -113,12 +113,12 @@ quiet o here place (sign STAR) a b c = refl
 quiet o here place (sign SEMICOLON) a b c = refl
 quiet o here place (sign EQUALS) a b c = refl
 
-program-quiet : (o : Slip) (here place : ℕ) (v : Visit) (q q′ : Listing) (t : Token) → stepStatements v q t ≡ some q′ → turned o here (kindOf t) (numberOf t) place ≡ o
+program-quiet : (o : Slip) (here place : ℕ) (v : Visit) (q q′ : Listing) (t : TextToken) → stepStatements v q t ≡ some q′ → slipTurned o here (tokenKind t) (tokenNumber t) place ≡ o
 program-quiet o here place v q q′ t e =
     quiet o here place t (λ n h. none≢some (ap (stepStatements v q) h ∙ no-step v q (nonterminal n) refl refl refl) e) (λ n h. none≢some (ap (stepStatements v q) h ∙ no-step v q (name n) refl refl refl) e)
     (λ h. none≢some (ap (stepStatements v q) h ∙ no-unbrace v q) e)
 
-inside-quiet : (o : Slip) (place : ℕ) (x y : Parsing) (t : Token) → stepExpression x t ≡ some y → turned o 7 (kindOf t) (numberOf t) place ≡ o
+inside-quiet : (o : Slip) (place : ℕ) (x y : Parsing) (t : TextToken) → stepExpression x t ≡ some y → slipTurned o 7 (tokenKind t) (tokenNumber t) place ≡ o
 inside-quiet o place x y (nonterminal n) e = refl
 inside-quiet o place x y (value v) e = refl
 inside-quiet o place x y (attribute m n) e = mark-quiet o 7 place n m
@@ -140,7 +140,7 @@ inside-quiet o place x y (sign STAR) e = refl
 inside-quiet o place x y (sign SEMICOLON) e = refl
 inside-quiet o place x y (sign EQUALS) e = refl
 
-abbrev pub KeyIs : Token → Key → Type 0
+abbrev pub KeyIs : TextToken → Key → Type 0
 KeyIs t (a-nonterminal n) = t ≡ nonterminal n
 KeyIs t (a-name n) = t ≡ name n
 KeyIs t a-definition = t ≡ sign DEFINED
@@ -149,11 +149,11 @@ KeyIs t a-close = t ≡ sign CLOSE
 KeyIs t a-brace = t ≡ sign BRACE
 KeyIs t other = Unit {0}
 
-key-if : {P : Type 0} (d : Dec P) (t : Token) (k : Key) → KeyIs t k → KeyIs t (keyIf d k)
+key-if : {P : Type 0} (d : Dec P) (t : TextToken) (k : Key) → KeyIs t k → KeyIs t (keyIf d k)
 key-if (yes h) t k f = f
 key-if (no h) t k f = tt
 
-pub key-is : (t : Token) → KeyIs t (keyOf t)
+pub key-is : (t : TextToken) → KeyIs t (keyOf t)
 key-is (nonterminal n) = key-if (nonterminal? n) (nonterminal n) (a-nonterminal n) refl
 key-is (value v) = tt
 key-is (attribute m a) = tt
@@ -176,17 +176,17 @@ key-is (sign SEMICOLON) = tt
 key-is (sign EQUALS) = tt
 
 module _ (r : Rules) (place : ℕ) (o : Slip) where
-  abbrev Goal : Progress → Token → Progress → Type 0
-  Goal s t z = PlaceIs r s t place → Slipped r s o → Slipped r z (turned o (spot s) (kindOf t) (numberOf t) place)
+  abbrev Goal : Progress → TextToken → Progress → Type 0
+  Goal s t z = RowPlaceIs r s t place → Slipped r s o → Slipped r z (slipTurned o (spot s) (tokenKind t) (tokenNumber t) place)
 
-  to : (s y z : Progress) (u t : Token) → some y ≡ some z → t ≡ u → Goal s u y → Goal s t z
-  to s y z u t e h g = let same : y ≡ z = cc in subst (λ (a : Token). Goal s a z) (sym h) (subst (λ (a : Progress). Goal s u a) same g)
+  to : (s y z : Progress) (u t : TextToken) → some y ≡ some z → t ≡ u → Goal s u y → Goal s t z
+  to s y z u t e h g = let same : y ≡ z = cc in subst (λ (a : TextToken). Goal s a z) (sym h) (subst (λ (a : Progress). Goal s u a) same g)
 
   -- the slip stays
-  stay : (s y z : Progress) (t : Token) → some y ≡ some z → turned o (spot s) (kindOf t) (numberOf t) place ≡ o → (Slipped r s o → Slipped r y o) → Goal s t z
-  stay s y z t e h g = let same : y ≡ z = cc in λ p k. subst (λ (a : Progress). Slipped r a (turned o (spot s) (kindOf t) (numberOf t) place)) same (subst (Slipped r y) (sym h) (g k))
+  stay : (s y z : Progress) (t : TextToken) → some y ≡ some z → slipTurned o (spot s) (tokenKind t) (tokenNumber t) place ≡ o → (Slipped r s o → Slipped r y o) → Goal s t z
+  stay s y z t e h g = let same : y ≡ z = cc in λ p k. subst (λ (a : Progress). Slipped r a (slipTurned o (spot s) (tokenKind t) (tokenNumber t) place)) same (subst (Slipped r y) (sym h) (g k))
 
-  key-turned : (s z : Progress) (t : Token) (k : Key) → KeyIs t k → stepKey s k ≡ some z → Goal s t z
+  key-turned : (s z : Progress) (t : TextToken) (k : Key) → KeyIs t k → stepKey s k ≡ some z → Goal s t z
   key-turned beginning z t (a-nonterminal n) f e = to beginning (first-word n) z (nonterminal n) t e f (λ p k. (refl, (refl, (refl, refl))))
   key-turned beginning z t (a-name u) f e = absurd (none≢some refl e)
   key-turned beginning z t a-definition f e = absurd (none≢some refl e)
@@ -232,7 +232,7 @@ module _ (r : Rules) (place : ℕ) (o : Slip) where
   key-turned (tagged c u h) z t other f e = absurd (none≢some refl e)
   key-turned (within x c u h) z t k f e = absurd (none≢some refl e)
   key-turned (closed c u i h) z t (a-nonterminal n) f e =
-      to (closed c u i h) (named (nextHead (ruleOf c none u i h) h n)) z (nonterminal n) t e f (λ p k. (record { start-is = k .0 .start-is; nonterm-is = refl }, (refl, refl)))
+      to (closed c u i h) (named (nextHead (ruleRead c none u i h) h n)) z (nonterminal n) t e f (λ p k. (record { start-is = k .0 .start-is; nonterm-is = refl }, (refl, refl)))
   key-turned (closed c u i h) z t (a-name v) f e = absurd (none≢some refl e)
   key-turned (closed c u i h) z t a-definition f e = absurd (none≢some refl e)
   key-turned (closed c u i h) z t an-open f e = absurd (none≢some refl e)
@@ -248,22 +248,22 @@ module _ (r : Rules) (place : ℕ) (o : Slip) where
   key-turned (complete d h) z t a-brace f e = absurd (none≢some refl e)
   key-turned (complete d h) z t other f e = absurd (none≢some refl e)
 
-  front-turned : (q : Listing) (h : Head) (z : Progress) (t : Token) (c : Option Listing) → stepStatements first q t ≡ c
+  front-turned : (q : Listing) (h : Head) (z : Progress) (t : TextToken) (c : Option Listing) → stepStatements first q t ≡ c
       → listing c (λ p. own-front p h) (unbraces (pieceOf t) (valueOfList q) (λ p. wants-tag (some p) h)) ≡ some z → Goal (own-front q h) t z
   front-turned q h z t (some p) s e = stay (own-front q h) (own-front p h) z t e (program-quiet o 4 place first q p t s) (λ k. k)
   front-turned q h z t none s e =
       let u = unbraced t (valueOfList q) (λ p. wants-tag (some p) h) z e in
       to (own-front q h) (wants-tag (some (u .program)) h) z (sign UNBRACE) t (ap some (u .behind)) (u .token-is) (λ p k. (k .0, (p .is (u .program) (u .is), k .1)))
 
-  back-turned : (q : Listing) (c : Option Program) (n : List ℕ) (i : Option Tree) (h : Head) (z : Progress) (t : Token) (a : Option Listing) → stepStatements second q t ≡ a
-      → listing a (λ p. own-back p c n i h) (unbraces (pieceOf t) (valueOfList q) (λ g. complete (ruleOf c (some g) n i h) h)) ≡ some z → Goal (own-back q c n i h) t z
+  back-turned : (q : Listing) (c : Option TextProgram) (n : List ℕ) (i : Option Tree) (h : Head) (z : Progress) (t : TextToken) (a : Option Listing) → stepStatements second q t ≡ a
+      → listing a (λ p. own-back p c n i h) (unbraces (pieceOf t) (valueOfList q) (λ g. complete (ruleRead c (some g) n i h) h)) ≡ some z → Goal (own-back q c n i h) t z
   back-turned q c n i h z t (some p) s e = stay (own-back q c n i h) (own-back p c n i h) z t e (program-quiet o 9 place second q p t s) (λ k. k)
   back-turned q c n i h z t none s e =
-      let u = unbraced t (valueOfList q) (λ g. complete (ruleOf c (some g) n i h) h) z e in
-      to (own-back q c n i h) (complete (ruleOf c (some (u .program)) n i h) h) z (sign UNBRACE) t (ap some (u .behind)) (u .token-is)
+      let u = unbraced t (valueOfList q) (λ g. complete (ruleRead c (some g) n i h) h) z e in
+      to (own-back q c n i h) (complete (ruleRead c (some (u .program)) n i h) h) z (sign UNBRACE) t (ap some (u .behind)) (u .token-is)
       (λ p k. (k .0 .start-is, (k .0 .nonterm-is, (k .1 .0, (p .is (u .program) (u .is), k .1 .1 .1)))))
 
-  closes-turned : (x : Parsing) (c : Option Program) (u : List ℕ) (h : Head) (z : Progress) (t : Token) (k : Key) (a : Option (Option Tree)) → KeyIs t k → closes k a c u h ≡ some z → Goal (within x c u h) t z
+  closes-turned : (x : Parsing) (c : Option TextProgram) (u : List ℕ) (h : Head) (z : Progress) (t : TextToken) (k : Key) (a : Option (Option Tree)) → KeyIs t k → closesContent k a c u h ≡ some z → Goal (within x c u h) t z
   closes-turned x c u h z t (a-nonterminal n) a f e = absurd (none≢some refl e)
   closes-turned x c u h z t (a-name n) a f e = absurd (none≢some refl e)
   closes-turned x c u h z t a-definition a f e = absurd (none≢some refl e)
@@ -273,8 +273,8 @@ module _ (r : Rules) (place : ℕ) (o : Slip) where
   closes-turned x c u h z t a-brace a f e = absurd (none≢some refl e)
   closes-turned x c u h z t other a f e = absurd (none≢some refl e)
 
-  within-turned : (x : Parsing) (c : Option Program) (u : List ℕ) (h : Head) (z : Progress) (t : Token) (a : Option Parsing) → stepExpression x t ≡ a
-      → parsing a (closes (keyOf t) (valueOfContent x) c u h) c u h ≡ some z → Goal (within x c u h) t z
+  within-turned : (x : Parsing) (c : Option TextProgram) (u : List ℕ) (h : Head) (z : Progress) (t : TextToken) (a : Option Parsing) → stepExpression x t ≡ a
+      → parsing a (closesContent (keyOf t) (valueOfContent x) c u h) c u h ≡ some z → Goal (within x c u h) t z
   within-turned x c u h z t none s e = closes-turned x c u h z t (keyOf t) (valueOfContent x) (key-is t) e
   within-turned x c u h z t (some y) s e = stay (within x c u h) (within y c u h) z t e (inside-quiet o place x y t s) (λ k. k)
 

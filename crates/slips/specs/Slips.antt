@@ -5,11 +5,11 @@ use mathlib.Core.Option.{some}
 use Prim.Native.Nat.{ℕ, _≤_, _<_}
 use lib.Dec.{eqb}
 use Rattle.notation.specs.Rules.{Rules}
-use Rattle.notation.specs.Tokens.{Token}
+use Rattle.notation.specs.Tokens.{TextToken}
 use Rattle.reading.specs.Rules.{Progress, stepRules}
-use Rattle.lexemes.specs.Kinds.{kindOf, numberOf, TokenFits}
+use Rattle.lexemes.specs.Kinds.{tokenKind, tokenNumber, TokenFits}
 use Rattle.desks.specs.Spots.{spot}
-use Rattle.desks.specs.Kept.{PlaceIs, SlipHolds}
+use Rattle.desks.specs.Kept.{RowPlaceIs, SlipHolds}
 use Rattle.slips.specs.declared.Slip.{Slip}
 
 abbrev pub begun : ℕ → ℕ → Slip → Slip
@@ -24,8 +24,8 @@ fronting o p = record { start = o .start; nonterm = o .nonterm; tag = o .tag; fr
 abbrev pub backing : Slip → ℕ → Slip
 backing o p = record { start = o .start; nonterm = o .nonterm; tag = o .tag; front = o .front; back = p }
 
-abbrev pub turned : Slip → ℕ → ℕ → ℕ → ℕ → Slip
-turned o here kind number place =
+abbrev pub slipTurned : Slip → ℕ → ℕ → ℕ → ℕ → Slip
+slipTurned o here kind number place =
     cond (eqb kind 0) (cond (eqb here 7) o (cond (eqb here 0) (begun number number o) (begun (o .start) number o)))
     (cond (eqb kind 5) (tagging o place) (cond (eqb kind 28) (cond (eqb here 4) (fronting o place) (cond (eqb here 9) (backing o place) o)) o))
 
@@ -43,7 +43,7 @@ pub record SlipFits (o : Slip) : Type 0 where
 
 -- and stay so
 abbrev pub Turns : Type 0
-Turns = (r : Rules) (s s′ : Progress) (t : Token) (place : ℕ) (o : Slip) → stepRules s t ≡ some s′ → PlaceIs r s t place → Slipped r s o → Slipped r s′ (turned o (spot s) (kindOf t) (numberOf t) place)
+Turns = (r : Rules) (s s′ : Progress) (t : TextToken) (place : ℕ) (o : Slip) → stepRules s t ≡ some s′ → RowPlaceIs r s t place → Slipped r s o → Slipped r s′ (slipTurned o (spot s) (tokenKind t) (tokenNumber t) place)
 
 abbrev pub FitsTurn : Type 0
-FitsTurn = (r : Rules) (s : Progress) (here : ℕ) (t : Token) (place : ℕ) (o : Slip) → TokenFits t → PlaceIs r s t place → SlipFits o → SlipFits (turned o here (kindOf t) (numberOf t) place)
+FitsTurn = (r : Rules) (s : Progress) (here : ℕ) (t : TextToken) (place : ℕ) (o : Slip) → TokenFits t → RowPlaceIs r s t place → SlipFits o → SlipFits (slipTurned o here (tokenKind t) (tokenNumber t) place)

@@ -17,7 +17,7 @@ use Rattle.stages.specs.declared.Headway.{Headway}
 use Rattle.stages.specs.declared.Fate.{Fate}
 use Rattle.stages.specs.declared.Moved.{Moved}
 use Rattle.stages.specs.Headway.{elementTail, emptyTail, pcdataTail, MixedShown, ContentShown}
-use Rattle.stages.specs.Steps.{movedOn, toldAs, withRow, FateIs, completes, TakenAs, FewNodesIn, PlainStep, NameStep, LongerIs, SpelledIs, NoNodesIs}
+use Rattle.stages.specs.Steps.{movedOn, toldAs, withRow, FateIs, completes, ByteTakenAs, FewNodesIn, PlainStep, NameStep, LongerIs, SpelledIs, NoNodesIs}
 use Rattle.stages.proofs.Fates.{stops, goes, next-left, more-read, none-left, one-name-more, its-star}
 
 module _ (s : Headway) (b : ℕ) (r : Moved) where
@@ -26,16 +26,16 @@ module _ (s : Headway) (b : ℕ) (r : Moved) where
   opening-spelled l o = record {
     is = λ number rest h few.
         let k = s .long in
-        subst (λ w. TakenAs number (opening w) b r) (sym (next-left elementTail rest k h l)) (o .is number (finishedPhase (opening rest)) (opening (drop (suc k) elementTail)) (record { station-is = refl; holds = more-read elementTail rest k h l }));
+        subst (λ w. ByteTakenAs number (opening w) b r) (sym (next-left elementTail rest k h l)) (o .is number (finishedPhase (opening rest)) (opening (drop (suc k) elementTail)) (record { station-is = refl; holds = more-read elementTail rest k h l }));
   }
 
   pub opening-whole : {t : Bool} → 8 ≤ s .long → t ≡ blank b → t ≡ true → r ≡ movedOn s Station.Naming 0 → PlainStep Station.Opening s b r
   opening-whole l e y m = record {
-    is = λ number rest h few. subst (λ w. TakenAs number (opening w) b r) (sym (none-left elementTail rest (s .long) h l)) (rw (sym e ∙ y) (goes naming s 0 m tt));
+    is = λ number rest h few. subst (λ w. ByteTakenAs number (opening w) b r) (sym (none-left elementTail rest (s .long) h l)) (rw (sym e ∙ y) (goes naming s 0 m tt));
   }
 
   pub opening-other : {t : Bool} → 8 ≤ s .long → t ≡ blank b → t ≡ false → r ≡ toldAs s Fate.Refused → PlainStep Station.Opening s b r
-  opening-other l e n z = record { is = λ number rest h few. subst (λ w. TakenAs number (opening w) b r) (sym (none-left elementTail rest (s .long) h l)) (rw (sym e ∙ n) (stops s z)) }
+  opening-other l e n z = record { is = λ number rest h few. subst (λ w. ByteTakenAs number (opening w) b r) (sym (none-left elementTail rest (s .long) h l)) (rw (sym e ∙ n) (stops s z)) }
 
   -- the element's name
   pub naming-blank : {t : Bool} → t ≡ blank b → t ≡ true → r ≡ movedOn s Station.Naming 0 → PlainStep Station.Naming s b r
@@ -88,14 +88,14 @@ module _ (s : Headway) (b : ℕ) (r : Moved) where
   emptying-spelled l o = record {
     is = λ number n rest h few.
         let k = s .long in
-        subst (λ w. TakenAs number (emptying n w) b r) (sym (next-left emptyTail rest k h l)) (o .is number (finishedPhase (emptying n rest)) (emptying n (drop (suc k) emptyTail)) (record { station-is = refl; holds = more-read emptyTail rest k h l }));
+        subst (λ w. ByteTakenAs number (emptying n w) b r) (sym (next-left emptyTail rest k h l)) (o .is number (finishedPhase (emptying n rest)) (emptying n (drop (suc k) emptyTail)) (record { station-is = refl; holds = more-read emptyTail rest k h l }));
   }
 
   pub emptying-whole : (a : NodeRow) (s′ : Headway) → 4 ≤ s .long → NoNodesIs a → s′ ≡ withRow s false a → PlainStep Station.Ended s′ b r → PlainStep Station.Emptying s b r
   emptying-whole a s′ l z e p = record {
     is = λ number n rest h few.
         let shown : ContentShown number nothing-inside a = record { laid = z .laid; deep-is = z .deep-is } in
-        subst (λ w. TakenAs number (emptying n w) b r) (sym (none-left emptyTail rest (s .long) h l)) (subst (λ z. PlainStep Station.Ended z b r) e p .is number n nothing-inside shown (omega arith));
+        subst (λ w. ByteTakenAs number (emptying n w) b r) (sym (none-left emptyTail rest (s .long) h l)) (subst (λ z. PlainStep Station.Ended z b r) e p .is number n nothing-inside shown (omega arith));
   }
 
   -- mixed content
@@ -116,11 +116,11 @@ module _ (s : Headway) (b : ℕ) (r : Moved) where
   hashing-spelled l o = record {
     is = λ number n rest h few.
         let k = s .long in
-        subst (λ w. TakenAs number (hashing n w) b r) (sym (next-left pcdataTail rest k (h .0) l)) (o .is number (finishedPhase (hashing n rest)) (hashing n (drop (suc k) pcdataTail)) (record { station-is = refl; holds = (more-read pcdataTail rest k (h .0) l, h .1) }));
+        subst (λ w. ByteTakenAs number (hashing n w) b r) (sym (next-left pcdataTail rest k (h .0) l)) (o .is number (finishedPhase (hashing n rest)) (hashing n (drop (suc k) pcdataTail)) (record { station-is = refl; holds = (more-read pcdataTail rest k (h .0) l, h .1) }));
   }
 
   pub hashing-whole : 6 ≤ s .long → PlainStep Station.Mixing s b r → PlainStep Station.Hashing s b r
-  hashing-whole l p = record { is = λ number n rest h few. subst (λ w. TakenAs number (hashing n w) b r) (sym (none-left pcdataTail rest (s .long) (h .0) l)) (p .is number n [] (h .1) few) }
+  hashing-whole l p = record { is = λ number n rest h few. subst (λ w. ByteTakenAs number (hashing n w) b r) (sym (none-left pcdataTail rest (s .long) (h .0) l)) (p .is number n [] (h .1) few) }
 
   -- names of mixed content
   pub barred-blank : {t : Bool} → t ≡ blank b → t ≡ true → r ≡ movedOn s Station.Barred 0 → PlainStep Station.Barred s b r
@@ -155,13 +155,13 @@ module _ (s : Headway) (b : ℕ) (r : Moved) where
     pub closed-bare : (b ≡ 42 → ⊥) → s .named ≡ false → PlainStep Station.Ended s′ b r → PlainStep Station.MixedClosed s b r
     closed-bare e f p = record { is = λ number n names h few. go number n names h few }
       where
-        go : (number : List ℕ → ℕ) (n : List ℕ) (names : List (List ℕ)) → MixedShown number names (s .named) (s .row) → FewNodesIn (mixed-closed n names) → TakenAs number (mixed-closed n names) b r
+        go : (number : List ℕ → ℕ) (n : List ℕ) (names : List (List ℕ)) → MixedShown number names (s .named) (s .row) → FewNodesIn (mixed-closed n names) → ByteTakenAs number (mixed-closed n names) b r
         go number n [] h few = rw (ne-eqb b 42 e) (subst (λ x. PlainStep Station.Ended x b r) w p .is number n (mixed []) (its-star number [] (s .named) (s .row) a h o few) few)
         go number n (m ∷ names) h few = absurd (let x : true ≡ false = sym (h .named-is) ∙ f in let y : _≡_ {A = ℕ} 0 1 = cc in omega arith)
 
   pub closed-unstarred : (b ≡ 42 → ⊥) → s .named ≡ true → r ≡ toldAs s Fate.Refused → PlainStep Station.MixedClosed s b r
   closed-unstarred e y z = record { is = λ number n names h few. go number n names h }
     where
-      go : (number : List ℕ → ℕ) (n : List ℕ) (names : List (List ℕ)) → MixedShown number names (s .named) (s .row) → TakenAs number (mixed-closed n names) b r
+      go : (number : List ℕ → ℕ) (n : List ℕ) (names : List (List ℕ)) → MixedShown number names (s .named) (s .row) → ByteTakenAs number (mixed-closed n names) b r
       go number n [] h = absurd (let x : true ≡ false = sym y ∙ h .named-is in let w : _≡_ {A = ℕ} 0 1 = cc in omega arith)
       go number n (m ∷ names) h = rw (ne-eqb b 42 e) (stops s z)

@@ -9,7 +9,7 @@ use Rattle.models.specs.Models.{ContentSpec}
 use Rattle.models.specs.Expressions.{modelExpression, orNames, specContent, specDepth}
 use Rattle.models.specs.Reader.{Phase, opening, naming, named, contents, emptying, inside, hashing, mixing, barred, mixed-name, mixed-closed, wants, in-name, marking, after, group-closed, ended}
 use Rattle.declarations.specs.declared.NodeRow.{NodeRow}
-use Rattle.declarations.specs.Nodes.{contentPreorder, Lays, Shows}
+use Rattle.declarations.specs.Nodes.{contentPreorder, LaysNodes, Shows}
 use Rattle.levels.specs.Levels.{Around, Nested}
 use Rattle.stages.specs.declared.Station.{Station}
 use Rattle.stages.specs.declared.Headway.{Headway}
@@ -60,7 +60,7 @@ pub record MixedShown (number : List ℕ → ℕ) (names : List (List ℕ)) (som
 
 -- the nodes of a content, and its depth
 pub record ContentShown (number : List ℕ → ℕ) (c : ContentSpec) (r : NodeRow) : Type 0 where
-  pub laid : Lays (contentPreorder (specContent number c)) r
+  pub laid : LaysNodes (contentPreorder (specContent number c)) r
   pub deep-is : r .deep ≡ specDepth c
 
 -- what each phase holds

@@ -15,7 +15,7 @@ use Rattle.models.specs.Expressions.{specNodes, specDepth}
 use Rattle.models.specs.Reader.{LeftOf, Phase, opening, naming, named, contents, emptying, inside, hashing, mixing, barred, mixed-name, mixed-closed, wants, in-name, marking, after, group-closed, ended, Move, to, over, onlyIfTrue, longer, stepPhase, finishedPhase}
 use Rattle.models.specs.Names.{ownName, innerName}
 use Rattle.declarations.specs.declared.NodeRow.{NodeRow}
-use Rattle.declarations.specs.Nodes.{roomForNodes, Lays}
+use Rattle.declarations.specs.Nodes.{roomForNodes, LaysNodes}
 use Rattle.levels.specs.declared.ModelSize.{ModelSize}
 use Rattle.levels.specs.declared.Nest.{Nest}
 use Rattle.stages.specs.declared.Station.{Station}
@@ -54,8 +54,8 @@ pub data FateAs (number : List ℕ → ℕ) (f : ℕ → Option Move) (d : Decla
 abbrev pub FateIs : (List ℕ → ℕ) → (ℕ → Option Move) → Declaration → Moved → Type 0
 FateIs number f d r = FateAs number f d (r .fate) (r .headway)
 
-abbrev pub TakenAs : (List ℕ → ℕ) → Phase → ℕ → Moved → Type 0
-TakenAs number q b r = FateIs number (λ p. stepPhase p q b) (finishedPhase q) r
+abbrev pub ByteTakenAs : (List ℕ → ℕ) → Phase → ℕ → Moved → Type 0
+ByteTakenAs number q b r = FateIs number (λ p. stepPhase p q b) (finishedPhase q) r
 
 -- the shortest continuation keeps the limit of nodes
 abbrev pub FewNodesIn : Phase → Type 0
@@ -70,8 +70,8 @@ pub record BegunIs (r : Headway) : Type 0 where
   pub is : (number : List ℕ → ℕ) → HeadwayIs number (opening elementTail) r
 
 -- one byte
-pub record StepIs (s : Headway) (b k : ℕ) (r : Moved) : Type 0 where
-  pub is : (number : List ℕ → ℕ) (q : Phase) → HeadwayIs number q s → FewNodesIn q → EndedNameIs number q b k → TakenAs number q b r
+pub record ByteStepIs (s : Headway) (b k : ℕ) (r : Moved) : Type 0 where
+  pub is : (number : List ℕ → ℕ) (q : Phase) → HeadwayIs number q s → FewNodesIn q → EndedNameIs number q b k → ByteTakenAs number q b r
 
 -- of the phases at one station
 abbrev pub AtStation : (Phase → Type 0) → Station → Type 0
@@ -95,10 +95,10 @@ AtStation P Ended = (n : List ℕ) (c : ContentSpec) → P (ended n c)
 
 -- one byte at a station, where no name of the content is being read, and where one is
 pub record PlainStep (t : Station) (s : Headway) (b : ℕ) (r : Moved) : Type 0 where
-  pub is : (number : List ℕ → ℕ) → AtStation (λ q. PhaseHolds number q s → FewNodesIn q → TakenAs number q b r) t
+  pub is : (number : List ℕ → ℕ) → AtStation (λ q. PhaseHolds number q s → FewNodesIn q → ByteTakenAs number q b r) t
 
 pub record NameStep (t : Station) (s : Headway) (b k : ℕ) (r : Moved) : Type 0 where
-  pub is : (number : List ℕ → ℕ) → AtStation (λ q. PhaseHolds number q s → FewNodesIn q → EndedNameIs number q b k → TakenAs number q b r) t
+  pub is : (number : List ℕ → ℕ) → AtStation (λ q. PhaseHolds number q s → FewNodesIn q → EndedNameIs number q b k → ByteTakenAs number q b r) t
 
 -- a name with one byte more, where it may have one
 pub record LongerIs (t : Station) (s : Headway) (r : Moved) : Type 0 where
@@ -110,7 +110,7 @@ pub record SpelledIs (t : Station) (c : ℕ) (s : Headway) (b : ℕ) (r : Moved)
 
 -- no nodes
 pub record NoNodesIs (r : NodeRow) : Type 0 where
-  pub laid : Lays [] r
+  pub laid : LaysNodes [] r
   pub deep-is : r .deep ≡ 0
 
 -- which name ends before b, and its length

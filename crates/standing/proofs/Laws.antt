@@ -3,7 +3,7 @@
 use Prim.Native.Nat.{ℕ}
 use mathlib.Core.Path.{_≡_}
 use mathlib.Core.List.{[]}
-use Rattle.places.specs.Lines.{count, lastLine, PlaceIs}
+use Rattle.places.specs.Lines.{howMany, lastLine, PlaceIs}
 use Rattle.places.specs.declared.Place.{Place}
 use Rattle.standing.specs.Standings.{firstPlace}
 
@@ -11,5 +11,5 @@ placed : (offset line column : ℕ) → offset ≡ 0 → line ≡ 1 → column �
 placed offset line column o l c = rw (o, l, c)
 
 pub at-first : (p : Place) → PlaceIs [] p → p ≡ firstPlace
-unfolding count lastLine
+unfolding howMany lastLine
 at-first p is = placed (p .offset) (p .line) (p .column) (is .offset) (is .line) (is .column)

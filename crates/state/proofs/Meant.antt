@@ -9,7 +9,7 @@ use native.Mathlib.Numerals.{sub-one}
 use borrow.Author.Tests.{lt-ltb, ltb-true, ne-eqb}
 use lib.Dec.{eqb, ltb}
 use lib.ListN.{length, take, set, length-set, length-replicate}
-use Rattle.runs.specs.Acts.{without-element, without-node, innermost, pushed as pushed-on}
+use Rattle.runs.specs.Acts.{without-element, without-node, innermost, with-node}
 use Rattle.runs.specs.Machine.{Open, inside, most, Configuration as Run, outer, fresh-configuration, at-start, at-place}
 use Rattle.state.specs.declared.Saved.{Saved}
 use Rattle.state.specs.declared.Frame.{Frame}
@@ -142,7 +142,7 @@ pub meaning-saved : (s : State) (k : Saved) → Shaped s → 0 < s .depth → to
     meaningOf (saving s k) ≡
     record {
       control = meaningOf s .control;
-      store = record { kept = pushed-on (keptOf k) (meaningOf s .store .kept); env = meaningOf s .store .env };
+      store = record { kept = with-node (keptOf k) (meaningOf s .store .kept); env = meaningOf s .store .env };
     }
 unfolding at-top
 meaning-saved s k h p r =

@@ -11,7 +11,7 @@ use Rattle.sheet.specs.Sheet.{Sheet}
 use Rattle.runs.specs.Options.{bind}
 use Rattle.runs.specs.Visits.{grammar, Env, Saved, saved, opens, closes}
 use Rattle.runs.specs.Events.{letter}
-use Rattle.runs.specs.Acts.{bracket-act, bracket-acts, Store, pushed, act, acts, innermost, without-node}
+use Rattle.runs.specs.Acts.{bracket-act, bracket-acts, Store, with-node, act, acts, innermost, without-node}
 use Rattle.runs.specs.Way.{Way, atomWay}
 use Rattle.runs.specs.Machine.{Open, Control, inside, at-place, Configuration, Answer, took, acted, turned, char-by, step}
 use Rattle.steady.proofs.Steadies.{reading, then-reads}
@@ -23,9 +23,9 @@ module _ (a : Sheet) (q : ℕ) (kss : List (List Saved)) where
   bracket-keeps : (b : Bracket) (m x : Store) → Keeps kss m → act a (bracket-act q b) m ≡ some x → Keeps kss x
   bracket-keeps (opening i) m x (ks, e) f = by (opens a q i (m .env)) f
     where
-      by : (w : Option Env) → bind w (λ v. some (record { kept = pushed (saved (m .env) v) (m .kept); env = v })) ≡ some x → Keeps kss x
+      by : (w : Option Env) → bind w (λ v. some (record { kept = with-node (saved (m .env) v) (m .kept); env = v })) ≡ some x → Keeps kss x
       by none g = absurd (let z : _≡_ {A = ℕ} 0 1 = cc in omega arith)
-      by (some v) g = (saved (m .env) v ∷ ks, ap (λ (z : Store). z .kept) (sym (same-store g)) ∙ ap (pushed (saved (m .env) v)) e)
+      by (some v) g = (saved (m .env) v ∷ ks, ap (λ (z : Store). z .kept) (sym (same-store g)) ∙ ap (with-node (saved (m .env) v)) e)
         where
           same-store : {y : Store} → some y ≡ some x → y ≡ x
           same-store h = cc

@@ -11,7 +11,7 @@ use Rattle.sheet.specs.Sheet.{Sheet}
 use Rattle.runs.specs.Options.{bind}
 use Rattle.runs.specs.Execute.{Effect}
 use Rattle.runs.specs.Visits.{Env, Saved, saved, programsOf, tagName, performed, visited, visit, echoed, returned, opens, revisits, closes, enters, leaves, reads}
-use Rattle.runs.specs.Acts.{Act, node-first, node-second, start-tag, end-tag, letter-read, Store, pushed, innermost, without-node, without-element, act, acts}
+use Rattle.runs.specs.Acts.{Act, node-first, node-second, start-tag, end-tag, letter-read, Store, with-node, innermost, without-node, without-element, act, acts}
 
 -- the same n visits later
 abbrev pub later : ℕ → Env → Env
@@ -67,7 +67,7 @@ module _ (s : Sheet) (n : ℕ) where
 
   act-later : (a : Act) (m : Store) → act s a (store-later n m) ≡ bind (act s a m) (λ m′. some (store-later n m′))
   act-later (node-first q i) m =
-      store-late (opens s q i) (λ w. pushed (saved (m .env) w) (m .kept)) (visit-later [] (programsOf (s .rules) q i .first-visit)) (λ x. refl) (m .env)
+      store-late (opens s q i) (λ w. with-node (saved (m .env) w) (m .kept)) (visit-later [] (programsOf (s .rules) q i .first-visit)) (λ x. refl) (m .env)
   act-later (node-second q i) m =
       store-late (closes s q i (innermost (m .kept))) (λ w. without-node (m .kept)) (closes-later q i (innermost (m .kept))) (λ x. refl) (m .env)
   act-later (start-tag q) m = store-late (enters s q) (λ w. (saved (m .env) w ∷ []) ∷ m .kept) (enters-later q) (λ x. refl) (m .env)

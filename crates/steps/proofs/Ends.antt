@@ -34,8 +34,8 @@ use Rattle.state.specs.Changes.{topOf}
 use Rattle.state.specs.Meaning.{openOf, setsOf, meaningOf, Shaped}
 use Rattle.state.proofs.Meant.{inside-open}
 use Rattle.acts.specs.Acted.{Done, Comes, BracketsAs, LeavesAs, visitReach}
-use Rattle.acts.specs.Seen.{Outcome as Acted}
-use Rattle.steps.specs.Seen.{Whole as Stepped}
+use Rattle.acts.specs.Seen.{ActedSeen}
+use Rattle.steps.specs.Seen.{SteppedSeen}
 use Rattle.steps.specs.Stepped.{eventVisits, tagIn, SteppedAs}
 use Rattle.steps.specs.Parts.{answering}
 use Rattle.steps.proofs.Joined.{onPen}
@@ -64,7 +64,7 @@ end-turn a z j t b e =
     ∙ ap (λ (y : Bool). turned a (meaningOf z .store) (own-tag y (end-by (openOf (topOf z)) (j .around) (endWay (contentOf (grammar a) (topOf z .production)) (topOf z .place))))) e
 
 -- where the string closes every node, the production's set is left
-one-left : (a : Sheet) (q : ℕ) (α : List Bracket) (z : State) (p : Pen) (b : Acted) (d : List ℕ) (m : Store) → Shaped z → (j : Inside z) → (ns : List ℕ) → through-nodes 12 α ns ≡ some [] →
+one-left : (a : Sheet) (q : ℕ) (α : List Bracket) (z : State) (p : Pen) (b : ActedSeen) (d : List ℕ) (m : Store) → Shaped z → (j : Inside z) → (ns : List ℕ) → through-nodes 12 α ns ≡ some [] →
     length (setsOf (topOf z)) ≡ suc (length ns) → acts a (bracket-acts q α) (meaningOf z .store) ≡ some m → Done (meaningOf z .control) m z p b d → 0 < topOf (b .state) .«open»
 one-left a q α z p b d m h j ns t l e D =
     let k = kept-string a q (j .kept-around) 12 α ns [] t (setsOf (topOf z)) (meaningOf z .store .env) l m
@@ -85,14 +85,14 @@ own-turn {s} {a} i {z} h f o {t} {u} R own v e =
     ∙ ap (λ (y : Option (List Bracket)). turned a (meaningOf z .store) (end-by (openOf (topOf z)) (inside-at z h o .around) y)) e
 
 -- the string of an end tag, and what its visits come to
-record Closes (a : Sheet) (z : State) (os : List Open) (t : ℕ) (p : Pen) (b : Acted) (mid : List ℕ) : Type 0 where
+record Closes (a : Sheet) (z : State) (os : List Open) (t : ℕ) (p : Pen) (b : ActedSeen) (mid : List ℕ) : Type 0 where
   string : List Bracket
   asks : step a (meaningOf z) (ends (tagIn t)) ≡ acted (outer os) (acts a (bracket-acts (topOf z .production) string ++ end-tag (topOf z .production) ∷ []) (meaningOf z .store))
   comes : Comes (acts a (bracket-acts (topOf z .production) string) (meaningOf z .store)) (meaningOf z .control) z p b mid
   left : (m : Store) → acts a (bracket-acts (topOf z .production) string) (meaningOf z .store) ≡ some m → Done (meaningOf z .control) m z p b mid → 0 < topOf (b .state) .«open»
 
 closes : {s : List ℕ} {a : Sheet} (i : IsSheet s a) {z : State} (h : Shaped z) (f : RunFits a (meaningOf z)) (o : 0 < z .depth) {t u : ℕ} → NumberRead 256 (tagNumberOf s (topOf z .production)) u → u ≡ t →
-    {w : Line} → EndWayIs s (topOf z .production) (topOf z .place) w → w .found ≡ true → {p : Pen} {b : Acted} {mid : List ℕ} → BracketsAs s (topOf z .production) (take (w .length) (w .bytes)) z p b mid →
+    {w : Line} → EndWayIs s (topOf z .production) (topOf z .place) w → w .found ≡ true → {p : Pen} {b : ActedSeen} {mid : List ℕ} → BracketsAs s (topOf z .production) (take (w .length) (w .bytes)) z p b mid →
     Closes a z (inside-at z h o .around) t p b mid
 closes {s} {a} i {z} h f o R own {w} W there {p} {b} {mid} B =
     let j = inside-at z h o in
@@ -106,7 +106,7 @@ closes {s} {a} i {z} h f o R own {w} W there {p} {b} {mid} B =
       left = λ m e D. one-left a (topOf z .production) (v .0) z p b mid m h j (T .0) (T .1) (T .2) e D;
     }
 
-module _ {s : List ℕ} {z : State} {p : Pen} {r : Stepped} {d : List ℕ} (t : ℕ) where
+module _ {s : List ℕ} {z : State} {p : Pen} {r : SteppedSeen} {d : List ℕ} (t : ℕ) where
   pub end-before : r ≡ refusedAt 22 z p → d ≡ p .lent → z .depth ≡ 0 → z .rooted ≡ false → SteppedAs s (ends (tagIn t)) z p r d
   end-before e k o b = refusal 22 e k (λ a i h f. at-step a (meaningOf z) before (no-root z o b) (ends (tagIn t)))
 
@@ -120,7 +120,7 @@ module _ {s : List ℕ} {z : State} {p : Pen} {r : Stepped} {d : List ℕ} (t : 
       pub end-no-way : r ≡ refusedAt 23 z p → d ≡ p .lent → w .found ≡ false → SteppedAs s (ends (tagIn t)) z p r d
       end-no-way e k m = refusal 23 e k (λ a i h f. own-turn i h f o R own none (line-missing _ w (end-is i (top-below i h f o) W) m))
 
-      module _ (there : w .found ≡ true) {b : Acted} {mid : List ℕ} (B : BracketsAs s (topOf z .production) (take (w .length) (w .bytes)) z p b mid) where
+      module _ (there : w .found ≡ true) {b : ActedSeen} {mid : List ℕ} (B : BracketsAs s (topOf z .production) (take (w .length) (w .bytes)) z p b mid) where
         pub end-rejected : d ≡ mid → b .ok ≡ false → r ≡ answering b → SteppedAs s (ends (tagIn t)) z p r d
         end-rejected same bad e =
             subst (λ (y : List ℕ). SteppedAs s (ends (tagIn t)) z p r y) (sym same)
@@ -129,7 +129,7 @@ module _ {s : List ℕ} {z : State} {p : Pen} {r : Stepped} {d : List ℕ} (t : 
             let K = closes i h f o R own W there B in
             rejected-first a z p b mid (bracket-acts (topOf z .production) (K .string)) (end-tag (topOf z .production)) (meaningOf z .control) (outer (inside-at z h o .around)) (ends (tagIn t)) (K .asks) (K .comes) bad))
 
-        pub end-done : b .ok ≡ true → (e : Acted) → LeavesAs s (topOf z .production) (b .state) (onPen p mid (b .at)) e d → r ≡ answering e → SteppedAs s (ends (tagIn t)) z p r d
+        pub end-done : b .ok ≡ true → (e : ActedSeen) → LeavesAs s (topOf z .production) (b .state) (onPen p mid (b .at)) e d → r ≡ answering e → SteppedAs s (ends (tagIn t)) z p r d
         end-done good e E k =
             went-as e (mostBrackets * visitReach + visitReach) eventVisits (omega arith) (omega arith)
             (went-on b e (record { reach = B .reach; count = B .count; dry = B .dry }) (record { reach = E .reach; count = E .count; dry = E .dry })) k right

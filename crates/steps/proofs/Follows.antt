@@ -19,13 +19,13 @@ use Rattle.state.specs.Changes.{topOf, placed}
 use Rattle.state.specs.Meaning.{openOf, meaningOf, Shaped}
 use Rattle.state.proofs.Meant.{inside-open, meaning-placed, shaped-placed}
 use Rattle.acts.specs.Acted.{Done, Comes, BracketsAs}
-use Rattle.acts.specs.Seen.{Outcome as Acted}
+use Rattle.acts.specs.Seen.{ActedSeen}
 use Rattle.steps.specs.Parts.{FollowsAs}
 use Rattle.steps.proofs.Tops.{top-balanced}
 use Rattle.steps.proofs.Turns.{rejected-is, done-is}
 
 -- another place of the innermost element
-moved : (o : Open) (os : List Open) (m : Store) (z : State) (p : Pen) (b : Acted) (d : List ℕ) (n : ℕ) → meaningOf z .control ≡ inside o os → Done (meaningOf z .control) m z p b d →
+moved : (o : Open) (os : List Open) (m : Store) (z : State) (p : Pen) (b : ActedSeen) (d : List ℕ) (n : ℕ) → meaningOf z .control ≡ inside o os → Done (meaningOf z .control) m z p b d →
     Done (inside (at-place o n) os) m z p (record { ok = true; at = b .at; state = placed (b .state) n }) d
 moved o os m z p b d n e D =
     let c : meaningOf (b .state) .control ≡ inside o os = ap (λ (y : Standing). y .control) (D .means) ∙ e in
@@ -37,7 +37,7 @@ moved o os m z p b d n e D =
       written = D .written;
     }
 
-module _ {s : List ℕ} {line : List ℕ} {z : State} {p : Pen} (b : Acted) {d : List ℕ} (B : BracketsAs s (topOf z .production) line z p b d) where
+module _ {s : List ℕ} {line : List ℕ} {z : State} {p : Pen} (b : ActedSeen) {d : List ℕ} (B : BracketsAs s (topOf z .production) line z p b d) where
   came : (a : Sheet) → IsSheet s a → Shaped z → RunFits a (meaningOf z) → (os : List Open) → meaningOf z .control ≡ inside (openOf (topOf z)) os →
       (x : Next) (v : Found) → atomWay (tagsOf (grammar a)) (contentOf (grammar a) (topOf z .production)) (topOf z .place) x ≡ some v → line ≡ codes (v .string) →
       Comes (acts a (bracket-acts (topOf z .production) (v .string)) (meaningOf z .store)) (meaningOf z .control) z p b d
@@ -57,9 +57,9 @@ module _ {s : List ℕ} {line : List ℕ} {z : State} {p : Pen} (b : Acted) {d :
             subst (λ (y : Option Store). Comes y (inside (at-place (openOf (topOf z)) (v .place)) os) z p b d) (sym n) k;
       }
 
-  pub follow-done : {place : ℕ} → b .ok ≡ true → (r : Acted) → r ≡ record { ok = true; at = b .at; state = placed (b .state) place } → FollowsAs s place line z p r d
+  pub follow-done : {place : ℕ} → b .ok ≡ true → (r : ActedSeen) → r ≡ record { ok = true; at = b .at; state = placed (b .state) place } → FollowsAs s place line z p r d
   follow-done {place} k r q =
-      subst (λ (y : Acted). FollowsAs s place line z p y d) (sym q)
+      subst (λ (y : ActedSeen). FollowsAs s place line z p y d) (sym q)
       (record {
         reach = B .reach;
         count = B .count;

@@ -22,9 +22,9 @@ use Rattle.output.proofs.Writing.{render-append}
 use Rattle.state.specs.Meaning.{meaningOf}
 use Rattle.state.specs.declared.State.{State}
 use Rattle.acts.specs.Acted.{Done, Comes}
-use Rattle.acts.specs.Seen.{Outcome as Acted}
-use Rattle.steps.specs.Seen.{Whole as Stepped}
-use Rattle.steps.specs.Stepped.{Took, AnsweredAs}
+use Rattle.acts.specs.Seen.{ActedSeen}
+use Rattle.steps.specs.Seen.{SteppedSeen}
+use Rattle.steps.specs.Stepped.{Took, StepAnswered}
 use Rattle.steps.specs.Parts.{answering}
 
 -- where writing goes on
@@ -38,7 +38,7 @@ written-on p o o′ d d′ at at′ x y =
     (put-then (p .write) (p .lent) (p .at) (render o) (render o′) d d′ at at′ x y)
 
 -- acts, and then one more from the state that they left
-module _ (a : Sheet) (bs : List Act) (x : Act) {c : Control} {z : State} {p : Pen} {r : Acted} {d : List ℕ} (c′ : Control) (r′ : Acted) (d′ : List ℕ) where
+module _ (a : Sheet) (bs : List Act) (x : Act) {c : Control} {z : State} {p : Pen} {r : ActedSeen} {d : List ℕ} (c′ : Control) (r′ : ActedSeen) (d′ : List ℕ) where
   pub join : (m : Store) → acts a bs (meaningOf z .store) ≡ some m → Done c m z p r d →
       Comes (act a x (meaningOf (r .state) .store)) c′ (r .state) (onPen p d (r .at)) r′ d′ → Comes (acts a (bs ++ x ∷ []) (meaningOf z .store)) c′ z p r′ d′
   join m e D C =
@@ -67,21 +67,21 @@ module _ (a : Sheet) (bs : List Act) (x : Act) {c : Control} {z : State} {p : Pe
           }
 
 -- as the machine answers it
-pub answered-as : (c : Control) (o : Option Store) (z : State) (p : Pen) (r : Acted) (d : List ℕ) → Comes o c z p r d → AnsweredAs (acted c o) z p (answering r) d
+pub answered-as : (c : Control) (o : Option Store) (z : State) (p : Pen) (r : ActedSeen) (d : List ℕ) → Comes o c z p r d → StepAnswered (acted c o) z p (answering r) d
 answered-as c none z p r d C = rw C
 answered-as c (some m) z p r d C = record { number = rw (C .ok); means = C .means; shaped = C .shaped; closed = C .closed; written = C .written }
 
 -- an event, and then another one from the state that it left
-module _ (a : Sheet) {z : State} {p : Pen} {r : Stepped} {d : List ℕ} (r′ : Stepped) (d′ : List ℕ) where
-  pub join-events : (m : Standing) → Took m z p r d → (x : Event) → AnsweredAs (step a (meaningOf (r .state)) x) (r .state) (onPen p d (r .at)) r′ d′ →
-      AnsweredAs (step a m x) z p r′ d′
+module _ (a : Sheet) {z : State} {p : Pen} {r : SteppedSeen} {d : List ℕ} (r′ : SteppedSeen) (d′ : List ℕ) where
+  pub join-events : (m : Standing) → Took m z p r d → (x : Event) → StepAnswered (step a (meaningOf (r .state)) x) (r .state) (onPen p d (r .at)) r′ d′ →
+      StepAnswered (step a m x) z p r′ d′
   join-events m K x A =
-      subst (λ (y : Answer). AnsweredAs y z p r′ d′) (sym whole) (by (step a (silent m) x) (subst (λ (y : Standing). AnsweredAs (step a y x) (r .state) (onPen p d (r .at)) r′ d′) (K .means) A))
+      subst (λ (y : Answer). StepAnswered y z p r′ d′) (sym whole) (by (step a (silent m) x) (subst (λ (y : Standing). StepAnswered (step a y x) (r .state) (onPen p d (r .at)) r′ d′) (K .means) A))
     where
       whole : step a m x ≡ answer-behind (outOf m) (step a (silent m) x)
       whole = ap (λ (y : Standing). step a y x) (behind-silent [] m) ∙ step-frame a (outOf m) (silent m) x
 
-      by : (y : Answer) → AnsweredAs y (r .state) (onPen p d (r .at)) r′ d′ → AnsweredAs (answer-behind (outOf m) y) z p r′ d′
+      by : (y : Answer) → StepAnswered y (r .state) (onPen p d (r .at)) r′ d′ → StepAnswered (answer-behind (outOf m) y) z p r′ d′
       by (refused n) A = A
       by (took m′) A =
           record {

@@ -22,8 +22,8 @@ use Rattle.state.specs.declared.State.{State}
 use Rattle.state.specs.Changes.{topOf}
 use Rattle.state.specs.Meaning.{openOf, meaningOf}
 use Rattle.acts.specs.Acted.{Comes, ReadsAs, visitReach}
-use Rattle.acts.specs.Seen.{Outcome as Acted}
-use Rattle.steps.specs.Seen.{Whole as Stepped}
+use Rattle.acts.specs.Seen.{ActedSeen}
+use Rattle.steps.specs.Seen.{SteppedSeen}
 use Rattle.steps.specs.Stepped.{SteppedAs}
 use Rattle.steps.specs.Parts.{answering, FollowsAs}
 use Rattle.steps.proofs.Joined.{onPen}
@@ -40,7 +40,7 @@ char-turn a z c w L =
     at-step a (meaningOf z) (inside (openOf (topOf z)) (L .os)) (L .stands) (letter c)
     ∙ ap (λ (y : Option Found). turned a (meaningOf z .store) (char-by (openOf (topOf z)) (L .os) c y)) (L .is-way)
 
-module _ {s : List ℕ} {z : State} {p : Pen} {r : Stepped} {d : List ℕ} (c : ℕ) where
+module _ {s : List ℕ} {z : State} {p : Pen} {r : SteppedSeen} {d : List ℕ} (c : ℕ) where
   pub char-before : r ≡ refusedAt 23 z p → d ≡ p .lent → z .depth ≡ 0 → z .rooted ≡ false → SteppedAs s (letter c) z p r d
   char-before e k o b = refusal 23 e k (λ a i h f. at-step a (meaningOf z) before (no-root z o b) (letter c))
 
@@ -52,7 +52,7 @@ module _ {s : List ℕ} {z : State} {p : Pen} {r : Stepped} {d : List ℕ} (c : 
         at-step a (meaningOf z) (inside (openOf (topOf z)) (j .around)) (j .stands) (letter c)
         ∙ ap (λ (y : Option Found). turned a (meaningOf z .store) (char-by (openOf (topOf z)) (j .around) c y)) (no-way-there i h f o W m))
 
-    module _ (there : w .line .found ≡ true) {u : Acted} {mid : List ℕ} (F : FollowsAs s (w .place) (take (w .line .length) (w .line .bytes)) z p u mid) where
+    module _ (there : w .line .found ≡ true) {u : ActedSeen} {mid : List ℕ} (F : FollowsAs s (w .place) (take (w .line .length) (w .line .bytes)) z p u mid) where
       pub char-rejected : d ≡ mid → u .ok ≡ false → r ≡ answering u → SteppedAs s (letter c) z p r d
       char-rejected same bad e =
           subst (λ (y : List ℕ). SteppedAs s (letter c) z p r y) (sym same)
@@ -63,7 +63,7 @@ module _ {s : List ℕ} {z : State} {p : Pen} {r : Stepped} {d : List ℕ} (c : 
           rejected-first a z p u mid (bracket-acts (topOf z .production) (L .way .string)) (letter-read c) to to (letter c) (char-turn a z c w L)
           (F .right a i h f (L .os) (L .stands) character (L .way) (L .is-way) (L .held .place-is) (L .bytes)) bad))
 
-      pub char-done : u .ok ≡ true → (e : Acted) → ReadsAs c (u .state) (onPen p mid (u .at)) e d → r ≡ answering e → SteppedAs s (letter c) z p r d
+      pub char-done : u .ok ≡ true → (e : ActedSeen) → ReadsAs c (u .state) (onPen p mid (u .at)) e d → r ≡ answering e → SteppedAs s (letter c) z p r d
       char-done good e E k =
           went-as e (mostBrackets * visitReach + visitReach) mostBrackets (omega arith) (omega arith)
           (went-on u e {v′ = 0} (record { reach = F .reach; count = F .count; dry = F .dry }) (record { reach = E .reach; count = omega (arith, E .count); dry = E .dry })) k right

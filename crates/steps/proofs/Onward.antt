@@ -23,10 +23,10 @@ use Rattle.state.specs.declared.State.{State}
 use Rattle.state.specs.Changes.{freshState}
 use Rattle.state.specs.Meaning.{meaningOf}
 use Rattle.state.proofs.Meant.{meaning-fresh, shaped-fresh}
-use Rattle.steps.specs.Seen.{Whole as Stepped}
-use Rattle.steps.specs.Taken.{EventIn, Takes, TakenAs}
+use Rattle.steps.specs.Seen.{SteppedSeen}
+use Rattle.steps.specs.Taken.{EventIn, TakingIs, TakenAs}
 use Rattle.runs.specs.Taken.{Passed}
-use Rattle.steps.specs.Parts.{Ready}
+use Rattle.steps.specs.Parts.{RunReady}
 
 token-fits : (a : Sheet) → SheetFits a → (m : Standing) → RunFits a m → (k : Token) → EventsFit (eventsOfToken k) → (m′ : Standing) → stepToken a m k ≡ took m′ → RunFits a m′
 token-fits a ok m f k E m′ e = by (isBlank k && passesAt (grammar a) (m .control)) e
@@ -47,11 +47,11 @@ taken-fits a ok z room k y w h f e =
     let o = takes-one a z room k y w e in
     subst (RunFits a) (sym (o .silenced)) (silent-fits a (o .reached) (token-fits a ok z f k h (o .reached) (o .stepped)))
 
-pub ready-for-more : {s part : List ℕ} {e : Event} {z : State} {lent : List ℕ} {at : ℕ} {r : Stepped} {d : List ℕ} → Ready s z → EventIn part e → TakenAs s part e z lent at r d → Ready s (r .state)
+pub ready-for-more : {s part : List ℕ} {e : Event} {z : State} {lent : List ℕ} {at : ℕ} {r : SteppedSeen} {d : List ℕ} → RunReady s z → EventIn part e → TakenAs s part e z lent at r d → RunReady s (r .state)
 ready-for-more {s} {part} {e} {z} {lent} {at} {r} {d} y E t =
     by (oneToken (y .sheet) (meaningOf z) (length lent - at) (tokenOf (y .sheet) part e)) refl (t .right (y .sheet) (y .is-sheet) (y .shaped) (y .fits))
   where
-    by : (x : Taking) → oneToken (y .sheet) (meaningOf z) (length lent - at) (tokenOf (y .sheet) part e) ≡ x → Takes x z lent at r d → Ready s (r .state)
+    by : (x : Taking) → oneToken (y .sheet) (meaningOf z) (length lent - at) (tokenOf (y .sheet) part e) ≡ x → TakingIs x z lent at r d → RunReady s (r .state)
     by (taken m w) q k =
         record {
           sheet = y .sheet;
@@ -61,9 +61,9 @@ ready-for-more {s} {part} {e} {z} {lent} {at} {r} {d} y E t =
           fits = subst (RunFits (y .sheet)) (sym (k .means))
               (taken-fits (y .sheet) (sheet-fits (y .is-sheet)) (meaningOf z) (length lent - at) (tokenOf (y .sheet) part e) m w (event-fits (y .sheet) part e E) (y .fits) q);
         }
-    by (refuses n) q k = subst (Ready s) (sym (k .state)) y
-    by no-room q k = subst (Ready s) (sym (k .state)) y
+    by (refuses n) q k = subst (RunReady s) (sym (k .state)) y
+    by no-room q k = subst (RunReady s) (sym (k .state)) y
 
 -- a run that has read nothing is ready
-pub fresh-ready : {s : List ℕ} {a : Sheet} → IsSheet s a → Passed a → Ready s freshState
+pub fresh-ready : {s : List ℕ} {a : Sheet} → IsSheet s a → Passed a → RunReady s freshState
 fresh-ready {s} {a} i ok = record { sheet = a; is-sheet = i; passed = ok; shaped = shaped-fresh; fits = subst (RunFits a) (sym meaning-fresh) (fresh-run-fits a) }

@@ -29,9 +29,9 @@ use Rattle.state.specs.declared.State.{State}
 use Rattle.state.specs.Changes.{topOf}
 use Rattle.state.specs.Meaning.{openOf, opensOf, meaningOf}
 use Rattle.acts.specs.Acted.{Comes, EntersAs, visitReach}
-use Rattle.acts.specs.Seen.{Outcome as Acted}
-use Rattle.steps.specs.Seen.{Whole as Stepped}
-use Rattle.steps.specs.Stepped.{eventVisits, AnsweredAs, tagIn, SteppedAs}
+use Rattle.acts.specs.Seen.{ActedSeen}
+use Rattle.steps.specs.Seen.{SteppedSeen}
+use Rattle.steps.specs.Stepped.{eventVisits, StepAnswered, tagIn, SteppedAs}
 use Rattle.steps.specs.Parts.{answering, FollowsAs}
 use Rattle.steps.proofs.Joined.{onPen, answered-as}
 use Rattle.steps.proofs.Places.{outside, inside-at, depth-is}
@@ -79,7 +79,7 @@ depth-turn a z t q w g L e b k =
     start-turn a z t w g L ∙ ap (λ (y : Option ℕ). turned a (meaningOf z .store) (start-at most (openOf (topOf z)) (L .os) (L .way) y)) e
     ∙ ap (λ (y : Bool). turned a (meaningOf z .store) (opens z q (L .os) (L .way) y)) k
 
-module _ {s : List ℕ} {z : State} {p : Pen} {r : Stepped} {d : List ℕ} where
+module _ {s : List ℕ} {z : State} {p : Pen} {r : SteppedSeen} {d : List ℕ} where
   -- after the root
   pub after-root : {x : Event} → r ≡ refusedAt 26 z p → d ≡ p .lent → z .depth ≡ 0 → z .rooted ≡ true → SteppedAs s x z p r d
   after-root {x} e k o b = refusal 26 e k (λ a i h f. at-step a (meaningOf z) after (closed-root z o b) x)
@@ -102,7 +102,7 @@ module _ {s : List ℕ} {z : State} {p : Pen} {r : Stepped} {d : List ℕ} where
       root-missing e k m =
           refusal 23 e k (λ a i h f. root-turn a z t n g o b (i .start-is ∙ sym is-start) ∙ ap (λ (y : Option ℕ). turned a (meaningOf z .store) (root-by y)) (no-production i P m))
 
-      pub root-done : (e : Acted) → EntersAs s q z p e d → (q ≡ 256 → ⊥) → r ≡ answering e → SteppedAs s (starts (tagIn t)) z p r d
+      pub root-done : (e : ActedSeen) → EntersAs s q z p e d → (q ≡ 256 → ⊥) → r ≡ answering e → SteppedAs s (starts (tagIn t)) z p r d
       root-done e E m k = went-as e visitReach 1 (omega arith) (omega arith) (record { reach = E .reach; count = E .count; dry = E .dry }) k right
         where
           right : Owed s (starts (tagIn t)) z p (answering e) d
@@ -113,7 +113,7 @@ module _ {s : List ℕ} {z : State} {p : Pen} {r : Stepped} {d : List ℕ} where
               ∙ ap (acted c) (only-act a (start-tag q) (meaningOf z .store)) in
               let C : Comes (act a (start-tag q) (meaningOf z .store)) c z p e d =
               subst (λ (y : Control). Comes (act a (start-tag q) (meaningOf z .store)) (inside (at-start q) (opensOf y)) z p e d) (no-root z o b) (E .right a i h (omega (arith, o))) in
-              subst (λ (y : Answer). AnsweredAs y z p (answering e) d) (sym w) (answered-as c (act a (start-tag q) (meaningOf z .store)) z p e d C)
+              subst (λ (y : Answer). StepAnswered y z p (answering e) d) (sym w) (answered-as c (act a (start-tag q) (meaningOf z .store)) z p e d C)
 
     -- inside an element
     module _ (g : t ≤ 255) (o : 0 < z .depth) {w : Way} (W : AtomWayIs s (topOf z .production) (topOf z .place) (Tag t) w) where
@@ -139,7 +139,7 @@ module _ {s : List ℕ} {z : State} {p : Pen} {r : Stepped} {d : List ℕ} where
               let L = way-leads i h f o W there in
               depth-turn a z t q w g L (production-found i P real) false (lt-leb (suc (suc (length (L .os)))) most (omega (arith, L .deep, m))))
 
-          module _ (room : z .depth < most) {u : Acted} {mid : List ℕ} (F : FollowsAs s (w .place) (take (w .line .length) (w .line .bytes)) z p u mid) where
+          module _ (room : z .depth < most) {u : ActedSeen} {mid : List ℕ} (F : FollowsAs s (w .place) (take (w .line .length) (w .line .bytes)) z p u mid) where
             pub start-rejected : d ≡ mid → u .ok ≡ false → r ≡ answering u → SteppedAs s (starts (tagIn t)) z p r d
             start-rejected same bad e =
                 subst (λ (y : List ℕ). SteppedAs s (starts (tagIn t)) z p r y) (sym same)
@@ -151,7 +151,7 @@ module _ {s : List ℕ} {z : State} {p : Pen} {r : Stepped} {d : List ℕ} where
                 (depth-turn a z t q w g L (production-found i P real) true (le-leb (suc (suc (length (L .os)))) most (omega (arith, L .deep, room))))
                 (F .right a i h f (L .os) (L .stands) (tag t) (L .way) (L .is-way) (L .held .place-is) (L .bytes)) bad))
 
-            pub start-done : u .ok ≡ true → (e : Acted) → EntersAs s q (u .state) (onPen p mid (u .at)) e d → r ≡ answering e → SteppedAs s (starts (tagIn t)) z p r d
+            pub start-done : u .ok ≡ true → (e : ActedSeen) → EntersAs s q (u .state) (onPen p mid (u .at)) e d → r ≡ answering e → SteppedAs s (starts (tagIn t)) z p r d
             start-done good e E k =
                 went-as e (mostBrackets * visitReach + visitReach) eventVisits (omega arith) (omega arith)
                 (went-on u e (record { reach = F .reach; count = F .count; dry = F .dry }) (record { reach = E .reach; count = E .count; dry = E .dry })) k right

@@ -26,10 +26,10 @@ use Rattle.calls.proofs.Frame.{countOf, step-number, token-number}
 use Rattle.fit.specs.RunFits.{RunFits}
 use Rattle.state.specs.declared.State.{State}
 use Rattle.state.specs.Meaning.{meaningOf, Shaped}
-use Rattle.steps.specs.Seen.{Whole as Stepped}
-use Rattle.steps.specs.Stepped.{Took, AnsweredAs, SteppedAs, TokenAs}
-use Rattle.steps.specs.Taken.{Left, Takes, TakenAs, SameStep}
-use Rattle.steps.specs.Parts.{Ready, ReadyAt}
+use Rattle.steps.specs.Seen.{SteppedSeen}
+use Rattle.steps.specs.Stepped.{Took, StepAnswered, SteppedAs, TokenAs}
+use Rattle.steps.specs.Taken.{Left, TakingIs, TakenAs, SameStep}
+use Rattle.steps.specs.Parts.{RunReady, ReadyAt}
 use Rattle.live.specs.Live.{full}
 use Rattle.live.specs.declared.Live.{Live}
 
@@ -38,7 +38,7 @@ counts : (z : State) → countOf (meaningOf z) ≡ z .count
 unfolding meaningOf
 counts z = refl
 
-count-after : {m : Standing} {z : State} {p : Pen} {r : Stepped} {d : List ℕ} → Took m z p r d → r .state .count ≡ countOf m
+count-after : {m : Standing} {z : State} {p : Pen} {r : SteppedSeen} {d : List ℕ} → Took m z p r d → r .state .count ≡ countOf m
 count-after {m} {z} {p} {r} K = sym (counts (r .state)) ∙ ap countOf (K .means)
 
 -- the run dry, and where it writes
@@ -50,13 +50,13 @@ wetPen lent at = record { write = true; lent = drop at lent; at = 0 }
 
 -- a stack of which the state reads the same
 pub ready-still : {s : List ℕ} {h : Live} {b b′ : List ℕ} → full h b′ ≡ full h b → length b′ ≡ length b → ReadyAt s h b → ReadyAt s h b′
-ready-still {s} e l r = record { ready = subst (Ready s) (sym e) (r .ready); long = omega (arith, l, r .long) }
+ready-still {s} e l r = record { ready = subst (RunReady s) (sym e) (r .ready); long = omega (arith, l, r .long) }
 
 -- a token run into memory of its own tells what it would do dry
 abbrev pub ownPen : List ℕ → Pen
 ownPen own = record { write = true; lent = own; at = 0 }
 
-dry-answer : (x : Answer) (z : State) (own own′ lent : List ℕ) (y : Stepped) → AnsweredAs x z (ownPen own) y own′ → AnsweredAs x z (dryPen lent) y lent
+dry-answer : (x : Answer) (z : State) (own own′ lent : List ℕ) (y : SteppedSeen) → StepAnswered x z (ownPen own) y own′ → StepAnswered x z (dryPen lent) y lent
 dry-answer (refused n) z own own′ lent y A = A
 dry-answer (took m) z own own′ lent y A =
     record {
@@ -67,7 +67,7 @@ dry-answer (took m) z own own′ lent y A =
       written = record { next = A .written .next; left = sym (put-dry false lent 0 (outputOf m) refl) };
     }
 
-pub as-dry : {s part : List ℕ} {e : Read} {z : State} {own own′ : List ℕ} {y : Stepped} (lent : List ℕ) → TokenAs s part e z (ownPen own) y own′ → TokenAs s part e z (dryPen lent) y lent
+pub as-dry : {s part : List ℕ} {e : Read} {z : State} {own own′ : List ℕ} {y : SteppedSeen} (lent : List ℕ) → TokenAs s part e z (ownPen own) y own′ → TokenAs s part e z (dryPen lent) y lent
 as-dry {s} {part} {e} {z} {own} {own′} {y} lent O =
     record {
       reach = O .reach;
@@ -77,7 +77,7 @@ as-dry {s} {part} {e} {z} {own} {own′} {y} lent O =
     }
 
 module _ {s part : List ℕ} {e : Read} {z : State} {lent : List ℕ} {at : ℕ} (inside : at ≤ length lent) (few : z .count ≤ mostVisits)
-    (y : Stepped) (d : List ℕ) (D : TokenAs s part e z (dryPen lent) y d) where
+    (y : SteppedSeen) (d : List ℕ) (D : TokenAs s part e z (dryPen lent) y d) where
   abbrev Step : Sheet → Answer
   Step a = stepToken a (meaningOf z) (tokenOf a part e)
 
@@ -88,23 +88,23 @@ module _ {s part : List ℕ} {e : Read} {z : State} {lent : List ℕ} {at : ℕ}
   dry-took : (a : Sheet) → IsSheet s a → Shaped z → RunFits a (meaningOf z) → y .number ≡ 0 → (m : Standing) × (Step a ≡ took m) × Took m z (dryPen lent) y d
   dry-took a i h f q = by (Step a) refl (D .right a i h f)
     where
-      by : (x : Answer) → Step a ≡ x → AnsweredAs x z (dryPen lent) y d → (m : Standing) × (x ≡ took m) × Took m z (dryPen lent) y d
+      by : (x : Answer) → Step a ≡ x → StepAnswered x z (dryPen lent) y d → (m : Standing) × (x ≡ took m) × Took m z (dryPen lent) y d
       by (took m) k A = (m, refl, A)
       by (refused n) k A = absurd (omega (arith, token-number a (meaningOf z) (tokenOf a part e) n k .0, A, q))
 
   -- refused: all as it was
-  module _ (n : ℕ) (r : Stepped) (q : r ≡ record { number = n; at = at; state = z }) where
-    all-left : ((a : Sheet) → IsSheet s a → Shaped z → RunFits a (meaningOf z) → Takes (oneToken a (meaningOf z) Room (tokenOf a part e)) z lent at (record { number = n; at = at; state = z }) lent) →
+  module _ (n : ℕ) (r : SteppedSeen) (q : r ≡ record { number = n; at = at; state = z }) where
+    all-left : ((a : Sheet) → IsSheet s a → Shaped z → RunFits a (meaningOf z) → TakingIs (oneToken a (meaningOf z) Room (tokenOf a part e)) z lent at (record { number = n; at = at; state = z }) lent) →
         (d′ : List ℕ) → d′ ≡ lent → TakenAs s part e z lent at r d′
     all-left f d′ same =
         subst (λ (w : List ℕ). TakenAs s part e z lent at r w) (sym same)
-        (subst (λ (w : Stepped). TakenAs s part e z lent at w lent) (sym q) (record { inside = inside; count = few; right = f }))
+        (subst (λ (w : SteppedSeen). TakenAs s part e z lent at w lent) (sym q) (record { inside = inside; count = few; right = f }))
 
-  pub take-refused : (y .number ≡ 0 → ⊥) → (r : Stepped) → r ≡ record { number = y .number; at = at; state = z } → TakenAs s part e z lent at r d
+  pub take-refused : (y .number ≡ 0 → ⊥) → (r : SteppedSeen) → r ≡ record { number = y .number; at = at; state = z } → TakenAs s part e z lent at r d
   take-refused k r q =
       all-left (y .number) r q (λ a i h f. by a (Step a) (D .right a i h f)) d (D .dry refl)
     where
-      by : (a : Sheet) (x : Answer) → AnsweredAs x z (dryPen lent) y d → Takes (within Room x) z lent at (record { number = y .number; at = at; state = z }) lent
+      by : (a : Sheet) (x : Answer) → StepAnswered x z (dryPen lent) y d → TakingIs (within Room x) z lent at (record { number = y .number; at = at; state = z }) lent
       by a (took m) A = absurd (k (A .number))
       by a (refused n) A = record { number = A; state = refl; next = refl; left = refl }
 
@@ -114,32 +114,32 @@ module _ {s part : List ℕ} {e : Read} {z : State} {lent : List ℕ} {at : ℕ}
         leb (length (outputOf (dry-took a i h f zero .0))) Room ≡ b′ → oneToken a (meaningOf z) Room (tokenOf a part e) ≡ limited (dry-took a i h f zero .0) b b′
     by-limits a i h f b b′ p p′ = ap (within Room) (dry-took a i h f zero .1) ∙ ap₂ (λ (c c′ : Bool). limited (dry-took a i h f zero .0) c c′) p p′
 
-    pub take-counted : mostVisits < y .state .count → (r : Stepped) → r ≡ record { number = 30; at = at; state = z } → TakenAs s part e z lent at r d
+    pub take-counted : mostVisits < y .state .count → (r : SteppedSeen) → r ≡ record { number = 30; at = at; state = z } → TakenAs s part e z lent at r d
     take-counted k r q =
         all-left 30 r q
         (λ a i h f.
         let w = dry-took a i h f zero in
-        subst (λ (t : Taking). Takes t z lent at (record { number = 30; at = at; state = z }) lent)
+        subst (λ (t : Taking). TakingIs t z lent at (record { number = 30; at = at; state = z }) lent)
         (sym (by-limits a i h f false (leb (length (outputOf (w .0))) Room) (lt-leb (countOf (w .0)) mostVisits (omega (arith, count-after (w .2), k))) refl))
         (record { number = refl; state = refl; next = refl; left = refl }))
         d (D .dry refl)
 
     module _ (counted : y .state .count ≤ mostVisits) where
-      pub take-full : Room < y .at → (r : Stepped) → r ≡ record { number = 17; at = at; state = z } → TakenAs s part e z lent at r d
+      pub take-full : Room < y .at → (r : SteppedSeen) → r ≡ record { number = 17; at = at; state = z } → TakenAs s part e z lent at r d
       take-full k r q =
           all-left 17 r q
           (λ a i h f.
           let w = dry-took a i h f zero in
-          subst (λ (t : Taking). Takes t z lent at (record { number = 17; at = at; state = z }) lent)
+          subst (λ (t : Taking). TakingIs t z lent at (record { number = 17; at = at; state = z }) lent)
           (sym (by-limits a i h f true false (le-leb (countOf (w .0)) mostVisits (omega (arith, count-after (w .2), counted))) (lt-leb (length (outputOf (w .0))) Room (omega (arith, w .2 .written .next, k)))))
           (record { number = refl; state = refl; next = refl; left = refl }))
           d (D .dry refl)
 
       -- where there is no output the memory is as it was, with nothing written into it
-      pub take-silent : y .at ≡ 0 → (r : Stepped) → r ≡ record { number = 0; at = at; state = y .state } → TakenAs s part e z lent at r d
+      pub take-silent : y .at ≡ 0 → (r : SteppedSeen) → r ≡ record { number = 0; at = at; state = y .state } → TakenAs s part e z lent at r d
       take-silent k r q =
           subst (λ (w : List ℕ). TakenAs s part e z lent at r w) (sym (D .dry refl))
-          (subst (λ (w : Stepped). TakenAs s part e z lent at w lent) (sym q)
+          (subst (λ (w : SteppedSeen). TakenAs s part e z lent at w lent) (sym q)
           (record {
             inside = inside;
             count = counted;
@@ -150,7 +150,7 @@ module _ {s part : List ℕ} {e : Read} {z : State} {lent : List ℕ} {at : ℕ}
                 let none : length (outputOf m) ≤ 0 = omega (arith, l) in
                 let o : outputOf m ≡ [] = drop-of-length-le (outputOf m) none in
                 let n : at + length (outputOf m) ≡ at = omega (arith, l) in
-                subst (λ (t : Taking). Takes t z lent at (record { number = 0; at = at; state = y .state }) lent)
+                subst (λ (t : Taking). TakingIs t z lent at (record { number = 0; at = at; state = y .state }) lent)
                 (sym (by-limits a i h f true true (le-leb (countOf m) mostVisits (omega (arith, count-after (w .2), counted))) (le-leb (length (outputOf m)) Room (omega (arith, l)))))
                 (record {
                   number = refl;
@@ -162,19 +162,19 @@ module _ {s part : List ℕ} {e : Read} {z : State} {lent : List ℕ} {at : ℕ}
                 });
           }))
 
-      written-out : y .at ≤ Room → (x : Stepped) (d′ : List ℕ) → TokenAs s part e z (wetPen lent at) x d′ → (r : Stepped) → r ≡ record { number = 0; at = at + y .at; state = y .state } →
+      written-out : y .at ≤ Room → (x : SteppedSeen) (d′ : List ℕ) → TokenAs s part e z (wetPen lent at) x d′ → (r : SteppedSeen) → r ≡ record { number = 0; at = at + y .at; state = y .state } →
           TakenAs s part e z lent at r (take at lent ++ d′)
       written-out k x d′ W r q =
-          subst (λ (w : Stepped). TakenAs s part e z lent at w (take at lent ++ d′)) (sym q)
+          subst (λ (w : SteppedSeen). TakenAs s part e z lent at w (take at lent ++ d′)) (sym q)
           (record {
             inside = omega (arith, inside, k);
             count = counted;
             right = λ a i h f.
                 let w = dry-took a i h f zero in
                 let m : Standing = w .0 in
-                let A : Took m z (wetPen lent at) x d′ = subst (λ (t : Answer). AnsweredAs t z (wetPen lent at) x d′) (w .1) (W .right a i h f) in
+                let A : Took m z (wetPen lent at) x d′ = subst (λ (t : Answer). StepAnswered t z (wetPen lent at) x d′) (w .1) (W .right a i h f) in
                 let l : y .at ≡ length (outputOf m) = omega (arith, w .2 .written .next) in
-                subst (λ (t : Taking). Takes t z lent at (record { number = 0; at = at + y .at; state = y .state }) (take at lent ++ d′))
+                subst (λ (t : Taking). TakingIs t z lent at (record { number = 0; at = at + y .at; state = y .state }) (take at lent ++ d′))
                 (sym (by-limits a i h f true true (le-leb (countOf m) mostVisits (omega (arith, count-after (w .2), counted))) (le-leb (length (outputOf m)) Room (omega (arith, l, k)))))
                 (record {
                   number = refl;
@@ -190,20 +190,20 @@ module _ {s part : List ℕ} {e : Read} {z : State} {lent : List ℕ} {at : ℕ}
 
       -- what was written in memory of its own, copied
       pub take-copied : y .at ≤ Room → (own own′ : List ℕ) → TokenAs s part e z (ownPen own) y own′ → y .at ≤ length own → (d′ : List ℕ) (to : ℕ) → PutAs true lent at (take (y .at) own′) d′ to →
-          (r : Stepped) → r ≡ record { number = 0; at = at + y .at; state = y .state } → TakenAs s part e z lent at r d′
+          (r : SteppedSeen) → r ≡ record { number = 0; at = at + y .at; state = y .state } → TakenAs s part e z lent at r d′
       take-copied k own own′ O short d′ to P r q =
-          subst (λ (w : Stepped). TakenAs s part e z lent at w d′) (sym q)
+          subst (λ (w : SteppedSeen). TakenAs s part e z lent at w d′) (sym q)
           (record {
             inside = omega (arith, inside, k);
             count = counted;
             right = λ a i h f.
                 let w = dry-took a i h f zero in
                 let m : Standing = w .0 in
-                let A : Took m z (ownPen own) y own′ = subst (λ (t : Answer). AnsweredAs t z (ownPen own) y own′) (w .1) (O .right a i h f) in
+                let A : Took m z (ownPen own) y own′ = subst (λ (t : Answer). StepAnswered t z (ownPen own) y own′) (w .1) (O .right a i h f) in
                 let l : y .at ≡ length (outputOf m) = omega (arith, w .2 .written .next) in
                 let there : own′ ≡ outputOf m ++ drop (0 + length (outputOf m)) own = A .written .left ∙ put-all own 0 (outputOf m) (omega (arith, l, short)) in
                 let copied : take (y .at) own′ ≡ outputOf m = ap₂ take l there ∙ take-append-seam (outputOf m) (drop (0 + length (outputOf m)) own) in
-                subst (λ (t : Taking). Takes t z lent at (record { number = 0; at = at + y .at; state = y .state }) d′)
+                subst (λ (t : Taking). TakingIs t z lent at (record { number = 0; at = at + y .at; state = y .state }) d′)
                 (sym (by-limits a i h f true true (le-leb (countOf m) mostVisits (omega (arith, count-after (w .2), counted))) (le-leb (length (outputOf m)) Room (omega (arith, l, k)))))
                 (record {
                   number = refl;
@@ -216,25 +216,25 @@ module _ {s part : List ℕ} {e : Read} {z : State} {lent : List ℕ} {at : ℕ}
           })
 
       -- the second run's own state, which stands for the same
-      same-then : Ready s z → (x : Stepped) (p : Pen) (d′ : List ℕ) → TokenAs s part e z p x d′ → x .state .count ≤ mostVisits
+      same-then : RunReady s z → (x : SteppedSeen) (p : Pen) (d′ : List ℕ) → TokenAs s part e z p x d′ → x .state .count ≤ mostVisits
       same-then k x p d′ W =
           let w = dry-took (k .sheet) (k .is-sheet) (k .shaped) (k .fits) zero in
-          let A : Took (w .0) z p x d′ = subst (λ (t : Answer). AnsweredAs t z p x d′) (w .1) (W .right (k .sheet) (k .is-sheet) (k .shaped) (k .fits)) in
+          let A : Took (w .0) z p x d′ = subst (λ (t : Answer). StepAnswered t z p x d′) (w .1) (W .right (k .sheet) (k .is-sheet) (k .shaped) (k .fits)) in
           omega (arith, count-after A, count-after (w .2), counted)
 
-      pub take-again : Ready s z → y .at ≤ Room → (x : Stepped) (d′ : List ℕ) → TokenAs s part e z (wetPen lent at) x d′ → (r : Stepped) → r ≡ record { number = 0; at = at + y .at; state = x .state } →
+      pub take-again : RunReady s z → y .at ≤ Room → (x : SteppedSeen) (d′ : List ℕ) → TokenAs s part e z (wetPen lent at) x d′ → (r : SteppedSeen) → r ≡ record { number = 0; at = at + y .at; state = x .state } →
           TakenAs s part e z lent at r (take at lent ++ d′)
       take-again ready k x d′ W r q =
-          subst (λ (w : Stepped). TakenAs s part e z lent at w (take at lent ++ d′)) (sym q)
+          subst (λ (w : SteppedSeen). TakenAs s part e z lent at w (take at lent ++ d′)) (sym q)
           (record {
             inside = omega (arith, inside, k);
             count = same-then ready x (wetPen lent at) d′ W;
             right = λ a i h f.
                 let w = dry-took a i h f zero in
                 let m : Standing = w .0 in
-                let A : Took m z (wetPen lent at) x d′ = subst (λ (t : Answer). AnsweredAs t z (wetPen lent at) x d′) (w .1) (W .right a i h f) in
+                let A : Took m z (wetPen lent at) x d′ = subst (λ (t : Answer). StepAnswered t z (wetPen lent at) x d′) (w .1) (W .right a i h f) in
                 let l : y .at ≡ length (outputOf m) = omega (arith, w .2 .written .next) in
-                subst (λ (t : Taking). Takes t z lent at (record { number = 0; at = at + y .at; state = x .state }) (take at lent ++ d′))
+                subst (λ (t : Taking). TakingIs t z lent at (record { number = 0; at = at + y .at; state = x .state }) (take at lent ++ d′))
                 (sym (by-limits a i h f true true (le-leb (countOf m) mostVisits (omega (arith, count-after (w .2), counted))) (le-leb (length (outputOf m)) Room (omega (arith, l, k)))))
                 (record {
                   number = refl;
@@ -249,7 +249,7 @@ module _ {s part : List ℕ} {e : Read} {z : State} {lent : List ℕ} {at : ℕ}
           })
 
       -- the part of the memory that is lent to the second run, and the whole with what that left of it
-      pub take-done : Ready s z → y .at ≤ Room → (z′ : State) → z′ ≡ z → (x : Stepped) (d′ : List ℕ) → TokenAs s part e z′ (record { write = true; lent = take (length lent - at) (drop at lent); at = 0 }) x d′ → (r : Stepped) →
+      pub take-done : RunReady s z → y .at ≤ Room → (z′ : State) → z′ ≡ z → (x : SteppedSeen) (d′ : List ℕ) → TokenAs s part e z′ (record { write = true; lent = take (length lent - at) (drop at lent); at = 0 }) x d′ → (r : SteppedSeen) →
           r ≡ record { number = 0; at = at + y .at; state = x .state } → TakenAs s part e z lent at r (take at lent ++ (d′ ++ drop (length lent - at) (drop at lent)))
       take-done ready k z′ same x d′ W r q =
           let l : length (drop at lent) ≤ length lent - at = omega (arith, length-drop at lent) in
@@ -259,7 +259,7 @@ module _ {s part : List ℕ} {e : Read} {z : State} {lent : List ℕ} {at : ℕ}
           (subst (λ (v : State). TokenAs s part e v (record { write = true; lent = take (length lent - at) (drop at lent); at = 0 }) x d′) same W)) r q))
 
 -- the answer is one
-pub one-answer : {s part : List ℕ} {e : Read} {z : State} {lent : List ℕ} {at : ℕ} {r r′ : Stepped} {d d′ : List ℕ} → Ready s z →
+pub one-answer : {s part : List ℕ} {e : Read} {z : State} {lent : List ℕ} {at : ℕ} {r r′ : SteppedSeen} {d d′ : List ℕ} → RunReady s z →
     TakenAs s part e z lent at r d → TakenAs s part e z lent at r′ d′ → SameStep r r′ d d′
 one-answer {s} {part} {e} {z} {lent} {at} {r} {r′} {d} {d′} y t t′ =
     by (oneToken (y .sheet) (meaningOf z) (length lent - at) (tokenOf (y .sheet) part e)) (t .right (y .sheet) (y .is-sheet) (y .shaped) (y .fits)) (t′ .right (y .sheet) (y .is-sheet) (y .shaped) (y .fits))
@@ -273,7 +273,7 @@ one-answer {s} {part} {e} {z} {lent} {at} {r} {r′} {d} {d′} y t t′ =
           means = ap meaningOf (k .state ∙ sym (k′ .state));
         }
 
-    by : (x : Taking) → Takes x z lent at r d → Takes x z lent at r′ d′ → SameStep r r′ d d′
+    by : (x : Taking) → TakingIs x z lent at r d → TakingIs x z lent at r′ d′ → SameStep r r′ d d′
     by (taken m w) k k′ =
         record {
           number = k .number ∙ sym (k′ .number);
@@ -285,12 +285,12 @@ one-answer {s} {part} {e} {z} {lent} {at} {r} {r′} {d} {d′} y t t′ =
     by no-room k k′ = left-one 17 k k′
 
 -- the same of an event: one number, and where that is 0 one offset, one memory and one meaning
-pub one-event : {s : List ℕ} {x : Event} {z : State} {p : Pen} {r r′ : Stepped} {d d′ : List ℕ} → Ready s z → SteppedAs s x z p r d → SteppedAs s x z p r′ d′ →
+pub one-event : {s : List ℕ} {x : Event} {z : State} {p : Pen} {r r′ : SteppedSeen} {d d′ : List ℕ} → RunReady s z → SteppedAs s x z p r d → SteppedAs s x z p r′ d′ →
     (r .number ≡ r′ .number) × (r .number ≡ 0 → SameStep r r′ d d′)
 one-event {s} {x} {z} {p} {r} {r′} {d} {d′} y t t′ =
     by (step (y .sheet) (meaningOf z) x) refl (t .right (y .sheet) (y .is-sheet) (y .shaped) (y .fits)) (t′ .right (y .sheet) (y .is-sheet) (y .shaped) (y .fits))
   where
-    by : (k : Answer) → step (y .sheet) (meaningOf z) x ≡ k → AnsweredAs k z p r d → AnsweredAs k z p r′ d′ → (r .number ≡ r′ .number) × (r .number ≡ 0 → SameStep r r′ d d′)
+    by : (k : Answer) → step (y .sheet) (meaningOf z) x ≡ k → StepAnswered k z p r d → StepAnswered k z p r′ d′ → (r .number ≡ r′ .number) × (r .number ≡ 0 → SameStep r r′ d d′)
     by (refused n) q A A′ = (A ∙ sym A′, λ e. absurd (omega (arith, step-number (y .sheet) (meaningOf z) x n q .0, A, e)))
     by (took m) q A A′ =
         let o = put-one-outcome (p .write) (p .lent) (p .at) (outputOf m) d d′ (r .at) (r′ .at) (A .written) (A′ .written) in

@@ -32,9 +32,9 @@ use Rattle.lookups.specs.Found.{orMissing, TagFound, BlanksTold}
 use Rattle.state.specs.declared.State.{State}
 use Rattle.state.specs.Changes.{topOf}
 use Rattle.state.specs.Meaning.{meaningOf, Shaped}
-use Rattle.steps.specs.Seen.{Whole as Stepped}
-use Rattle.steps.specs.Stepped.{Took, AnsweredAs, tagIn, SteppedAs, TokenAs}
-use Rattle.steps.specs.Parts.{Ready, PassesAs, OneTokenAs}
+use Rattle.steps.specs.Seen.{SteppedSeen}
+use Rattle.steps.specs.Stepped.{Took, StepAnswered, tagIn, SteppedAs, TokenAs}
+use Rattle.steps.specs.Parts.{RunReady, PassesAs, OneTokenAs}
 use Rattle.steps.proofs.Joined.{onPen, join-events}
 use Rattle.steps.proofs.Places.{outside, inside-at}
 use Rattle.steps.proofs.Turns.{refusedAt}
@@ -71,18 +71,18 @@ tag-there : {s : List ℕ} {a : Sheet} → IsSheet s a → (part : List ℕ) (fr
 tag-there {s} {a} i part from len e T = tag-named i T ∙ ap (tagNamed (a .names)) e
 
 -- where it went on, the machine took it, and the state is of a run that fits the sheet
-module _ {s : List ℕ} {x : Event} {z : State} {p : Pen} {r : Stepped} {d : List ℕ} (S : SteppedAs s x z p r d) where
+module _ {s : List ℕ} {x : Event} {z : State} {p : Pen} {r : SteppedSeen} {d : List ℕ} (S : SteppedAs s x z p r d) where
   pub went-took : (a : Sheet) → IsSheet s a → Shaped z → RunFits a (meaningOf z) → r .number ≡ 0 → (m : Standing) × (step a (meaningOf z) x ≡ took m) × Took m z p r d
   went-took a i h f e = by (step a (meaningOf z) x) refl (S .right a i h f)
     where
-      by : (y : Answer) → step a (meaningOf z) x ≡ y → AnsweredAs y z p r d → (m : Standing) × (y ≡ took m) × Took m z p r d
+      by : (y : Answer) → step a (meaningOf z) x ≡ y → StepAnswered y z p r d → (m : Standing) × (y ≡ took m) × Took m z p r d
       by (took m) q A = (m, refl, A)
       by (refused n) q A = absurd (omega (arith, step-number a (meaningOf z) x n q .0, A, e))
 
   pub stopped-refused : (a : Sheet) → IsSheet s a → Shaped z → RunFits a (meaningOf z) → (r .number ≡ 0 → ⊥) → step a (meaningOf z) x ≡ refused (r .number)
   stopped-refused a i h f e = by (step a (meaningOf z) x) (S .right a i h f)
     where
-      by : (y : Answer) → AnsweredAs y z p r d → y ≡ refused (r .number)
+      by : (y : Answer) → StepAnswered y z p r d → y ≡ refused (r .number)
       by (took m) A = absurd (e (A .number))
       by (refused n) A = ap refused (sym A)
 
@@ -91,12 +91,12 @@ module _ {s : List ℕ} {x : Event} {z : State} {p : Pen} {r : Stepped} {d : Lis
       let w = went-took a i h f e in
       (w .2 .shaped, subst (RunFits a) (sym (w .2 .means)) (silent-fits a (w .0) (step-fits a (sheet-fits i) (meaningOf z) x (w .0) E f (w .1))))
 
-  pub ready-on : Ready s z → EventsFit (x ∷ []) → r .number ≡ 0 → Ready s (r .state)
+  pub ready-on : RunReady s z → EventsFit (x ∷ []) → r .number ≡ 0 → RunReady s (r .state)
   ready-on y E e =
       let w = fits-on (y .sheet) (y .is-sheet) (y .shaped) (y .fits) E e in
       record { sheet = y .sheet; is-sheet = y .is-sheet; passed = y .passed; shaped = w .0; fits = w .1 }
 
-module _ {s part : List ℕ} {z : State} {p : Pen} {r : Stepped} {d : List ℕ} where
+module _ {s part : List ℕ} {z : State} {p : Pen} {r : SteppedSeen} {d : List ℕ} where
   -- tags
   module _ {from len : ℕ} {name : List ℕ} (named : name ≡ take len (drop from part)) {t : ℕ} (T : TagFound s name t) where
     pub start-token : SteppedAs s (starts (tagIn t)) z p r d → TokenAs s part (Start from len) z p r d
@@ -106,7 +106,7 @@ module _ {s part : List ℕ} {z : State} {p : Pen} {r : Stepped} {d : List ℕ} 
           count = omega (arith, S .count);
           dry = S .dry;
           right = λ a i h f.
-              subst (λ (y : Answer). AnsweredAs y z p r d)
+              subst (λ (y : Answer). StepAnswered y z p r d)
               (ap (λ (o : Option ℕ). step a (meaningOf z) (starts o)) (tag-there i part from len named T) ∙ sym (alone (meaningOf z) (starts (tagNamed (a .names) (take len (drop from part))) ∷ []) (step a (meaningOf z) (starts (tagNamed (a .names) (take len (drop from part)))))))
               (S .right a i h f);
         }
@@ -118,7 +118,7 @@ module _ {s part : List ℕ} {z : State} {p : Pen} {r : Stepped} {d : List ℕ} 
           count = omega (arith, S .count);
           dry = S .dry;
           right = λ a i h f.
-              subst (λ (y : Answer). AnsweredAs y z p r d)
+              subst (λ (y : Answer). StepAnswered y z p r d)
               (ap (λ (o : Option ℕ). step a (meaningOf z) (ends o)) (tag-there i part from len named T) ∙ sym (alone (meaningOf z) (ends (tagNamed (a .names) (take len (drop from part))) ∷ []) (step a (meaningOf z) (ends (tagNamed (a .names) (take len (drop from part)))))))
               (S .right a i h f);
         }
@@ -129,14 +129,14 @@ module _ {s part : List ℕ} {z : State} {p : Pen} {r : Stepped} {d : List ℕ} 
           reach = S .reach;
           count = S .count;
           dry = S .dry;
-          right = λ a i h f. subst (λ (o : Option ℕ). AnsweredAs (stepToken a (meaningOf z) (empty-token o)) z p r d) (tag-there i part from len named T) (S .right a i h f);
+          right = λ a i h f. subst (λ (o : Option ℕ). StepAnswered (stepToken a (meaningOf z) (empty-token o)) z p r d) (tag-there i part from len named T) (S .right a i h f);
         }
 
   pub text-as : {c : ℕ} {l : Bool} → OneTokenAs s (characterToken l c) z p r d → TokenAs s part (Character c l) z p r d
   text-as S = record { reach = S .reach; count = S .count; dry = S .dry; right = S .right }
 
 -- an empty tag's two events
-module _ {s : List ℕ} {z : State} {p : Pen} {r : Stepped} {d : List ℕ} (t : ℕ) where
+module _ {s : List ℕ} {z : State} {p : Pen} {r : SteppedSeen} {d : List ℕ} (t : ℕ) where
   pub empty-stopped : SteppedAs s (starts (tagIn t)) z p r d → (r .number ≡ 0 → ⊥) → OneTokenAs s (empty-token (tagIn t)) z p r d
   empty-stopped S e =
       record {
@@ -144,12 +144,12 @@ module _ {s : List ℕ} {z : State} {p : Pen} {r : Stepped} {d : List ℕ} (t : 
         count = omega (arith, S .count);
         dry = S .dry;
         right = λ a i h f.
-            subst (λ (y : Answer). AnsweredAs y z p r d)
+            subst (λ (y : Answer). StepAnswered y z p r d)
             (sym (ap (λ (y : Answer). answered (onward (meaningOf z) (starts (tagIn t) ∷ ends (tagIn t) ∷ []) y (λ m. run a m (ends (tagIn t) ∷ [])))) (stopped-refused S a i h f e)))
             refl;
       }
 
-  pub empty-ended : (u : Stepped) (mid : List ℕ) → SteppedAs s (starts (tagIn t)) z p u mid → u .number ≡ 0 → SteppedAs s (ends (tagIn t)) (u .state) (onPen p mid (u .at)) r d →
+  pub empty-ended : (u : SteppedSeen) (mid : List ℕ) → SteppedAs s (starts (tagIn t)) z p u mid → u .number ≡ 0 → SteppedAs s (ends (tagIn t)) (u .state) (onPen p mid (u .at)) r d →
       OneTokenAs s (empty-token (tagIn t)) z p r d
   empty-ended u mid S e E =
       record {
@@ -159,7 +159,7 @@ module _ {s : List ℕ} {z : State} {p : Pen} {r : Stepped} {d : List ℕ} (t : 
         right = λ a i h f.
             let w = went-took S a i h f e in
             let g = fits-on S a i h f tt e in
-            subst (λ (y : Answer). AnsweredAs y z p r d)
+            subst (λ (y : Answer). StepAnswered y z p r d)
             (sym (ap (λ (y : Answer). answered (onward (meaningOf z) (starts (tagIn t) ∷ ends (tagIn t) ∷ []) y (λ m. run a m (ends (tagIn t) ∷ [])))) (w .1)
             ∙ alone (w .0) (ends (tagIn t) ∷ []) (step a (w .0) (ends (tagIn t)))))
             (join-events a r d (w .0) (w .2) (ends (tagIn t)) (E .right a i (g .0) (g .1)));
@@ -175,16 +175,16 @@ char-turn a z false c b e =
     ap (λ (k : Bool). unless-blank k (meaningOf z) (answered (run a (meaningOf z) (letter c ∷ [])))) e
     ∙ ap (unless-blank b (meaningOf z)) (alone (meaningOf z) (letter c ∷ []) (step a (meaningOf z) (letter c)))
 
-module _ {s : List ℕ} {z : State} {p : Pen} {r : Stepped} {d : List ℕ} (l : Bool) (c : ℕ) where
+module _ {s : List ℕ} {z : State} {p : Pen} {r : SteppedSeen} {d : List ℕ} (l : Bool) (c : ℕ) where
   pub blank-passes : PassesAs s z true → (l && blank c) ≡ true → r ≡ refusedAt 0 z p → d ≡ p .lent → OneTokenAs s (characterToken l c) z p r d
   blank-passes P w q same =
-      subst (λ (y : List ℕ). OneTokenAs s (characterToken l c) z p r y) (sym same) (subst (λ (y : Stepped). OneTokenAs s (characterToken l c) z p y (p .lent)) (sym q)
+      subst (λ (y : List ℕ). OneTokenAs s (characterToken l c) z p r y) (sym same) (subst (λ (y : SteppedSeen). OneTokenAs s (characterToken l c) z p y (p .lent)) (sym q)
       (record {
         reach = omega arith;
         count = omega arith;
         dry = λ n. refl;
         right = λ a i h f.
-            subst (λ (y : Answer). AnsweredAs y z p (refusedAt 0 z p) (p .lent))
+            subst (λ (y : Answer). StepAnswered y z p (refusedAt 0 z p) (p .lent))
             (sym (char-turn a z l c true (ap (λ (b : Bool). b && passesAt (grammar a) (meaningOf z .control)) w ∙ sym (P .is a i h f)))) (untouched z p h);
       }))
 
@@ -195,7 +195,7 @@ module _ {s : List ℕ} {z : State} {p : Pen} {r : Stepped} {d : List ℕ} (l : 
         reach = omega (arith, S .reach);
         count = omega (arith, S .count);
         dry = S .dry;
-        right = λ a i h f. subst (λ (y : Answer). AnsweredAs y z p r d) (sym (char-turn a z l c false (e a i h f))) (S .right a i h f);
+        right = λ a i h f. subst (λ (y : Answer). StepAnswered y z p r d) (sym (char-turn a z l c false (e a i h f))) (S .right a i h f);
       }
 
   pub not-blank : (l && blank c) ≡ false → SteppedAs s (letter c) z p r d → OneTokenAs s (characterToken l c) z p r d
@@ -216,7 +216,7 @@ pub passes-inside : {s : List ℕ} {z : State} {b : Bool} → 0 < z .depth → B
 passes-inside {s} {z} o B = record { is = λ a i h f. B .is a i ∙ ap (passesAt (grammar a)) (sym (inside-at z h o .stands)) }
 
 -- a token as it was matched
-pub as-read : {s part : List ℕ} {e e′ : Read} {z : State} {p : Pen} {r : Stepped} {d : List ℕ} → e ≡ e′ → TokenAs s part e′ z p r d → TokenAs s part e z p r d
+pub as-read : {s part : List ℕ} {e e′ : Read} {z : State} {p : Pen} {r : SteppedSeen} {d : List ℕ} → e ≡ e′ → TokenAs s part e′ z p r d → TokenAs s part e z p r d
 as-read {s} {part} {e} {e′} {z} {p} {r} {d} q T = subst (λ (y : Read). TokenAs s part y z p r d) (sym q) T
 
 -- a name's bytes

@@ -48,12 +48,12 @@ use Rattle.runs.specs.Nodes.{through-nodes, KeptAt}
 use Rattle.runs.specs.Visits.{Saved}
 use Rattle.lookups.specs.Found.{orMissing, ProductionFound, BlanksTold}
 use Rattle.acts.specs.Acted.{BracketsAs, LeavesAs}
-use Rattle.acts.specs.Seen.{Outcome as Acted}
+use Rattle.acts.specs.Seen.{ActedSeen}
 use Rattle.state.specs.declared.Frame.{Frame}
 use Rattle.state.specs.declared.State.{State}
 use Rattle.state.specs.Changes.{topOf}
 use Rattle.state.specs.Meaning.{openOf, setsOf, meaningOf, Shaped}
-use Rattle.steps.specs.Parts.{Ready}
+use Rattle.steps.specs.Parts.{RunReady}
 use Rattle.steps.proofs.Places.{Inside, inside-at, sets-are}
 
 few-places : (e : Content) → places e ≤ suc (nodesOf e)
@@ -150,7 +150,7 @@ module _ {s : List ℕ} {a : Sheet} (i : IsSheet s a) where
         omega (arith, P, few-places C, nodes-of-content s (topOf z .production) C (content-at s (grammar a) γ (topOf z .production) top-below), few-nodes top-below)
 
 -- the same of a run that is ready, where f is its innermost element
-module _ {s : List ℕ} {z : State} (y : Ready s z) where
+module _ {s : List ℕ} {z : State} (y : RunReady s z) where
   pub well : WellFormed s
   well = y .is-sheet .well-formed
 
@@ -183,10 +183,10 @@ module _ (s : List ℕ) (z : State) {f : Frame} (e : f ≡ topOf z) where
   pub top-reads : {u : ℕ} → NumberRead 256 (tagNumberOf s (f .production)) u → NumberRead 256 (tagNumberOf s (topOf z .production)) u
   top-reads {u} h = subst (λ (k : Frame). NumberRead 256 (tagNumberOf s (k .production)) u) e h
 
-  pub top-brackets : {w : List ℕ} {p : Pen} {r : Acted} {d : List ℕ} → BracketsAs s (f .production) w z p r d → BracketsAs s (topOf z .production) w z p r d
+  pub top-brackets : {w : List ℕ} {p : Pen} {r : ActedSeen} {d : List ℕ} → BracketsAs s (f .production) w z p r d → BracketsAs s (topOf z .production) w z p r d
   top-brackets {w} {p} {r} {d} h = subst (λ (k : Frame). BracketsAs s (k .production) w z p r d) e h
 
-  pub top-leaves : {b : State} {p : Pen} {r : Acted} {d : List ℕ} → LeavesAs s (f .production) b p r d → LeavesAs s (topOf z .production) b p r d
+  pub top-leaves : {b : State} {p : Pen} {r : ActedSeen} {d : List ℕ} → LeavesAs s (f .production) b p r d → LeavesAs s (topOf z .production) b p r d
   top-leaves {b} {p} {r} {d} h = subst (λ (k : Frame). LeavesAs s (k .production) b p r d) e h
 
   pub top-blanks : {r : Bool} → BlanksTold s (f .production) r → BlanksTold s (topOf z .production) r
@@ -240,7 +240,7 @@ module _ {s : List ℕ} {a : Sheet} (i : IsSheet s a) {z : State} (h : Shaped z)
         bytes = held-so .line-is .string-is .1 (omega (arith, W .few e, W .room));
       }
 
-pub place-below : {s : List ℕ} {z : State} → Ready s z → 0 < z .depth → {x : Symbol} {w : Way} → AtomWayIs s (topOf z .production) (topOf z .place) x w → w .line .found ≡ true → w .place < 256
+pub place-below : {s : List ℕ} {z : State} → RunReady s z → 0 < z .depth → {x : Symbol} {w : Way} → AtomWayIs s (topOf z .production) (topOf z .place) x w → w .line .found ≡ true → w .place < 256
 place-below y o {x} {w} W e =
     let L = way-leads (y .is-sheet) (y .shaped) (y .fits) o W e in
     omega (arith, place-small (y .is-sheet) (y .shaped) (y .fits) o (nextOf x) (L .way) (L .is-way), L .held .place-is)

@@ -22,7 +22,7 @@ use Rattle.state.specs.Changes.{topOf}
 use Rattle.state.specs.Meaning.{openOf, meaningOf, Shaped}
 use Rattle.state.specs.declared.State.{State}
 use Rattle.acts.specs.Acted.{Comes, visitReach}
-use Rattle.acts.specs.Seen.{Outcome as Acted}
+use Rattle.acts.specs.Seen.{ActedSeen}
 use Rattle.steps.specs.declared.Run.{Run}
 use Rattle.steps.specs.declared.Stepped.{Stepped as LiveStepped}
 use Rattle.acts.specs.declared.Acted.{Acted as LiveActed}
@@ -30,11 +30,11 @@ use Rattle.state.specs.Bounds.{stackWidth}
 use Rattle.live.specs.declared.Live.{Live}
 use Rattle.live.specs.Live.{full, SameBelow}
 use Rattle.steps.specs.Seen.{whole}
-use Rattle.steps.specs.Seen.{Whole as Stepped}
-use Rattle.steps.specs.Stepped.{AnsweredAs, SteppedAs, eventReach, eventVisits}
+use Rattle.steps.specs.Seen.{SteppedSeen}
+use Rattle.steps.specs.Stepped.{StepAnswered, SteppedAs, eventReach, eventVisits}
 
 -- the bytes are a sheet that passes, and the state is of a run that fits it
-pub record Ready (s : List ℕ) (z : State) : Type 0 where
+pub record RunReady (s : List ℕ) (z : State) : Type 0 where
   pub sheet : Sheet
   pub is-sheet : IsSheet s sheet
   pub passed : Passed sheet
@@ -43,11 +43,11 @@ pub record Ready (s : List ℕ) (z : State) : Type 0 where
 
 -- the same of the live part of a state and the lent stack, which is long enough
 pub record ReadyAt (s : List ℕ) (h : Live) (b : List ℕ) : Type 0 where
-  pub ready : Ready s (full h b)
+  pub ready : RunReady s (full h b)
   pub long : stackWidth ≤ length b
 
 -- what an event answers where it may push: what the state before it reads of the stack is as it was
-pub record Over (h : Live) (b b′ : List ℕ) (P : Type 0) : Type 0 where
+pub record OverStack (h : Live) (b b′ : List ℕ) (P : Type 0) : Type 0 where
   pub stepped : P
   pub below : SameBelow h b b′
   pub long : length b′ ≡ length b
@@ -60,11 +60,11 @@ refusing n u = record { number = n; at = u .at; live = u .live }
 abbrev pub answeringLive : LiveActed → LiveStepped
 answeringLive x = record { number = cond (x .ok) 0 25; at = x .at; live = x .live }
 
-abbrev pub answering : Acted → Stepped
+abbrev pub answering : ActedSeen → SteppedSeen
 answering x = record { number = cond (x .ok) 0 25; at = x .at; state = x .state }
 
 -- the brackets' visits of a way to an atom that can be x, whose string's bytes are the line, and the innermost element at its place
-pub record FollowsAs (s : List ℕ) (place : ℕ) (line : List ℕ) (z : State) (p : Pen) (r : Acted) (d : List ℕ) : Type 0 where
+pub record FollowsAs (s : List ℕ) (place : ℕ) (line : List ℕ) (z : State) (p : Pen) (r : ActedSeen) (d : List ℕ) : Type 0 where
   pub reach : r .at ≤ p .at + mostBrackets * visitReach
   pub count : r .state .count ≤ z .count + mostBrackets
   pub deep : r .state .depth ≡ z .depth
@@ -78,8 +78,8 @@ pub record PassesAs (s : List ℕ) (z : State) (r : Bool) : Type 0 where
   pub is : (a : Sheet) → IsSheet s a → Shaped z → RunFits a (meaningOf z) → r ≡ passesAt (grammar a) (meaningOf z .control)
 
 -- the token k
-pub record OneTokenAs (s : List ℕ) (k : Token) (z : State) (p : Pen) (r : Stepped) (d : List ℕ) : Type 0 where
+pub record OneTokenAs (s : List ℕ) (k : Token) (z : State) (p : Pen) (r : SteppedSeen) (d : List ℕ) : Type 0 where
   pub reach : r .at ≤ p .at + 2 * eventReach
   pub count : r .state .count ≤ z .count + 2 * eventVisits
   pub dry : p .write ≡ false → d ≡ p .lent
-  pub right : (a : Sheet) → IsSheet s a → Shaped z → RunFits a (meaningOf z) → AnsweredAs (stepToken a (meaningOf z) k) z p r d
+  pub right : (a : Sheet) → IsSheet s a → Shaped z → RunFits a (meaningOf z) → StepAnswered (stepToken a (meaningOf z) k) z p r d

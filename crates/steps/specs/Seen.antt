@@ -6,10 +6,10 @@ use Rattle.state.specs.declared.State.{State}
 use Rattle.live.specs.Live.{full}
 use Rattle.steps.specs.declared.Stepped.{Stepped}
 
-pub record Whole : Type 0 where
+pub record SteppedSeen : Type 0 where
   pub number : ℕ
   pub at : ℕ
   pub state : State
 
-abbrev pub whole : Stepped → List ℕ → Whole
+abbrev pub whole : Stepped → List ℕ → SteppedSeen
 whole r b = record { number = r .number; at = r .at; state = full (r .live) b }

@@ -21,19 +21,19 @@ use Rattle.state.specs.Meaning.{meaningOf, Shaped}
 use Rattle.state.specs.declared.State.{State}
 use Rattle.few.specs.Strings.{mostBrackets}
 use Rattle.acts.specs.Acted.{visitReach}
-use Rattle.steps.specs.Seen.{Whole as Stepped}
+use Rattle.steps.specs.Seen.{SteppedSeen}
 
 -- the event was taken, and m is where the run then stands: the state stands for that, and m's output is what was written from p on
-pub record Took (m : Standing) (z : State) (p : Pen) (r : Stepped) (d : List ℕ) : Type 0 where
+pub record Took (m : Standing) (z : State) (p : Pen) (r : SteppedSeen) (d : List ℕ) : Type 0 where
   pub number : r .number ≡ 0
   pub means : meaningOf (r .state) ≡ silent m
   pub shaped : Shaped (r .state)
   pub closed : r .state .closed ≡ z .closed
   pub written : PutAs (p .write) (p .lent) (p .at) (render (m .store .env .out)) d (r .at)
 
-abbrev pub AnsweredAs : Answer → State → Pen → Stepped → List ℕ → Type 0
-AnsweredAs (refused n) z p r d = r .number ≡ n
-AnsweredAs (took m) z p r d = Took m z p r d
+abbrev pub StepAnswered : Answer → State → Pen → SteppedSeen → List ℕ → Type 0
+StepAnswered (refused n) z p r d = r .number ≡ n
+StepAnswered (took m) z p r d = Took m z p r d
 
 -- a tag by its number; 256 and above are no tag of the sheet
 abbrev pub tagIn : ℕ → Option ℕ
@@ -47,15 +47,15 @@ abbrev pub eventReach : ℕ
 eventReach = eventVisits * visitReach
 
 -- the event x
-pub record SteppedAs (s : List ℕ) (x : Event) (z : State) (p : Pen) (r : Stepped) (d : List ℕ) : Type 0 where
+pub record SteppedAs (s : List ℕ) (x : Event) (z : State) (p : Pen) (r : SteppedSeen) (d : List ℕ) : Type 0 where
   pub reach : r .at ≤ p .at + eventReach
   pub count : r .state .count ≤ z .count + eventVisits
   pub dry : p .write ≡ false → d ≡ p .lent
-  pub right : (a : Sheet) → IsSheet s a → Shaped z → RunFits a (meaningOf z) → AnsweredAs (step a (meaningOf z) x) z p r d
+  pub right : (a : Sheet) → IsSheet s a → Shaped z → RunFits a (meaningOf z) → StepAnswered (step a (meaningOf z) x) z p r d
 
 -- the token e of a part, its start and its end together where it is an empty tag
-pub record TokenAs (s part : List ℕ) (e : Read) (z : State) (p : Pen) (r : Stepped) (d : List ℕ) : Type 0 where
+pub record TokenAs (s part : List ℕ) (e : Read) (z : State) (p : Pen) (r : SteppedSeen) (d : List ℕ) : Type 0 where
   pub reach : r .at ≤ p .at + 2 * eventReach
   pub count : r .state .count ≤ z .count + 2 * eventVisits
   pub dry : p .write ≡ false → d ≡ p .lent
-  pub right : (a : Sheet) → IsSheet s a → Shaped z → RunFits a (meaningOf z) → AnsweredAs (stepToken a (meaningOf z) (tokenOf a part e)) z p r d
+  pub right : (a : Sheet) → IsSheet s a → Shaped z → RunFits a (meaningOf z) → StepAnswered (stepToken a (meaningOf z) (tokenOf a part e)) z p r d

@@ -16,7 +16,7 @@ use Rattle.runs.specs.Machine.{Configuration as Standing}
 use Rattle.runs.specs.Visits.{mostVisits}
 use Rattle.state.specs.Meaning.{meaningOf, Shaped}
 use Rattle.state.specs.declared.State.{State}
-use Rattle.steps.specs.Seen.{Whole as Stepped}
+use Rattle.steps.specs.Seen.{SteppedSeen}
 
 -- an event as a reader answers it of the part: a name lies inside, a character is of the Char set
 abbrev pub EventIn : List ℕ → Event → Type 0
@@ -26,7 +26,7 @@ EventIn part (Empty from len) = from + len ≤ length part
 EventIn part (Character c literal) = Char c
 
 -- the token was taken: the state stands for m, and w was written from `at` on
-pub record Taken (m : Standing) (w : List ℕ) (z : State) (lent : List ℕ) (at : ℕ) (r : Stepped) (d : List ℕ) : Type 0 where
+pub record Taken (m : Standing) (w : List ℕ) (z : State) (lent : List ℕ) (at : ℕ) (r : SteppedSeen) (d : List ℕ) : Type 0 where
   pub number : r .number ≡ 0
   pub means : meaningOf (r .state) ≡ m
   pub shaped : Shaped (r .state)
@@ -35,24 +35,24 @@ pub record Taken (m : Standing) (w : List ℕ) (z : State) (lent : List ℕ) (at
   pub left : d ≡ take at lent ++ (w ++ drop (at + length w) lent)
 
 -- the number n, and all is as it was
-pub record Left (n : ℕ) (z : State) (lent : List ℕ) (at : ℕ) (r : Stepped) (d : List ℕ) : Type 0 where
+pub record Left (n : ℕ) (z : State) (lent : List ℕ) (at : ℕ) (r : SteppedSeen) (d : List ℕ) : Type 0 where
   pub number : r .number ≡ n
   pub state : r .state ≡ z
   pub next : r .at ≡ at
   pub left : d ≡ lent
 
-abbrev pub Takes : Taking → State → List ℕ → ℕ → Stepped → List ℕ → Type 0
-Takes (taken m w) z lent at r d = Taken m w z lent at r d
-Takes (refuses n) z lent at r d = Left n z lent at r d
-Takes no-room z lent at r d = Left 17 z lent at r d
+abbrev pub TakingIs : Taking → State → List ℕ → ℕ → SteppedSeen → List ℕ → Type 0
+TakingIs (taken m w) z lent at r d = Taken m w z lent at r d
+TakingIs (refuses n) z lent at r d = Left n z lent at r d
+TakingIs no-room z lent at r d = Left 17 z lent at r d
 
-pub record TakenAs (s part : List ℕ) (e : Event) (z : State) (lent : List ℕ) (at : ℕ) (r : Stepped) (d : List ℕ) : Type 0 where
+pub record TakenAs (s part : List ℕ) (e : Event) (z : State) (lent : List ℕ) (at : ℕ) (r : SteppedSeen) (d : List ℕ) : Type 0 where
   pub inside : r .at ≤ length lent
   pub count : r .state .count ≤ mostVisits
-  pub right : (a : Sheet) → IsSheet s a → Shaped z → RunFits a (meaningOf z) → Takes (oneToken a (meaningOf z) (length lent - at) (tokenOf a part e)) z lent at r d
+  pub right : (a : Sheet) → IsSheet s a → Shaped z → RunFits a (meaningOf z) → TakingIs (oneToken a (meaningOf z) (length lent - at) (tokenOf a part e)) z lent at r d
 
 -- what two answers to one token have in common
-pub record SameStep (r r′ : Stepped) (d d′ : List ℕ) : Type 0 where
+pub record SameStep (r r′ : SteppedSeen) (d d′ : List ℕ) : Type 0 where
   pub number : r .number ≡ r′ .number
   pub next : r .at ≡ r′ .at
   pub memory : d ≡ d′

@@ -13,7 +13,7 @@ ghost use Rattle.acts.specs.Seen.{seen};
 ghost use Rattle.steps.specs.Seen.{whole};
 ghost use Rattle.steps.specs.Stepped.{tagIn, eventVisits, SteppedAs, TokenAs};
 ghost use Rattle.steps.specs.Taken.{EventIn, TakenAs};
-ghost use Rattle.steps.specs.Parts.{refusing, answeringLive, ReadyAt, Over, FollowsAs, PassesAs, OneTokenAs};
+ghost use Rattle.steps.specs.Parts.{refusing, answeringLive, ReadyAt, OverStack, FollowsAs, PassesAs, OneTokenAs};
 ghost use Rattle.runs.specs.Spells.{empty-token};
 ghost use Rattle.calls.specs.Names.{characterToken};
 use acts::Acted;
@@ -133,7 +133,7 @@ impl Run {
         requires { ⌜ self .live .depth ≡ 0 ⌝ }
         requires { ⌜ self .at ≤ 2 ^ 58 ⌝ }
         requires { ⌜ self .live .count ≤ mostVisits + eventVisits ⌝ }
-        ensures { λ r. ⌜ Over (self .live) (now (stack .entry)) (now (stack .exit)) (SteppedAs (now (s .entry)) (starts (tagIn t)) (full (self .live) (now (stack .entry))) (record { write = write; lent = now (out .entry); at = self .at }) (whole r (now (stack .exit))) (now (out .exit))) ⌝ }
+        ensures { λ r. ⌜ OverStack (self .live) (now (stack .entry)) (now (stack .exit)) (SteppedAs (now (s .entry)) (starts (tagIn t)) (full (self .live) (now (stack .entry))) (record { write = write; lent = now (out .entry); at = self .at }) (whole r (now (stack .exit))) (now (out .exit))) ⌝ }
     {
         let live = self.live;
         if live.rooted {
@@ -166,7 +166,7 @@ impl Run {
         requires { ⌜ t ≤ 255 ⌝ }
         requires { ⌜ self .at ≤ 2 ^ 58 ⌝ }
         requires { ⌜ self .live .count ≤ mostVisits + eventVisits ⌝ }
-        ensures { λ r. ⌜ Over (self .live) (now (stack .entry)) (now (stack .exit)) (SteppedAs (now (s .entry)) (starts (tagIn t)) (full (self .live) (now (stack .entry))) (record { write = write; lent = now (out .entry); at = self .at }) (whole r (now (stack .exit))) (now (out .exit))) ⌝ }
+        ensures { λ r. ⌜ OverStack (self .live) (now (stack .entry)) (now (stack .exit)) (SteppedAs (now (s .entry)) (starts (tagIn t)) (full (self .live) (now (stack .entry))) (record { write = write; lent = now (out .entry); at = self .at }) (whole r (now (stack .exit))) (now (out .exit))) ⌝ }
     {
         let live = self.live;
         let f = live.top();
@@ -213,7 +213,7 @@ impl Run {
         requires { ⌜ ReadyAt (now s) (self .live) (now stack) ⌝ }
         requires { ⌜ self .at ≤ 2 ^ 58 ⌝ }
         requires { ⌜ self .live .count ≤ mostVisits + eventVisits ⌝ }
-        ensures { λ r. ⌜ Over (self .live) (now (stack .entry)) (now (stack .exit)) (SteppedAs (now (s .entry)) (starts (tagIn t)) (full (self .live) (now (stack .entry))) (record { write = write; lent = now (out .entry); at = self .at }) (whole r (now (stack .exit))) (now (out .exit))) ⌝ }
+        ensures { λ r. ⌜ OverStack (self .live) (now (stack .entry)) (now (stack .exit)) (SteppedAs (now (s .entry)) (starts (tagIn t)) (full (self .live) (now (stack .entry))) (record { write = write; lent = now (out .entry); at = self .at }) (whole r (now (stack .exit))) (now (out .exit))) ⌝ }
     {
         if self.live.depth == 0 {
             return self.start_root(s, l, t, stack, out, write);
@@ -371,7 +371,7 @@ impl Run {
         requires { ⌜ ReadyAt (now s) (self .live) (now stack) ⌝ }
         requires { ⌜ self .at ≤ 2 ^ 57 ⌝ }
         requires { ⌜ self .live .count ≤ mostVisits ⌝ }
-        ensures { λ r. ⌜ Over (self .live) (now (stack .entry)) (now (stack .exit)) (OneTokenAs (now (s .entry)) (empty-token (tagIn t)) (full (self .live) (now (stack .entry))) (record { write = write; lent = now (out .entry); at = self .at }) (whole r (now (stack .exit))) (now (out .exit))) ⌝ }
+        ensures { λ r. ⌜ OverStack (self .live) (now (stack .entry)) (now (stack .exit)) (OneTokenAs (now (s .entry)) (empty-token (tagIn t)) (full (self .live) (now (stack .entry))) (record { write = write; lent = now (out .entry); at = self .at }) (whole r (now (stack .exit))) (now (out .exit))) ⌝ }
     {
         let begun = self.start(s, l, t, stack, out, write);
         if begun.number != 0 {
@@ -442,7 +442,7 @@ impl Run {
         requires { ⌜ EventIn (now part) e ⌝ }
         requires { ⌜ self .at ≤ 2 ^ 57 ⌝ }
         requires { ⌜ self .live .count ≤ mostVisits ⌝ }
-        ensures { λ r. ⌜ Over (self .live) (now (stack .entry)) (now (stack .exit)) (TokenAs (now (s .entry)) (now (part .entry)) e (full (self .live) (now (stack .entry))) (record { write = write; lent = now (out .entry); at = self .at }) (whole r (now (stack .exit))) (now (out .exit))) ⌝ }
+        ensures { λ r. ⌜ OverStack (self .live) (now (stack .entry)) (now (stack .exit)) (TokenAs (now (s .entry)) (now (part .entry)) e (full (self .live) (now (stack .entry))) (record { write = write; lent = now (out .entry); at = self .at }) (whole r (now (stack .exit))) (now (out .exit))) ⌝ }
     {
         match e {
             Event::Start { from, len } => {
@@ -480,7 +480,7 @@ impl Run {
         requires { ⌜ EventIn (now part) e ⌝ }
         requires { ⌜ self .at ≤ length (now out) ⌝ }
         requires { ⌜ self .live .count ≤ mostVisits ⌝ }
-        ensures { λ r. ⌜ Over (self .live) (now (stack .entry)) (now (stack .exit)) (TakenAs (now (s .entry)) (now (part .entry)) e (full (self .live) (now (stack .entry))) (now (out .entry)) (self .at) (whole r (now (stack .exit))) (now (out .exit))) ⌝ }
+        ensures { λ r. ⌜ OverStack (self .live) (now (stack .entry)) (now (stack .exit)) (TakenAs (now (s .entry)) (now (part .entry)) e (full (self .live) (now (stack .entry))) (now (out .entry)) (self .at) (whole r (now (stack .exit))) (now (out .exit))) ⌝ }
     {
         let at = self.at;
         let before = self.live;

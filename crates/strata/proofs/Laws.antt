@@ -25,7 +25,7 @@ use Rattle.stages.specs.declared.Headway.{Headway}
 use Rattle.stages.specs.declared.Fate.{Fate}
 use Rattle.stages.specs.declared.Moved.{Moved}
 use Rattle.stages.specs.Headway.{pcdataTail, ContentShown, PhaseHolds}
-use Rattle.stages.specs.Steps.{movedOn, toldAs, withRow, withNest, FateIs, too-deep, TakenAs, FewNodesIn, EndedNameIs, PlainStep, NameStep, StepIs, LongerIs}
+use Rattle.stages.specs.Steps.{movedOn, toldAs, withRow, withNest, FateIs, too-deep, ByteTakenAs, FewNodesIn, EndedNameIs, PlainStep, NameStep, ByteStepIs, LongerIs}
 use Rattle.stages.proofs.Fates.{stops, goes, goes-by}
 use Rattle.stages.proofs.Stations.{of-station}
 use Rattle.strata.specs.Particles.{isMark, ParticleStep, JoinStep, CloseStep}
@@ -133,11 +133,11 @@ module _ (s : Headway) (b : ℕ) (r : Moved) where
     }
 
     -- the step at a station
-    pub plain-step : (t : Station) → s .station ≡ t → PlainStep t s b r → StepIs s b k r
-    plain-step t e p = record { is = λ number q h few z. of-station (λ q. PhaseHolds number q s → FewNodesIn q → TakenAs number q b r) t e h (p .is number) (h .holds) few }
+    pub plain-step : (t : Station) → s .station ≡ t → PlainStep t s b r → ByteStepIs s b k r
+    plain-step t e p = record { is = λ number q h few z. of-station (λ q. PhaseHolds number q s → FewNodesIn q → ByteTakenAs number q b r) t e h (p .is number) (h .holds) few }
 
-    pub name-step : (t : Station) → s .station ≡ t → NameStep t s b k r → StepIs s b k r
-    name-step t e p = record { is = λ number q h few z. of-station (λ q. PhaseHolds number q s → FewNodesIn q → EndedNameIs number q b k → TakenAs number q b r) t e h (p .is number) (h .holds) few z }
+    pub name-step : (t : Station) → s .station ≡ t → NameStep t s b k r → ByteStepIs s b k r
+    name-step t e p = record { is = λ number q h few z. of-station (λ q. PhaseHolds number q s → FewNodesIn q → EndedNameIs number q b k → ByteTakenAs number q b r) t e h (p .is number) (h .holds) few z }
 
 -- a comma or a bar
 module _ (s : Headway) (kind other : ℕ) (r : Moved) where

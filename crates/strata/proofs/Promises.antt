@@ -16,7 +16,7 @@ use Rattle.models.specs.Family.{namesInSpec}
 use Rattle.models.specs.Spelling.{MarkIs, question, asterisk, plus}
 use Rattle.models.specs.Reader.{LeftOf, fresh, commas, bars, behindLeft, aroundModel, shortName, Phase, opening, naming, named, contents, emptying, inside, hashing, mixing, barred, mixed-name, mixed-closed, wants, in-name, marking, after, group-closed, ended, Move, to, over, onlyIfTrue, longer, stepEnded, stepMark, withComma, withBar, closedGroup, stepAfter, stepMarking, stepItem, stepMixing, unstarred, stepPhase, finishedPhase}
 use Rattle.declarations.specs.declared.NodeRow.{NodeRow}
-use Rattle.declarations.specs.Nodes.{contentPreorder, roomForNodes, Lays, Shows}
+use Rattle.declarations.specs.Nodes.{contentPreorder, roomForNodes, LaysNodes, Shows}
 use Rattle.levels.specs.Promises.{NumberedAlike}
 use Rattle.levels.specs.Levels.{KeepsNodes}
 use Rattle.levels.proofs.Promises.{same-expression, around-stays, nested-stays, around-counted, mark-has-room, comma-has-room, bar-has-room}
@@ -42,7 +42,7 @@ module _ (number number′ : List ℕ → ℕ) where
   spec-alike (children x) h = ap tree (same-expression number number′ x h)
 
   content-stays : (c : ContentSpec) (r : NodeRow) → NumberedAlike number number′ (namesInSpec c) → ContentShown number c r → ContentShown number′ c r
-  content-stays c r h x = record { laid = subst (λ k. Lays (contentPreorder k) r) (spec-alike c h) (x .laid); deep-is = x .deep-is }
+  content-stays c r h x = record { laid = subst (λ k. LaysNodes (contentPreorder k) r) (spec-alike c h) (x .laid); deep-is = x .deep-is }
 
   holds-still : (q : Phase) (s : Headway) → NumberedAlike number number′ (wholeNames q) → PhaseHolds number q s → PhaseHolds number′ q s
   holds-still (opening rest) s h x = x

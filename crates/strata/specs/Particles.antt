@@ -9,7 +9,7 @@ use lib.ListN.{length}
 use Rattle.models.specs.Models.{Model, Declaration}
 use Rattle.models.specs.Reader.{LeftOf, behindLeft, wants, to, withComma, withBar, closedGroup, stepItem, finishedPhase}
 use Rattle.declarations.specs.declared.NodeRow.{NodeRow}
-use Rattle.declarations.specs.Nodes.{mostBytes}
+use Rattle.declarations.specs.Nodes.{mostNodeBytes}
 use Rattle.levels.specs.declared.ModelSize.{ModelSize}
 use Rattle.levels.specs.Levels.{Around, Nested, KeepsNodes}
 use Rattle.stages.specs.declared.Headway.{Headway}
@@ -38,4 +38,4 @@ pub record CloseStep (s : Headway) (r : Moved) : Type 0 where
 
 -- so many nodes more, and so much deeper
 pub record MoreSize (a : NodeRow) (nodes deep : ℕ) (r : ModelSize) : Type 0 where
-  pub is : a .deep ≤ mostBytes → (r .nodes ≡ a .length / 2 + nodes) × (r .deep ≡ a .deep + deep)
+  pub is : a .deep ≤ mostNodeBytes → (r .nodes ≡ a .length / 2 + nodes) × (r .deep ≡ a .deep + deep)

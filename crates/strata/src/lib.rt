@@ -1,7 +1,7 @@
 // One byte of a declaration: in the models of children, and at every station; what the shortest continuation makes, measured.
 ghost use mathlib.Core.Path.{_≡_};
 ghost use Prim.Native.Nat.{_≤_};
-ghost use Rattle.stages.specs.Steps.{StepIs, PlainStep, NameStep, SizesAs};
+ghost use Rattle.stages.specs.Steps.{ByteStepIs, PlainStep, NameStep, SizesAs};
 ghost use Rattle.stages.specs.declared.Station.{Station};
 ghost use Rattle.strata.specs.Particles.{isMark, ParticleStep, JoinStep, CloseStep, MoreSize};
 use declarations::NodeRow;
@@ -146,7 +146,7 @@ fn group_closed(s: Headway, b: u8) -> Moved
 
 // One byte of a declaration. Where a name of the content ends before it, that name has the number.
 pub fn step(s: Headway, b: u8, number: u8) -> Moved
-    ensures { λ r. ⌜ StepIs s b number r ⌝ }
+    ensures { λ r. ⌜ ByteStepIs s b number r ⌝ }
 {
     let station = s.station;
     match station {

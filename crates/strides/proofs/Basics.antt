@@ -25,19 +25,19 @@ use Rattle.turns.specs.declared.Stand.{Stand}
 use Rattle.turns.specs.declared.Place.{Place}
 use Rattle.turns.specs.declared.Given.{Given}
 use Rattle.turns.specs.declared.Turn.{Turn}
-use Rattle.turns.specs.Stands.{betweenIn, going, stopping, modeBy, modeOf, Stands, HoldsIn, holds-between, holds-inside, holds-skipping, ReadyOn}
-use Rattle.strides.specs.Strides.{goesOn, numberIn, placeIn, modeIn, writtenIn, toldIn, depthIn, Shown, rank, leftToDo, Strode}
+use Rattle.turns.specs.Stands.{betweenIn, going, stopping, modeBy, modeOf, RunStands, HoldsIn, holds-between, holds-inside, holds-skipping, ReadyOn}
+use Rattle.strides.specs.Strides.{stepGoesOn, numberIn, placeIn, modeIn, writtenIn, toldIn, depthIn, Shown, modeRank, leftToDo, Strode}
 
 -- a run in which the root alone is open, or none, reads nothing of the stack
 pub alone : (h : Live) (b b′ : List ℕ) → h .depth ≤ 1 → full h b′ ≡ full h b
 alone h b b′ d = full-same h b b′ (λ i l. absurd (omega arith))
 
-pub stands-alone : {a : Sheet} (h : Live) (b b′ : List ℕ) → h .depth ≤ 1 → Stands a h b → Stands a h b′
+pub stands-alone : {a : Sheet} (h : Live) (b b′ : List ℕ) → h .depth ≤ 1 → RunStands a h b → RunStands a h b′
 stands-alone {a} h b b′ d S =
     let e = alone h b b′ d in
     record { count = S .count; is-open = S .is-open; shaped = subst Shaped (sym e) (S .shaped); fits = subst (λ (z : State). RunFits a (meaningOf z)) (sym e) (S .fits) }
 
-pub stands-same : {a : Sheet} (h : Live) (b b′ : List ℕ) → full h b′ ≡ full h b → Stands a h b → Stands a h b′
+pub stands-same : {a : Sheet} (h : Live) (b b′ : List ℕ) → full h b′ ≡ full h b → RunStands a h b → RunStands a h b′
 stands-same {a} h b b′ e S =
     record { count = S .count; is-open = S .is-open; shaped = subst Shaped (sym e) (S .shaped); fits = subst (λ (z : State). RunFits a (meaningOf z)) (sym e) (S .fits) }
 
@@ -131,7 +131,7 @@ module _ {a : Sheet} (x : RecordTags) {g : Given} {part : List ℕ} {p : Place} 
       modeOf t′ b′ area′ ≡ m′ → out′ ≡ take (p .put) out ++ (w ++ drop (p .put + length w) out) → length out′ ≡ length out →
       rep′ ≡ put true rep (entryWidth * p .told) (reportBytes ds) → length area′ ≡ length area → drop k area′ ≡ drop k area → k ≤ length area → t′ .waits ≤ k →
       ReadyOn a g part (record { at = next; put = put′; told = told′ }) t′ b′ out′ area′ →
-      3 * (length part - next) + rank (t′ .mode) < 3 * (length part - p .at) + rank (t .mode) → Strode a x g part p t b b′ out out′ area area′ rep rep′ r
+      3 * (length part - next) + modeRank (t′ .mode) < 3 * (length part - p .at) + modeRank (t .mode) → Strode a x g part p t b b′ out out′ area area′ rep rep′ r
   goes-so next put′ told′ k m′ w ds t′ b′ out′ area′ rep′ r st re pe te ti me oe ol qe al past ki wk R′ l =
       subst (λ (r : Turn). Strode a x g part p t b b′ out out′ area area′ rep rep′ r) (sym re)
       (record {
@@ -153,7 +153,7 @@ module _ {a : Sheet} (x : RecordTags) {g : Given} {part : List ℕ} {p : Place} 
   pub ends-so : (n to told′ k : ℕ) (z : Live) (ds : List LostStretch) (b′ out′ area′ rep′ : List ℕ) (r : Turn) →
       StepIs here (p .at) room spare mode-here (stop n to (between (meaningOf (full z b′))) ds k) → r ≡ stopping (betweenIn z) n to (p .put) told′ k → to ≤ length part →
       told′ ≡ p .told + length ds → told′ ≤ length rep / entryWidth → out′ ≡ out → rep′ ≡ put true rep (entryWidth * p .told) (reportBytes ds) → area′ ≡ area → length b′ ≡ length b → k ≤ length area →
-      Stands a z b′ → Strode a x g part p t b b′ out out′ area area′ rep rep′ r
+      RunStands a z b′ → Strode a x g part p t b b′ out out′ area area′ rep rep′ r
   ends-so n to told′ k z ds b′ out′ area′ rep′ r st re w te ti o qe ae bl ki S =
       subst (λ (r : Turn). Strode a x g part p t b b′ out out′ area area′ rep rep′ r) (sym re)
       (record {

@@ -20,7 +20,7 @@ use Rattle.state.specs.declared.State.{State}
 use Rattle.live.specs.declared.Live.{Live}
 use Rattle.live.specs.Live.{full}
 use Rattle.rescue.specs.Held.{Mode, between, inside, skipping, waitingIn}
-use Rattle.rescue.specs.Step.{Setting, Step, on, stop, stay, inStream, byteBefore, lastByte, pastFirst, drops as dropsAt, closes as closesAt, breaks as breaksAt, reported, StepIs}
+use Rattle.rescue.specs.Step.{Setting, Step, on, stop, stay, inStream, byteBefore, lastByte, pastFirst, dropsAt, closesAt, breaksAt, reported, StepIs}
 use Rattle.rescue.specs.Call.{setting}
 use Rattle.rescue.proofs.Whole.{comes-on, comes-to}
 use Rattle.rescued.specs.Bytes.{entryWidth, entryBytes, reportBytes}
@@ -28,9 +28,9 @@ use Rattle.turns.specs.declared.Stand.{Stand}
 use Rattle.turns.specs.declared.Place.{Place}
 use Rattle.turns.specs.declared.Given.{Given}
 use Rattle.turns.specs.declared.Turn.{Turn}
-use Rattle.turns.specs.Stands.{betweenIn, skippingIn, going, stopping, modeOf, Stands, holds-skipping, ReadyOn}
-use Rattle.turns.specs.Turned.{lastOf, BrokenAs, stays, drops, drops-first, nothing-lost, no-space, closes}
-use Rattle.strides.specs.Strides.{rank, Strode}
+use Rattle.turns.specs.Stands.{betweenIn, skippingIn, going, stopping, modeOf, RunStands, holds-skipping, ReadyOn}
+use Rattle.turns.specs.Turned.{droppedEnd, BrokenAs, stays, drops, drops-first, nothing-lost, no-space, closes}
+use Rattle.strides.specs.Strides.{modeRank, Strode}
 use Rattle.strides.proofs.Basics.{alone, stands-alone, waiting-long, none-written, none-reported, one-reported, stays-so, goes-so, ends-so}
 
 -- where no entry is left the step is 17 and leaves all as it is
@@ -46,7 +46,7 @@ full-report-on c at room spare m p st next m′ d k z e i =
 
 -- the entry of a record that is dropped for good
 the-entry : (f n end token : ℕ) → ((n ≡ 27 → ⊥) → f < token) →
-    cond (eqb n 27) (lost f (end - 1) n ∷ []) (onlyIf (ltb f token) (lost f (token - 1) n)) ≡ lost f (lastOf n end token) n ∷ []
+    cond (eqb n 27) (lost f (end - 1) n ∷ []) (onlyIf (ltb f token) (lost f (token - 1) n)) ≡ lost f (droppedEnd n end token) n ∷ []
 the-entry f n end token h = by (eqb n 27) refl
   where
     by : (b : Bool) → eqb n 27 ≡ b → cond b (lost f (end - 1) n ∷ []) (onlyIf (ltb f token) (lost f (token - 1) n)) ≡ lost f (cond b end token - 1) n ∷ []
@@ -54,7 +54,7 @@ the-entry f n end token h = by (eqb n 27) refl
     by false e = ap (λ (b : Bool). onlyIf b (lost f (token - 1) n)) (lt-ltb f token (h (eqb-false n 27 e)))
 
 module _ {a : Sheet} (x : RecordTags) {g : Given} {part : List ℕ} {p : Place} {t : Stand} {b out area : List ℕ} (rep : List ℕ) (R : ReadyOn a g part p t b out area)
-    (T : p .told ≤ length rep / entryWidth) (z : Live) (one : z .depth ≡ 1) (S : Stands a z []) (f n : ℕ) (in-it : f < g .base + p .at → t .mode ≡ 1)
+    (T : p .told ≤ length rep / entryWidth) (z : Live) (one : z .depth ≡ 1) (S : RunStands a z []) (f n : ℕ) (in-it : f < g .base + p .at → t .mode ≡ 1)
     (its-first : g .base + p .at ≤ f → p .at < length part) where
   abbrev c : Setting
   c = setting a x part (not (g .ended)) (g .base) (length area)
@@ -94,7 +94,7 @@ module _ {a : Sheet} (x : RecordTags) {g : Given} {part : List ℕ} {p : Place} 
       ∙ ap (λ (k : Bool). cond k (dropsAt c (p .at) m Z f n) (closesAt c (p .at) m Z f n)) d
 
   with-entry : leavesOpen n ≡ false → damaged n ≡ false → ((n ≡ 27 → ⊥) → f < g .base + p .at) →
-      before-it ≡ stop n (p .at) (between Z) (lost f (lastOf n (g .base + length part) (g .base + p .at)) n ∷ []) (length (waitingIn m))
+      before-it ≡ stop n (p .at) (between Z) (lost f (droppedEnd n (g .base + length part) (g .base + p .at)) n ∷ []) (length (waitingIn m))
   with-entry e d h = as-closed e d ∙ ap (λ (ds : List LostStretch). stop n (p .at) (between Z) ds (length (waitingIn m))) (the-entry f n (g .base + length part) (g .base + p .at) h)
 
   module _ (I : StepIs c (p .at) room spare m (reported spare (p .at) m before-it)) (b′ out′ area′ : List ℕ) (bl : length b′ ≡ length b) (e : full (t .live) b′ ≡ full (t .live) b)
@@ -106,7 +106,7 @@ module _ {a : Sheet} (x : RecordTags) {g : Given} {part : List ℕ} {p : Place} 
         (subst (λ (i : ℕ). StepIs c (p .at) room spare m (stop k (p .at) m [] i)) waits st) re
 
     skips-here : (next : ℕ) (rep′ : List ℕ) (r : Turn) → pastFirst c f (p .at) ≡ next → next ≤ length part → p .at ≤ next → leavesOpen n ≡ false → damaged n ≡ true →
-        r ≡ going (skippingIn z f n) next (p .put) (p .told) (t .waits) → rep′ ≡ rep → 3 * (length part - next) + 1 < 3 * (length part - p .at) + rank (t .mode) →
+        r ≡ going (skippingIn z f n) next (p .put) (p .told) (t .waits) → rep′ ≡ rep → 3 * (length part - next) + 1 < 3 * (length part - p .at) + modeRank (t .mode) →
         Strode a x g part p t b b′ out out′ area area′ rep rep′ r
     skips-here next rep′ r pe w l lo da re q less =
         let s₀ = comes-on c (p .at) room spare m (p .at) before-it (pastFirst c f (p .at)) (skipping Z f n) [] [] (length (waitingIn m)) (omega arith) (as-damaged lo da) I in
@@ -138,7 +138,7 @@ module _ {a : Sheet} (x : RecordTags) {g : Given} {part : List ℕ} {p : Place} 
     broken rep′ r (stays lo re q) =
         stays-here n rep′ r (comes-to c (p .at) room spare m (p .at) before-it n (p .at) m [] (length (waitingIn m)) (omega arith) (as-open lo) I) q re
     broken rep′ r (drops lo da lt re q) =
-        let k : rank (t .mode) ≡ 2 = ap rank (in-it lt) in
+        let k : modeRank (t .mode) ≡ 2 = ap modeRank (in-it lt) in
         skips-here (p .at) rep′ r (ap (λ (y : Bool). cond y (p .at) (suc (p .at))) (lt-ltb f (g .base + p .at) lt)) (R .within) (omega arith) lo da re q (omega (arith, k))
     broken rep′ r (drops-first lo da le re q) =
         let w = its-first le in
@@ -152,8 +152,8 @@ module _ {a : Sheet} (x : RecordTags) {g : Given} {part : List ℕ} {p : Place} 
         (q ∙ none-reported rep (entryWidth * p .told))
     broken rep′ r (no-space lo da h ge re q) =
         stays-here 17 rep′ r
-        (full-report c (p .at) room spare m (p .at) before-it n (p .at) (between Z) (lost f (lastOf n (g .base + length part) (g .base + p .at)) n) (length (waitingIn m)) (omega arith) (with-entry lo da h) I) q re
+        (full-report c (p .at) room spare m (p .at) before-it n (p .at) (between Z) (lost f (droppedEnd n (g .base + length part) (g .base + p .at)) n) (length (waitingIn m)) (omega arith) (with-entry lo da h) I) q re
     broken rep′ r (closes lo da h lt re q) =
-        let d : LostStretch = lost f (lastOf n (g .base + length part) (g .base + p .at)) n in
+        let d : LostStretch = lost f (droppedEnd n (g .base + length part) (g .base + p .at)) n in
         ends-here (p .told + 1) (d ∷ []) rep′ r (comes-to c (p .at) room spare m (p .at) before-it n (p .at) (between Z) (d ∷ []) (length (waitingIn m)) (omega arith) (with-entry lo da h) I) re (omega arith) (omega arith)
         (q ∙ ap (put true rep (entryWidth * p .told)) (one-reported d))

@@ -32,7 +32,7 @@ use Rattle.live.specs.Live.{full}
 use Rattle.live.proofs.Stacks.{full-same}
 use Rattle.steps.specs.declared.Stepped.{Stepped}
 use Rattle.steps.specs.Seen.{whole}
-use Rattle.steps.specs.Taken.{Taken, Takes}
+use Rattle.steps.specs.Taken.{Taken, TakingIs}
 use Rattle.converter.specs.Inner.{NumberedAs}
 use Rattle.rescue.specs.Held.{Mode, between, skipping, waitingIn}
 use Rattle.rescue.specs.Step.{Setting, Step, on, stop, stay, lastByte, byteBefore, otherToken, ranOut, skipStep, skipTo, reported, StepIs}
@@ -43,9 +43,9 @@ use Rattle.turns.specs.declared.Stand.{Stand}
 use Rattle.turns.specs.declared.Place.{Place}
 use Rattle.turns.specs.declared.Given.{Given}
 use Rattle.turns.specs.declared.Turn.{Turn}
-use Rattle.turns.specs.Stands.{betweenIn, going, stopping, modeBy, modeOf, Stands, holds-between, ReadyOn}
+use Rattle.turns.specs.Stands.{betweenIn, going, stopping, modeBy, modeOf, RunStands, holds-between, ReadyOn}
 use Rattle.turns.specs.Turned.{OtherEnds, refused, passes, OtherTokenAs, ResumesAs, no-entry-left, resumed, RanOutAs, more-comes, no-entry-at-end, lost-at-end, SkipEnds}
-use Rattle.strides.specs.Strides.{rank, Strode}
+use Rattle.strides.specs.Strides.{modeRank, Strode}
 use Rattle.strides.proofs.Basics.{waiting-long, none-written, none-reported, one-reported, stays-so, goes-so, ends-so}
 use Rattle.strides.proofs.Broken.{full-report, full-report-on}
 use Rattle.strides.proofs.Records.{stands-taken}
@@ -134,7 +134,7 @@ module _ {s : List ℕ} {a : Sheet} (G : IsSheet s a) (x : RecordTags) {g : Give
             comes-to c (p .at) room spare m (p .at) (otherToken (p .at) m next k) n (p .at) m [] (length (waitingIn m)) (omega arith) z
             (subst (λ (i : Taking). StepIs c (p .at) room spare m (reported spare (p .at) m (otherToken (p .at) m next i))) o I)
 
-        by : (k : Taking) → oneToken a Y room (tokenOf a part e) ≡ k → Takes k (full (t .live) b) out (p .put) (whole q b′) out′ → goal
+        by : (k : Taking) → oneToken a Y room (tokenOf a part e) ≡ k → TakingIs k (full (t .live) b) out (p .put) (whole q b′) out′ → goal
         by (taken y w) o k = passed-so y w o k (K .ends)
         by (refuses n) o k =
             refused-so n (λ d. omega (arith, d, k .number, refuses-over a Y room (tokenOf a part e) n o)) (k .number) (k .left) (stopped (refuses n) n o refl) (K .ends)
@@ -157,7 +157,7 @@ module _ {s : List ℕ} {a : Sheet} (G : IsSheet s a) (x : RecordTags) {g : Give
         (full-report-on c (p .at) room spare m to (skipStep c Y (t .first) (t .number) (Here to)) to (between Y) (lost (t .first) (byteBefore c to) (t .number)) 0 (omega arith) refl I) re
     resumes-so to l w I (resumed lt re qe) =
         let d : LostStretch = lost (t .first) (g .base + to - 1) (t .number) in
-        let k : rank (t .mode) ≡ 1 = ap rank two in
+        let k : modeRank (t .mode) ≡ 1 = ap modeRank two in
         goes-so x rep R T to (p .put) (p .told + 1) 0 (between Y) [] (d ∷ []) (betweenIn (t .live)) b out area rep′ r
         (comes-on c (p .at) room spare m to (skipStep c Y (t .first) (t .number) (Here to)) to (between Y) [] (d ∷ []) 0 (omega arith) refl I) re (omega arith) (omega arith) (omega arith) refl
         (none-written (p .put) out) refl (qe ∙ ap (put true rep (entryWidth * p .told)) (one-reported d)) refl refl (omega arith) (omega arith)

@@ -33,12 +33,12 @@ use Rattle.live.specs.Live.{full}
 use Rattle.live.proofs.Stacks.{full-same}
 use Rattle.steps.specs.declared.Stepped.{Stepped}
 use Rattle.steps.specs.Seen.{whole}
-use Rattle.steps.specs.Taken.{Taken, Left, Takes, TakenAs}
+use Rattle.steps.specs.Taken.{Taken, Left, TakingIs, TakenAs}
 use Rattle.steps.proofs.Onward.{event-fits, taken-fits}
 use Rattle.converter.proofs.Going.{event-in}
 use Rattle.rescue.specs.Held.{Mode, between, skipping, waitingIn}
 use Rattle.rescue.specs.Held as modes
-use Rattle.rescue.specs.Step.{Setting, Step, on, stop, stay, whole as wholeAt, recordToken, reported, StepIs}
+use Rattle.rescue.specs.Step.{Setting, Step, on, stop, stay, wholeAt, recordToken, reported, StepIs}
 use Rattle.rescue.specs.Call.{setting}
 use Rattle.rescue.proofs.Whole.{comes-on, comes-to}
 use Rattle.rescued.specs.Bytes.{entryWidth}
@@ -46,9 +46,9 @@ use Rattle.turns.specs.declared.Stand.{Stand}
 use Rattle.turns.specs.declared.Place.{Place}
 use Rattle.turns.specs.declared.Given.{Given}
 use Rattle.turns.specs.declared.Turn.{Turn}
-use Rattle.turns.specs.Stands.{betweenIn, insideIn, going, stopping, modeOf, Stands, holds-between, holds-inside, ReadyOn}
+use Rattle.turns.specs.Stands.{betweenIn, insideIn, going, stopping, modeOf, RunStands, holds-between, holds-inside, ReadyOn}
 use Rattle.turns.specs.Turned.{BrokenAs, RecordEnds, breaks-off, goes-on, no-output, is-whole, RecordTokenAs}
-use Rattle.strides.specs.Strides.{rank, Strode}
+use Rattle.strides.specs.Strides.{modeRank, Strode}
 use Rattle.strides.proofs.Basics.{none-written, none-reported, stays-so, goes-so}
 use Rattle.strides.proofs.Broken.{broken}
 
@@ -68,9 +68,9 @@ root-only z h =
     root-by (z .rooted) (elements z) ∙ ap (λ (n : ℕ). eqb n 1) e
 
 -- what a token that was taken leaves of the run
-pub stands-taken : {a : Sheet} {s : List ℕ} (G : IsSheet s a) (h : Live) (b b′ lent d : List ℕ) (at room : ℕ) (part : List ℕ) (e : Event) (q : Stepped) (y : Configuration) (w : List ℕ) → Stands a h b →
+pub stands-taken : {a : Sheet} {s : List ℕ} (G : IsSheet s a) (h : Live) (b b′ lent d : List ℕ) (at room : ℕ) (part : List ℕ) (e : Event) (q : Stepped) (y : Configuration) (w : List ℕ) → RunStands a h b →
     (more : Bool) (here next : ℕ) → ReadAs more part here (Read e (record { at = next })) → TakenAs s part e (full h b) lent at (whole q b′) d →
-    oneToken a (meaningOf (full h b)) room (tokenOf a part e) ≡ taken y w → Taken y w (full h b) lent at (whole q b′) d → Stands a (q .live) b′
+    oneToken a (meaningOf (full h b)) room (tokenOf a part e) ≡ taken y w → Taken y w (full h b) lent at (whole q b′) d → RunStands a (q .live) b′
 stands-taken {a} G h b b′ lent d at room part e q y w S more here next means T o k =
     record {
       count = T .count;
@@ -80,7 +80,7 @@ stands-taken {a} G h b b′ lent d at room part e q y w S more here next means T
     }
 
 module _ {s : List ℕ} {a : Sheet} (G : IsSheet s a) (x : RecordTags) {g : Given} {part : List ℕ} {p : Place} {t : Stand} {b out area : List ℕ} (rep : List ℕ) (R : ReadyOn a g part p t b out area)
-    (T : p .told ≤ length rep / entryWidth) (z : Live) (one : z .depth ≡ 1) (S : Stands a z []) (f : ℕ) (in-it : f < g .base + p .at → t .mode ≡ 1) (not-later : f ≤ g .base + p .at)
+    (T : p .told ≤ length rep / entryWidth) (z : Live) (one : z .depth ≡ 1) (S : RunStands a z []) (f : ℕ) (in-it : f < g .base + p .at → t .mode ≡ 1) (not-later : f ≤ g .base + p .at)
     (e : Event) (next : ℕ) (means : ReadAs (not (g .ended)) part (p .at) (Read e (record { at = next }))) (v : List ℕ) (what-waits : v ≡ take (t .waits) area) where
   abbrev c : Setting
   c = setting a x part (not (g .ended)) (g .base) (length area)
@@ -148,7 +148,7 @@ module _ {s : List ℕ} {a : Sheet} (G : IsSheet s a) (x : RecordTags) {g : Give
       root-told : (d : Bool) → eqb (q .live .depth) 1 ≡ d → rootOnly (y .control) ≡ d
       root-told d u = ap (λ (i : Configuration). rootOnly (i .control)) (sym (k .means)) ∙ root-only (full (q .live) b′) (k .shaped) ∙ u
 
-      new-stands : Stands a (q .live) b′
+      new-stands : RunStands a (q .live) b′
       new-stands = stands-taken G (t .live) b b′ area area′ (t .waits) (roomLeft (length area) v) part e q y w (R .stands) (not (g .ended)) (p .at) next means (K .takes .stepped) o k
 
       on-inside : (q .live .depth ≡ 1 → ⊥) → r ≡ going (insideIn z (q .live) f (q .at)) next (p .put) (p .told) (q .at) → out′ ≡ out → rep′ ≡ rep → goal
@@ -221,10 +221,10 @@ module _ {s : List ℕ} {a : Sheet} (G : IsSheet s a) (x : RecordTags) {g : Give
 
     pub record-token : goal
     record-token = by (oneToken a Y (roomLeft (length area) v) (tokenOf a part e)) refl
-        (subst (λ (i : ℕ). Takes (oneToken a Y i (tokenOf a part e)) (full (t .live) b) area (t .waits) (whole q b′) area′) (ap (λ (i : ℕ). length area - i) (sym v-long))
+        (subst (λ (i : ℕ). TakingIs (oneToken a Y i (tokenOf a part e)) (full (t .live) b) area (t .waits) (whole q b′) area′) (ap (λ (i : ℕ). length area - i) (sym v-long))
         (K .takes .stepped .right a G (R .stands .shaped) (R .stands .fits)))
       where
-        by : (k : Taking) → oneToken a Y (roomLeft (length area) v) (tokenOf a part e) ≡ k → Takes k (full (t .live) b) area (t .waits) (whole q b′) area′ → goal
+        by : (k : Taking) → oneToken a Y (roomLeft (length area) v) (tokenOf a part e) ≡ k → TakingIs k (full (t .live) b) area (t .waits) (whole q b′) area′ → goal
         by (taken y w) o k = by-ends y w o k (K .ends)
         by (refuses n) o k =
             not-taken n (λ d. omega (arith, d, k .number, refuses-over a Y (roomLeft (length area) v) (tokenOf a part e) n o)) (k .number) (k .left)

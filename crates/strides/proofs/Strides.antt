@@ -27,7 +27,7 @@ use Rattle.state.specs.Meaning.{meaningOf}
 use Rattle.live.specs.declared.Live.{Live}
 use Rattle.live.specs.Live.{full}
 use Rattle.rescue.specs.Held.{Mode, between, inside, skipping, waitingIn, controlOf, readsTokens}
-use Rattle.rescue.specs.Step.{Setting, Step, stop, stay, inStream, breaks, recordToken, otherToken, tokenStep, numberStep, reported, skipTo, skipStep, StepIs, at-token, at-none, at-bytes}
+use Rattle.rescue.specs.Step.{Setting, Step, stop, stay, inStream, breaksAt, recordToken, otherToken, tokenStep, numberStep, reported, skipTo, skipStep, StepIs, at-token, at-none, at-bytes}
 use Rattle.rescue.specs.Call.{setting}
 use Rattle.rescue.proofs.Whole.{comes-to}
 use Rattle.rescued.specs.Bytes.{entryWidth}
@@ -37,7 +37,7 @@ use Rattle.turns.specs.declared.Stand.{Stand}
 use Rattle.turns.specs.declared.Place.{Place}
 use Rattle.turns.specs.declared.Given.{Given}
 use Rattle.turns.specs.declared.Turn.{Turn}
-use Rattle.turns.specs.Stands.{modeBy, modeOf, Stands, HoldsIn, holds-between, holds-inside, holds-skipping, Grounds, ReadyOn}
+use Rattle.turns.specs.Stands.{modeBy, modeOf, RunStands, HoldsIn, holds-between, holds-inside, holds-skipping, Grounds, ReadyOn}
 use Rattle.turns.specs.Turned.{BeginsAs, NoTokenAs, stands, breaks as breaks-it, TurnedAs, skips, no-token, in-record, begins, other}
 use Rattle.strides.specs.Strides.{Strode}
 use Rattle.strides.proofs.Basics.{alone, stands-alone}
@@ -46,7 +46,7 @@ use Rattle.strides.proofs.Records.{root-only, record-token}
 use Rattle.strides.proofs.Others.{numbered, stays-at, other-token, skipped}
 
 -- what holds in the mode that a stand has
-in-record-holds : {a : Sheet} {past m : ℕ} {t : Stand} → HoldsIn a past t m → m ≡ 1 → (t .first < past) × (t .before .depth ≡ 1) × Stands a (t .before) []
+in-record-holds : {a : Sheet} {past m : ℕ} {t : Stand} → HoldsIn a past t m → m ≡ 1 → (t .first < past) × (t .before .depth ≡ 1) × RunStands a (t .before) []
 in-record-holds (holds-between e) q = absurd (omega arith)
 in-record-holds (holds-inside f o S) q = (f, o, S)
 in-record-holds (holds-skipping d e) q = absurd (omega arith)
@@ -151,7 +151,7 @@ module _ {s : List ℕ} {g : Given} (G : Grounds s (g .tag)) {part : List ℕ} {
         let e = is-inside (R .holds) h d in
         let H = in-record-holds (R .holds) e in
         let Z : Configuration = meaningOf (full (t .before) []) in
-        let k : numberStep c (p .at) n m ≡ breaks c (p .at) m Z (t .first) n = subst (λ (j : Mode). numberStep c (p .at) n j ≡ breaks c (p .at) j Z (t .first) n) (sym (mode-1 e)) refl in
+        let k : numberStep c (p .at) n m ≡ breaksAt c (p .at) m Z (t .first) n = subst (λ (j : Mode). numberStep c (p .at) n j ≡ breaksAt c (p .at) j Z (t .first) n) (sym (mode-1 e)) refl in
         broken x rep R T (t .before) (H .1) (H .2) (t .first) n (λ l. e) (λ l. absurd (omega (arith, H .0)))
         (subst (λ (i : Step). StepIs c (p .at) room spare m (reported spare (p .at) m i)) k I) b out area refl refl refl refl rep′ r B
 

@@ -20,9 +20,9 @@ use Rattle.turns.specs.declared.Turn.{Turn}
 use Rattle.turns.specs.Stands.{modeOf, ReadyOn}
 
 -- what a step says
-abbrev pub goesOn : Step → Bool
-goesOn (on next m w ds k) = true
-goesOn (stop n to m ds k) = false
+abbrev pub stepGoesOn : Step → Bool
+stepGoesOn (on next m w ds k) = true
+stepGoesOn (stop n to m ds k) = false
 
 abbrev pub numberIn : Step → ℕ
 numberIn (on next m w ds k) = 0
@@ -50,7 +50,7 @@ depthIn (stop n to m ds k) = k
 
 -- the code's answer r, and what it leaves, is what the step says
 pub record Shown (st : Step) (p : Place) (b′ out out′ area′ rep rep′ : List ℕ) (r : Turn) : Type 0 where
-  pub goes : r .goes ≡ goesOn st
+  pub goes : r .goes ≡ stepGoesOn st
   pub number : r .number ≡ numberIn st
   pub at : r .place .at ≡ placeIn st
   pub written : r .place .put ≡ p .put + length (writtenIn st)
@@ -61,13 +61,13 @@ pub record Shown (st : Step) (p : Place) (b′ out out′ area′ rep rep′ : L
   pub report : rep′ ≡ put true rep (entryWidth * p .told) (reportBytes (toldIn st))
 
 -- what is left to do: a record can be refused, and reading resume, without a byte being taken
-abbrev pub rank : ℕ → ℕ
-rank zero = 0
-rank (suc zero) = 2
-rank (suc (suc m)) = 1
+abbrev pub modeRank : ℕ → ℕ
+modeRank zero = 0
+modeRank (suc zero) = 2
+modeRank (suc (suc m)) = 1
 
 abbrev pub leftToDo : ℕ → Place → Stand → ℕ
-leftToDo len p t = 3 * (len - p .at) + rank (t .mode)
+leftToDo len p t = 3 * (len - p .at) + modeRank (t .mode)
 
 pub record Strode (a : Sheet) (x : RecordTags) (g : Given) (part : List ℕ) (p : Place) (t : Stand) (b b′ out out′ area area′ rep rep′ : List ℕ) (r : Turn) : Type 0 where
   pub step : Step

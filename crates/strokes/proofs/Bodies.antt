@@ -5,17 +5,17 @@ use mathlib.Core.List.{List, [], _∷_, _++_, append-nil, append-assoc}
 use Prim.Native.Nat.{ℕ, _+_}
 use lib.ListN.{replicate, replicate-append-replicate}
 use Rattle.programs.specs.Program.{conditionBytes, statementBytes, programBytes}
-use Rattle.notation.specs.Program.{Program, done, step, _then_, statementIn, programIn}
-use Rattle.reading.specs.Statements.{Pending, in-then, in-else, ended, endedAll, otherwise, Level, listed, around}
+use Rattle.notation.specs.Program.{TextProgram, done, step, _then_, statementIn, programIn}
+use Rattle.reading.specs.Statements.{Pending, in-then, in-else, endedBranch, endedAll, otherwise, ListLevel, listed, aroundList}
 use Rattle.strokes.specs.Bodies.{bodyBytes, pendingBytes, ifsOn, frontOf, markOf, marksOn, marksOf}
 use Rattle.strokes.specs.Strokes.{owed, unwound, elseOwed, skipped, topped}
 
 module _ (tag offset : List ℕ → ℕ) where
-  pub whole-bytes : (p : Program) → programBytes (programIn tag offset p) ≡ bodyBytes tag offset p ++ 0 ∷ []
+  pub whole-bytes : (p : TextProgram) → programBytes (programIn tag offset p) ≡ bodyBytes tag offset p ++ 0 ∷ []
   whole-bytes done = refl
   whole-bytes (step t p) = ap (λ z. statementBytes (statementIn tag offset t) ++ z) (whole-bytes p) ∙ sym (append-assoc (statementBytes (statementIn tag offset t)) (bodyBytes tag offset p) (0 ∷ []))
 
-  pub then-bytes : (p q : Program) → bodyBytes tag offset (p then q) ≡ bodyBytes tag offset p ++ bodyBytes tag offset q
+  pub then-bytes : (p q : TextProgram) → bodyBytes tag offset (p then q) ≡ bodyBytes tag offset p ++ bodyBytes tag offset q
   then-bytes done q = refl
   then-bytes (step t p) q = ap (λ z. statementBytes (statementIn tag offset t) ++ z) (then-bytes p q) ∙ sym (append-assoc (statementBytes (statementIn tag offset t)) (bodyBytes tag offset p) (bodyBytes tag offset q))
 
@@ -30,7 +30,7 @@ module _ (tag offset : List ℕ → ℕ) where
   else-end : (c q p : List ℕ) → (10 ∷ (c ++ ((q ++ 0 ∷ []) ++ (p ++ 0 ∷ [])))) ++ [] ≡ (10 ∷ (c ++ (q ++ 0 ∷ []))) ++ (p ++ 0 ∷ [])
   else-end c q p = append-nil (10 ∷ (c ++ ((q ++ 0 ∷ []) ++ (p ++ 0 ∷ [])))) ∙ ap (λ z. 10 ∷ z) (sym (append-assoc c (q ++ 0 ∷ []) (p ++ 0 ∷ [])))
 
-  ended-bytes : (f : Pending) (p : Program) → bodyBytes tag offset (ended f p) ≡ pendingBytes tag offset f ++ (bodyBytes tag offset p ++ endOf f)
+  ended-bytes : (f : Pending) (p : TextProgram) → bodyBytes tag offset (endedBranch f p) ≡ pendingBytes tag offset f ++ (bodyBytes tag offset p ++ endOf f)
   ended-bytes (in-then c) p = rw (whole-bytes p) (then-end (conditionBytes c) (bodyBytes tag offset p))
   ended-bytes (in-else c q) p = rw (whole-bytes p, whole-bytes q) (else-end (conditionBytes c) (bodyBytes tag offset q) (bodyBytes tag offset p))
 
@@ -42,16 +42,16 @@ module _ (tag offset : List ℕ → ℕ) where
   five a b c d e = simp append-assoc
 
   -- the ifs around a place end, and the 0s that they owe are put behind
-  pub ended-all : (xs : List ℕ) (fs : List Pending) (ms : List ℕ) (p : Program)
+  pub ended-all : (xs : List ℕ) (fs : List Pending) (ms : List ℕ) (p : TextProgram)
       → (ifsOn tag offset xs fs ++ bodyBytes tag offset p) ++ replicate (owed (marksOn fs (0 ∷ ms))) 0 ≡ xs ++ bodyBytes tag offset (endedAll fs p)
   ended-all xs [] ms p = append-nil (xs ++ bodyBytes tag offset p)
   ended-all xs (f ∷ fs) ms p =
       ap (λ z. ((ifsOn tag offset xs fs ++ pendingBytes tag offset f) ++ bodyBytes tag offset p) ++ z) (sym (end-marks f fs (0 ∷ ms)))
       ∙ (sym (five (ifsOn tag offset xs fs) (pendingBytes tag offset f) (bodyBytes tag offset p) (endOf f) (replicate (owed (marksOn fs (0 ∷ ms))) 0))
       ∙ (ap (λ z. (ifsOn tag offset xs fs ++ z) ++ replicate (owed (marksOn fs (0 ∷ ms))) 0) (sym (ended-bytes f p))
-      ∙ ended-all xs fs ms (ended f p)))
+      ∙ ended-all xs fs ms (endedBranch f p)))
 
-  pub listed-bytes : (l : Level) (ls : List Level) (p : Program)
+  pub listed-bytes : (l : ListLevel) (ls : List ListLevel) (p : TextProgram)
       → (frontOf tag offset (l ∷ ls) ++ bodyBytes tag offset p) ++ replicate (owed (marksOf (l ∷ ls))) 0 ≡ frontOf tag offset ls ++ bodyBytes tag offset (listed l p)
   listed-bytes l ls p =
       ended-all (frontOf tag offset ls ++ bodyBytes tag offset (l .before)) (l .ifs) (marksOf ls) p
@@ -59,7 +59,7 @@ module _ (tag offset : List ℕ → ℕ) where
       ∙ ap (λ z. frontOf tag offset ls ++ z) (sym (then-bytes (l .before) (endedAll (l .ifs) p))))
 
   -- an else
-  abbrev pub ElsedAs : List ℕ → List Pending → List ℕ → Program → Option (List Pending) → Type 0
+  abbrev pub ElsedAs : List ℕ → List Pending → List ℕ → TextProgram → Option (List Pending) → Type 0
   ElsedAs xs fs ms p none = Unit {0}
   ElsedAs xs fs ms p (some gs) =
       ((ifsOn tag offset xs fs ++ bodyBytes tag offset p) ++ replicate (elseOwed (marksOn fs ms)) 0 ≡ ifsOn tag offset xs gs)
@@ -68,8 +68,8 @@ module _ (tag offset : List ℕ → ℕ) where
   else-in : (xs c p : List ℕ) → ((xs ++ 10 ∷ c) ++ p) ++ 0 ∷ [] ≡ xs ++ 10 ∷ (c ++ (p ++ 0 ∷ []))
   else-in xs c p = append-assoc (xs ++ 10 ∷ c) p (0 ∷ []) ∙ append-assoc xs (10 ∷ c) (p ++ 0 ∷ [])
 
-  elsed-on : (xs : List ℕ) (c : _) (q : Program) (fs : List Pending) (ms : List ℕ) (p : Program) (o : Option (List Pending))
-      → ElsedAs xs fs ms (ended (in-else c q) p) o → ElsedAs xs (in-else c q ∷ fs) ms p o
+  elsed-on : (xs : List ℕ) (c : _) (q : TextProgram) (fs : List Pending) (ms : List ℕ) (p : TextProgram) (o : Option (List Pending))
+      → ElsedAs xs fs ms (endedBranch (in-else c q) p) o → ElsedAs xs (in-else c q ∷ fs) ms p o
   elsed-on xs c q fs ms p none h = tt
   elsed-on xs c q fs ms p (some gs) h = (
     sym (five (ifsOn tag offset xs fs) (pendingBytes tag offset (in-else c q)) (bodyBytes tag offset p) (0 ∷ []) (replicate (elseOwed (marksOn fs ms)) 0))
@@ -77,10 +77,10 @@ module _ (tag offset : List ℕ → ℕ) where
     h .1,
   )
 
-  pub elsed : (xs : List ℕ) (fs : List Pending) (ms : List ℕ) (p : Program) → ElsedAs xs fs ms p (otherwise fs p)
+  pub elsed : (xs : List ℕ) (fs : List Pending) (ms : List ℕ) (p : TextProgram) → ElsedAs xs fs ms p (otherwise fs p)
   elsed xs [] ms p = tt
   elsed xs (in-then c ∷ fs) ms p = (else-in (ifsOn tag offset xs fs) (conditionBytes c) (bodyBytes tag offset p), refl)
-  elsed xs (in-else c q ∷ fs) ms p = elsed-on xs c q fs ms p (otherwise fs (ended (in-else c q) p)) (elsed xs fs ms (ended (in-else c q) p))
+  elsed xs (in-else c q ∷ fs) ms p = elsed-on xs c q fs ms p (otherwise fs (endedBranch (in-else c q) p)) (elsed xs fs ms (endedBranch (in-else c q) p))
 
   pub unwound-marks : (fs : List Pending) (ms : List ℕ) → unwound (marksOn fs (0 ∷ ms)) ≡ 0 ∷ ms
   unwound-marks [] ms = refl

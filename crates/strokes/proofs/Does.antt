@@ -9,17 +9,17 @@ use lib.ListN.{length}
 use Rattle.text.specs.Characters.{utf8s}
 use Rattle.programs.specs.Program.{Operand, constant, current, recalled, statementBytes}
 use Rattle.programs.specs.Limits.{Attribute, Value, Visit}
-use Rattle.programs.specs.Parsed.{visit}
-use Rattle.notation.specs.Program.{Statement, print-start, print-end, print-text, Program, step, statementIn}
+use Rattle.programs.specs.Parsed.{whichVisit}
+use Rattle.notation.specs.Program.{TextStatement, print-start, print-end, print-text, TextProgram, step, statementIn}
 use Rattle.notation.specs.Statements.{only}
-use Rattle.notation.specs.Tokens.{Mark, plain, left, right, Token, nonterminal, value, attribute, name, start-tag, end-tag, empty-tag, string, word, Word, CHAR, ECHO, ECHO-OFF, REJECT, PRINT, IF, THEN, ELSE, BEGIN, END, AND, OR, NOT, EMPTY, sign, Sign, DEFINED, ASSIGNED, OPEN, CLOSE, BRACE, UNBRACE, DOT, BAR, STAR, SEMICOLON, EQUALS}
+use Rattle.notation.specs.Tokens.{Dollar, plain, left, right, TextToken, nonterminal, value, attribute, name, start-tag, end-tag, empty-tag, string, word, Keyword, CHAR, ECHO, ECHO-OFF, REJECT, PRINT, IF, THEN, ELSE, BEGIN, END, AND, OR, NOT, EMPTY, sign, Sign, DEFINED, ASSIGNED, OPEN, CLOSE, BRACE, UNBRACE, DOT, BAR, STAR, SEMICOLON, EQUALS}
 use Rattle.reading.specs.Tests.{tagName?, string?}
-use Rattle.reading.specs.Conditions.{Part, operand, a-not, an-and, an-or, an-open, a-close, an-equals, other, partIf, value?, attribute?, attributeOf, attributePart, partOf}
-use Rattle.reading.specs.Statements.{Start, simply, a-target, a-print, an-if, a-begin, no-start, current?, targetIf, startOf, Behind, an-item, a-semicolon, an-else, a-then, an-assign, nothing, itemIf, nextOf}
-use Rattle.lexemes.specs.Kinds.{kindOf, numberOf, TokenFits}
+use Rattle.reading.specs.Conditions.{ConditionPart, operand, a-not, an-and, an-or, an-open, a-close, an-equals, other, partIf, value?, attribute?, attributeOf, attributePart, partOf}
+use Rattle.reading.specs.Statements.{Start, simply, a-target, a-print, an-if, a-begin, no-start, current?, targetIf, startOf, Behind, an-item, a-semicolon, an-else, a-then, an-assign, nothing, itemIf, behindOf}
+use Rattle.lexemes.specs.Kinds.{tokenKind, tokenNumber, TokenFits}
 use Rattle.strokes.specs.Bodies.{bodyBytes}
 use Rattle.strokes.specs.Strokes.{Stroke, idle, writes, uses, assigns, tests, thens, elses, begins, ends, separates, conjoins, disjoins, opens, closes, strokeOf, itemBytes}
-use Rattle.strokes.specs.Promises.{NoItem, ItemAt, TagAt, StringAt}
+use Rattle.strokes.specs.Promises.{NoItem, ItemAt, TagNumbered, StringAt}
 
 -- 0 v, 1 a, 2 a
 abbrev pub codeOf : Operand → ℕ
@@ -33,7 +33,7 @@ whichOf (current a) = a
 whichOf (recalled a) = a
 
 -- in a condition, where a statement may begin, and behind one
-pub data PartDoes : Part → Stroke → Type 0 where
+pub data PartDoes : ConditionPart → Stroke → Type 0 where
   part-used : {x : Operand} {c n : ℕ} → c ≡ codeOf x → n ≡ whichOf x → PartDoes (operand x) (uses c n)
   part-not : PartDoes a-not (writes (1 ∷ []))
   part-and : PartDoes an-and conjoins
@@ -44,7 +44,7 @@ pub data PartDoes : Part → Stroke → Type 0 where
   no-part : {st : Stroke} → PartDoes other st
 
 pub data StartDoes (tag offset : List ℕ → ℕ) : Start → Stroke → Type 0 where
-  start-simple : {t : Statement} {bs : List ℕ} → statementBytes (statementIn tag offset t) ≡ bs → StartDoes tag offset (simply t) (writes bs)
+  start-simple : {t : TextStatement} {bs : List ℕ} → statementBytes (statementIn tag offset t) ≡ bs → StartDoes tag offset (simply t) (writes bs)
   start-target : {a c n : ℕ} → n ≡ a → StartDoes tag offset (a-target a) (uses c n)
   start-print : StartDoes tag offset a-print idle
   start-if : StartDoes tag offset an-if tests
@@ -53,7 +53,7 @@ pub data StartDoes (tag offset : List ℕ → ℕ) : Start → Stroke → Type 0
   start-none : {st : Stroke} → StartDoes tag offset no-start st
 
 pub data NextDoes (tag offset : List ℕ → ℕ) : Behind → Stroke → Type 0 where
-  next-item : {p : Program} {bs : List ℕ} → bodyBytes tag offset p ≡ bs → NextDoes tag offset (an-item p) (writes bs)
+  next-item : {p : TextProgram} {bs : List ℕ} → bodyBytes tag offset p ≡ bs → NextDoes tag offset (an-item p) (writes bs)
   next-semicolon : NextDoes tag offset a-semicolon separates
   next-else : NextDoes tag offset an-else elses
   next-end : NextDoes tag offset Behind.an-end ends
@@ -61,16 +61,16 @@ pub data NextDoes (tag offset : List ℕ → ℕ) : Behind → Stroke → Type 0
   next-assign : NextDoes tag offset an-assign assigns
   next-none : {st : Stroke} → NextDoes tag offset nothing st
 
-pub record TokenDoes (tag offset : List ℕ → ℕ) (v : Visit) (t : Token) (st : Stroke) : Type 0 where
+pub record TokenDoes (tag offset : List ℕ → ℕ) (v : Visit) (t : TextToken) (st : Stroke) : Type 0 where
   pub part : PartDoes (partOf v t) st
   pub start : StartDoes tag offset (startOf v t) st
-  pub next : NextDoes tag offset (nextOf t) st
+  pub next : NextDoes tag offset (behindOf t) st
 
 value-does : (n : ℕ) (d : Dec (Value n)) → n % 256 ≡ n → PartDoes (partIf d (constant n)) (uses 0 (n % 256))
 value-does n (yes h) e = part-used refl e
 value-does n (no h) e = no-part
 
-attribute-part : (b : Bool) (m : Mark) (a : ℕ) (d : Dec (Attribute a)) → a % 256 ≡ a → PartDoes (attributePart d (attributeOf (visit b) m a)) (strokeOf b (kindOf (attribute m a)) a)
+attribute-part : (b : Bool) (m : Dollar) (a : ℕ) (d : Dec (Attribute a)) → a % 256 ≡ a → PartDoes (attributePart d (attributeOf (whichVisit b) m a)) (strokeOf b (tokenKind (attribute m a)) a)
 attribute-part true plain a (yes h) e = part-used refl e
 attribute-part false plain a (yes h) e = part-used refl e
 attribute-part true left a (yes h) e = part-used refl e
@@ -85,7 +85,7 @@ attribute-part true right a (no h) e = no-part
 attribute-part false right a (no h) e = no-part
 
 module _ (tag offset : List ℕ → ℕ) where
-  attribute-start : (b : Bool) (m : Mark) (a : ℕ) (d : Dec (Attribute a)) → a % 256 ≡ a → StartDoes tag offset (targetIf d (current? (visit b) m) a) (strokeOf b (kindOf (attribute m a)) a)
+  attribute-start : (b : Bool) (m : Dollar) (a : ℕ) (d : Dec (Attribute a)) → a % 256 ≡ a → StartDoes tag offset (targetIf d (current? (whichVisit b) m) a) (strokeOf b (tokenKind (attribute m a)) a)
   attribute-start true plain a (yes h) e = start-target e
   attribute-start false plain a (yes h) e = start-target e
   attribute-start true left a (yes h) e = start-none
@@ -94,7 +94,7 @@ module _ (tag offset : List ℕ → ℕ) where
   attribute-start false right a (yes h) e = start-none
   attribute-start b m a (no h) e = start-none
 
-  word-does : (b : Bool) (w : Word) → TokenDoes tag offset (visit b) (word w) (strokeOf b (kindOf (word w)) 0)
+  word-does : (b : Bool) (w : Keyword) → TokenDoes tag offset (whichVisit b) (word w) (strokeOf b (tokenKind (word w)) 0)
   word-does b CHAR = record { part = no-part; start = start-none; next = next-none }
   word-does true ECHO = record { part = no-part; start = start-none; next = next-none }
   word-does false ECHO = record { part = no-part; start = start-simple refl; next = next-none }
@@ -112,7 +112,7 @@ module _ (tag offset : List ℕ → ℕ) where
   word-does b NOT = record { part = part-not; start = start-none; next = next-none }
   word-does b EMPTY = record { part = no-part; start = start-none; next = next-none }
 
-  sign-does : (b : Bool) (s : Sign) → TokenDoes tag offset (visit b) (sign s) (strokeOf b (kindOf (sign s)) 0)
+  sign-does : (b : Bool) (s : Sign) → TokenDoes tag offset (whichVisit b) (sign s) (strokeOf b (tokenKind (sign s)) 0)
   sign-does b DEFINED = record { part = no-part; start = start-none; next = next-none }
   sign-does b ASSIGNED = record { part = no-part; start = start-none; next = next-assign }
   sign-does b OPEN = record { part = part-open; start = start-none; next = next-none }
@@ -125,7 +125,7 @@ module _ (tag offset : List ℕ → ℕ) where
   sign-does b SEMICOLON = record { part = no-part; start = start-none; next = next-semicolon }
   sign-does b EQUALS = record { part = part-equals; start = start-none; next = next-none }
 
-  pub token-does : (b : Bool) (t : Token) → NoItem t → TokenFits t → TokenDoes tag offset (visit b) t (strokeOf b (kindOf t) (numberOf t))
+  pub token-does : (b : Bool) (t : TextToken) → NoItem t → TokenFits t → TokenDoes tag offset (whichVisit b) t (strokeOf b (tokenKind t) (tokenNumber t))
   token-does b (nonterminal n) i h = record { part = no-part; start = start-none; next = next-none }
   token-does b (value n) i h = record { part = value-does n (value? n) (mod-eq-of-lt (omega arith)); start = start-none; next = next-none }
   token-does b (attribute m a) i h =
@@ -139,11 +139,11 @@ module _ (tag offset : List ℕ → ℕ) where
   token-does b (word w) i h = word-does b w
   token-does b (sign s) i h = sign-does b s
 
-  item-next : {P : Type 0} (d : Dec P) (p : Program) (bs : List ℕ) → bodyBytes tag offset p ≡ bs → NextDoes tag offset (itemIf d p) (writes bs)
+  item-next : {P : Type 0} (d : Dec P) (p : TextProgram) (bs : List ℕ) → bodyBytes tag offset p ≡ bs → NextDoes tag offset (itemIf d p) (writes bs)
   item-next (yes h) p bs e = next-item e
   item-next (no h) p bs e = next-none
 
-  tag-byte : {n : List ℕ} {place : ℕ} → TagAt tag n place → tag n ≡ place % 256
+  tag-byte : {n : List ℕ} {place : ℕ} → TagNumbered tag n place → tag n ≡ place % 256
   tag-byte h = sym (h .numbered) ∙ sym (mod-eq-of-lt (h .small))
 
   string-bytes : (s : List ℕ) (place : ℕ) → StringAt offset s place → length s ≤ 255
@@ -154,7 +154,7 @@ module _ (tag offset : List ℕ → ℕ) where
       let k : offset s % 256 ≡ place % 256 = ap (λ z. z % 256) (sym (h .lies)) in
       cc
 
-  pub item-does : (b : Bool) (t : Token) (place : ℕ) → ItemAt tag offset place t → TokenFits t → TokenDoes tag offset (visit b) t (writes (itemBytes (kindOf t) place (numberOf t)))
+  pub item-does : (b : Bool) (t : TextToken) (place : ℕ) → ItemAt tag offset place t → TokenFits t → TokenDoes tag offset (whichVisit b) t (writes (itemBytes (tokenKind t) place (tokenNumber t)))
   item-does b (nonterminal n) place i h = absurd i
   item-does b (value n) place i h = absurd i
   item-does b (attribute m a) place i h = absurd i

@@ -2,12 +2,12 @@
 use mathlib.Core.List.{List, [], _∷_, _++_}
 use Prim.Native.Nat.{ℕ}
 use Rattle.programs.specs.Program.{conditionBytes, statementBytes}
-use Rattle.notation.specs.Program.{Program, done, step, statementIn}
-use Rattle.reading.specs.Statements.{Pending, in-then, in-else, Level, Listing, wants, target, assigning, printing, testing, after}
+use Rattle.notation.specs.Program.{TextProgram, done, step, statementIn}
+use Rattle.reading.specs.Statements.{Pending, in-then, in-else, ListLevel, Listing, wants, target, assigning, printing, testing, after}
 use Rattle.strokes.specs.Conditions.{readingOn}
 
 -- without the closing 0
-abbrev pub bodyBytes : (List ℕ → ℕ) → (List ℕ → ℕ) → Program → List ℕ
+abbrev pub bodyBytes : (List ℕ → ℕ) → (List ℕ → ℕ) → TextProgram → List ℕ
 bodyBytes tag offset done = []
 bodyBytes tag offset (step t p) = statementBytes (statementIn tag offset t) ++ bodyBytes tag offset p
 
@@ -22,12 +22,12 @@ ifsOn tag offset xs [] = xs
 ifsOn tag offset xs (f ∷ fs) = ifsOn tag offset xs fs ++ pendingBytes tag offset f
 
 -- all that stands before the place in the lists around it, innermost first
-abbrev pub frontOf : (List ℕ → ℕ) → (List ℕ → ℕ) → List Level → List ℕ
+abbrev pub frontOf : (List ℕ → ℕ) → (List ℕ → ℕ) → List ListLevel → List ℕ
 frontOf tag offset [] = []
 frontOf tag offset (l ∷ ls) = ifsOn tag offset (frontOf tag offset ls ++ bodyBytes tag offset (l .before)) (l .ifs)
 
 -- where a condition begins: behind its if
-abbrev pub testFront : (List ℕ → ℕ) → (List ℕ → ℕ) → List Level → List ℕ
+abbrev pub testFront : (List ℕ → ℕ) → (List ℕ → ℕ) → List ListLevel → List ℕ
 testFront tag offset ls = frontOf tag offset ls ++ 10 ∷ []
 
 abbrev pub inkOf : (List ℕ → ℕ) → (List ℕ → ℕ) → Listing → List ℕ
@@ -47,7 +47,7 @@ abbrev pub marksOn : List Pending → List ℕ → List ℕ
 marksOn [] ms = ms
 marksOn (f ∷ fs) ms = markOf f ∷ marksOn fs ms
 
-abbrev pub marksOf : List Level → List ℕ
+abbrev pub marksOf : List ListLevel → List ℕ
 marksOf [] = []
 marksOf (l ∷ ls) = marksOn (l .ifs) (0 ∷ marksOf ls)
 

@@ -4,7 +4,7 @@ use mathlib.Core.List.{List, [], _∷_, _++_}
 use Prim.Native.Nat.{ℕ}
 use lib.ListN.{length, replicate}
 use Rattle.programs.specs.Program.{operandBytes, Condition, conditionBytes}
-use Rattle.reading.specs.Conditions.{Level, level, Reading, wants, compares, wants-other, after}
+use Rattle.reading.specs.Conditions.{ConditionLevel, conditionLevel, Reading, wants, compares, wants-other, after}
 
 -- what stands left of an or, of an and; and all that stands left within one pair of parentheses
 abbrev pub orPart : Option Condition → List ℕ
@@ -15,11 +15,11 @@ abbrev pub andPart : Option Condition → List ℕ
 andPart none = []
 andPart (some c) = 2 ∷ conditionBytes c
 
-abbrev pub levelBytes : Level → List ℕ
+abbrev pub levelBytes : ConditionLevel → List ℕ
 levelBytes l = orPart (l .or-left) ++ (andPart (l .and-left) ++ replicate (l .nots) 1)
 
 -- the levels around, innermost first
-abbrev pub levelsOn : List ℕ → List Level → List ℕ
+abbrev pub levelsOn : List ℕ → List ConditionLevel → List ℕ
 levelsOn xs [] = xs
 levelsOn xs (l ∷ ls) = levelsOn xs ls ++ levelBytes l
 
@@ -30,19 +30,19 @@ readingOn xs (wants-other x l ls) = levelsOn xs (l ∷ ls) ++ 0 ∷ operandBytes
 readingOn xs (after d o ls) = levelsOn xs ls ++ (orPart o ++ conditionBytes d)
 
 -- for each level the place of what an or would join, and of what an and would join
-abbrev pub orsOn : List ℕ → List Level → List ℕ
+abbrev pub orsOn : List ℕ → List ConditionLevel → List ℕ
 orsOn xs [] = []
 orsOn xs (l ∷ ls) = length (levelsOn xs ls) ∷ orsOn xs ls
 
-abbrev pub andsOn : List ℕ → List Level → List ℕ
+abbrev pub andsOn : List ℕ → List ConditionLevel → List ℕ
 andsOn xs [] = []
 andsOn xs (l ∷ ls) = length (levelsOn xs ls ++ orPart (l .or-left)) ∷ andsOn xs ls
 
-abbrev pub levelsIn : Reading → List Level
+abbrev pub levelsIn : Reading → List ConditionLevel
 levelsIn (wants l ls) = l ∷ ls
 levelsIn (compares x l ls) = l ∷ ls
 levelsIn (wants-other x l ls) = l ∷ ls
-levelsIn (after d o ls) = level o none 0 ∷ ls
+levelsIn (after d o ls) = conditionLevel o none 0 ∷ ls
 
 -- what an operand would be: 2 a comparison's first, 3 its second
 abbrev pub modeOf : Reading → ℕ

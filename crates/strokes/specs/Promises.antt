@@ -6,19 +6,19 @@ use mathlib.Core.List.{List, _∷_}
 use Prim.Native.Nat.{ℕ, _<_}
 use Rattle.text.specs.Characters.{utf8s}
 use Rattle.programs.specs.Program.{programBytes}
-use Rattle.programs.specs.Parsed.{visit}
-use Rattle.notation.specs.Program.{Program, programIn}
+use Rattle.programs.specs.Parsed.{whichVisit}
+use Rattle.notation.specs.Program.{TextProgram, programIn}
 use Rattle.notation.specs.Limits.{ProgramWithin}
-use Rattle.notation.specs.Tokens.{Token, nonterminal, value, attribute, name, start-tag, end-tag, empty-tag, string, word, sign}
+use Rattle.notation.specs.Tokens.{TextToken, nonterminal, value, attribute, name, start-tag, end-tag, empty-tag, string, word, sign}
 use Rattle.reading.specs.Conditions.{Reading}
 use Rattle.reading.specs.Statements.{Listing, wants, target, assigning, printing, testing, after, listStart, valueOfList, finishedList}
-use Rattle.lexemes.specs.Kinds.{kindOf, numberOf, TokenFits}
+use Rattle.lexemes.specs.Kinds.{tokenKind, tokenNumber, TokenFits}
 use Rattle.outlines.specs.Statements.{outline}
-use Rattle.outlines.specs.Shape.{Sound}
+use Rattle.outlines.specs.Shape.{SoundOutline}
 use Rattle.outlines.specs.Promises.{MachineKeeps}
 use Rattle.strokes.specs.Conditions.{orsOn, andsOn, levelsIn, modeOf}
 use Rattle.strokes.specs.Bodies.{testFront, inkOf, marksIn}
-use Rattle.strokes.specs.Strokes.{Inks, blank, writes, inked, strokeOf, itemBytes, sealedBytes}
+use Rattle.strokes.specs.Strokes.{Inks, noInk, writes, inked, strokeOf, itemBytes, sealedBytes}
 
 -- in a condition that begins behind xs
 pub record TestIs (xs : List ℕ) (r : Reading) (s : Inks) : Type 0 where
@@ -39,19 +39,19 @@ StageIs tag offset (testing r l ls) s = TestIs (testFront tag offset (l ∷ ls))
 StageIs tag offset (after b p l ls) s = s .mode ≡ 0
 
 -- the bytes of where the machine stands, and what is needed to go on
-pub record Drawn (tag offset : List ℕ → ℕ) (q : Listing) (s : Inks) : Type 0 where
+pub record DrawnInk (tag offset : List ℕ → ℕ) (q : Listing) (s : Inks) : Type 0 where
   pub bytes-are : s .bytes ≡ inkOf tag offset q
   pub marks-are : s .marks ≡ marksIn q
   pub stage-is : StageIs tag offset q s
 
 -- of a state that was reached within the limits
 pub record InksAre (tag offset : List ℕ → ℕ) (q : Listing) (s : Inks) : Type 0 where
-  pub drawn : Drawn tag offset q s
-  pub sound : Sound (outline q)
+  pub drawn : DrawnInk tag offset q s
+  pub sound : SoundOutline (outline q)
   pub within : ProgramWithin (finishedList q)
 
 -- a token that is no item of a print
-abbrev pub NoItem : Token → Type 0
+abbrev pub NoItem : TextToken → Type 0
 NoItem (nonterminal n) = Unit {0}
 NoItem (value v) = Unit {0}
 NoItem (attribute m a) = Unit {0}
@@ -64,7 +64,7 @@ NoItem (word w) = Unit {0}
 NoItem (sign s) = Unit {0}
 
 -- an item whose tag has that number, or whose string lies at that place
-pub record TagAt (tag : List ℕ → ℕ) (n : List ℕ) (place : ℕ) : Type 0 where
+pub record TagNumbered (tag : List ℕ → ℕ) (n : List ℕ) (place : ℕ) : Type 0 where
   pub numbered : place ≡ tag n
   pub small : place < 256
 
@@ -72,30 +72,30 @@ pub record StringAt (offset : List ℕ → ℕ) (s : List ℕ) (place : ℕ) : T
   pub lies : place ≡ offset s
   pub small : place < 65536
 
-abbrev pub ItemAt : (List ℕ → ℕ) → (List ℕ → ℕ) → ℕ → Token → Type 0
+abbrev pub ItemAt : (List ℕ → ℕ) → (List ℕ → ℕ) → ℕ → TextToken → Type 0
 ItemAt tag offset place (nonterminal n) = ⊥
 ItemAt tag offset place (value v) = ⊥
 ItemAt tag offset place (attribute m a) = ⊥
 ItemAt tag offset place (name n) = ⊥
-ItemAt tag offset place (start-tag n) = TagAt tag n place
-ItemAt tag offset place (end-tag n) = TagAt tag n place
-ItemAt tag offset place (empty-tag n) = TagAt tag n place
+ItemAt tag offset place (start-tag n) = TagNumbered tag n place
+ItemAt tag offset place (end-tag n) = TagNumbered tag n place
+ItemAt tag offset place (empty-tag n) = TagNumbered tag n place
 ItemAt tag offset place (string cs) = StringAt offset (utf8s cs) place
 ItemAt tag offset place (word w) = ⊥
 ItemAt tag offset place (sign s) = ⊥
 
 abbrev pub StartsBlank : Type 0
-StartsBlank = (tag offset : List ℕ → ℕ) → InksAre tag offset listStart blank
+StartsBlank = (tag offset : List ℕ → ℕ) → InksAre tag offset listStart noInk
 
 -- a token that the machine takes within the limits
 abbrev pub TokensDraw : Type 0
-TokensDraw = (tag offset : List ℕ → ℕ) (second : Bool) (q q′ : Listing) (t : Token) (s : Inks) → InksAre tag offset q s → NoItem t → TokenFits t
-    → MachineKeeps (visit second) q t q′ → InksAre tag offset q′ (inked (strokeOf second (kindOf t) (numberOf t)) s)
+TokensDraw = (tag offset : List ℕ → ℕ) (second : Bool) (q q′ : Listing) (t : TextToken) (s : Inks) → InksAre tag offset q s → NoItem t → TokenFits t
+    → MachineKeeps (whichVisit second) q t q′ → InksAre tag offset q′ (inked (strokeOf second (tokenKind t) (tokenNumber t)) s)
 
 abbrev pub ItemsDraw : Type 0
-ItemsDraw = (tag offset : List ℕ → ℕ) (second : Bool) (q q′ : Listing) (t : Token) (place : ℕ) (s : Inks) → InksAre tag offset q s → ItemAt tag offset place t → TokenFits t
-    → MachineKeeps (visit second) q t q′ → InksAre tag offset q′ (inked (writes (itemBytes (kindOf t) place (numberOf t))) s)
+ItemsDraw = (tag offset : List ℕ → ℕ) (second : Bool) (q q′ : Listing) (t : TextToken) (place : ℕ) (s : Inks) → InksAre tag offset q s → ItemAt tag offset place t → TokenFits t
+    → MachineKeeps (whichVisit second) q t q′ → InksAre tag offset q′ (inked (writes (itemBytes (tokenKind t) place (tokenNumber t))) s)
 
 -- where the program may end
 abbrev pub SealsWhole : Type 0
-SealsWhole = (tag offset : List ℕ → ℕ) (q : Listing) (p : Program) (s : Inks) → InksAre tag offset q s → valueOfList q ≡ some p → sealedBytes s ≡ programBytes (programIn tag offset p)
+SealsWhole = (tag offset : List ℕ → ℕ) (q : Listing) (p : TextProgram) (s : Inks) → InksAre tag offset q s → valueOfList q ≡ some p → sealedBytes s ≡ programBytes (programIn tag offset p)

@@ -112,8 +112,8 @@ abbrev pub sealedBytes : Inks → List ℕ
 sealedBytes s = writtenOn (s .bytes) (replicate (suc (owed (s .marks))) 0)
 
 -- where a program begins
-abbrev pub blank : Inks
-blank = inks [] 0 0 (0 ∷ []) [] []
+abbrev pub noInk : Inks
+noInk = inks [] 0 0 (0 ∷ []) [] []
 
 -- an operand of that kind in a visit: $[.a in a second visit is the value that a had
 abbrev pub operandCode : Bool → ℕ → ℕ

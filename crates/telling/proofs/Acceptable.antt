@@ -19,23 +19,23 @@ use Rattle.expressions.specs.Expr.{Atom}
 use Rattle.expressions.specs.Grammar.{nonterminals}
 use Rattle.programs.specs.Program.{Operand, Condition}
 use Rattle.programs.specs.Limits.{Visit, first, second, Value, Attribute}
-use Rattle.notation.specs.Program.{Program}
+use Rattle.notation.specs.Program.{TextProgram}
 use Rattle.notation.specs.Rules.{Tree}
-use Rattle.notation.specs.Tokens.{Mark, plain, left, right, Token, nonterminal, value, attribute, name, start-tag, end-tag, empty-tag, string, word, Word, CHAR, ECHO, ECHO-OFF, REJECT, PRINT, IF, THEN, ELSE, BEGIN, END, AND, OR, NOT, EMPTY, sign, Sign, DEFINED, ASSIGNED, OPEN, CLOSE, BRACE, UNBRACE, DOT, BAR, STAR, SEMICOLON, EQUALS, decimal, bytesOf, markBytes, TagName, StringOf}
+use Rattle.notation.specs.Tokens.{Dollar, plain, left, right, TextToken, nonterminal, value, attribute, name, start-tag, end-tag, empty-tag, string, word, Keyword, CHAR, ECHO, ECHO-OFF, REJECT, PRINT, IF, THEN, ELSE, BEGIN, END, AND, OR, NOT, EMPTY, sign, Sign, DEFINED, ASSIGNED, OPEN, CLOSE, BRACE, UNBRACE, DOT, BAR, STAR, SEMICOLON, EQUALS, decimal, tokenBytes, markBytes, TagName, StringOf}
 use Rattle.notation.specs.Statements.{parentheses}
 use Rattle.notation.proofs.Rows.{utf8-some}
 use Rattle.reading.specs.Tests.{tagName?, string?}
-use Rattle.reading.specs.Conditions.{Part, other, partIf, value?, attribute?, attributePart, attributeOf, partOf, Reading, stepPart, stepCondition, valueOf}
-use Rattle.reading.specs.Statements.{Start, no-start, targetIf, current?, startOf, Behind, nothing, itemIf, nextOf, Level, Listing, wants, target, assigning, printing, testing, after, thenned, tested, started, targeted, assignedBy, printed, followed, stepStatements, valueOfList}
-use Rattle.reading.specs.Expressions.{Piece, atomIf, nonterminal?, pieceOf, Parsing, stepPiece, unbraces, listing, stepExpression, valueOfContent}
-use Rattle.reading.specs.Rules.{Key, keyIf, keyOf, Head, ruleOf, Progress, beginning, first-word, named, defined, own-front, wants-tag, tagged, within, closed, own-back, complete, stepKey, closes, parsing, stepRules}
+use Rattle.reading.specs.Conditions.{ConditionPart, other, partIf, value?, attribute?, attributePart, attributeOf, partOf, Reading, stepPart, stepCondition, valueOfCondition}
+use Rattle.reading.specs.Statements.{Start, no-start, targetIf, current?, startOf, Behind, nothing, itemIf, behindOf, ListLevel, Listing, wants, target, assigning, printing, testing, after, thenned, tested, startedList, targeted, assignedBy, printed, followed, stepStatements, valueOfList}
+use Rattle.reading.specs.Expressions.{ExpressionPart, atomIf, nonterminal?, pieceOf, Parsing, stepPiece, unbraces, listing, stepExpression, valueOfContent}
+use Rattle.reading.specs.Rules.{Key, keyIf, keyOf, Head, ruleRead, Progress, beginning, first-word, named, defined, own-front, wants-tag, tagged, within, closed, own-back, complete, stepKey, closesContent, parsing, stepRules}
 use Rattle.reading.proofs.Telling.{none≢some}
 use Rattle.reading.proofs.Braces.{part-stops, then-stops}
 use Rattle.reading.proofs.RuleHeld.{KeyIs, key-is}
 use Rattle.telling.proofs.Search.{Bounded, Good}
 
 -- numbers under 100, names and strings as tokens may have them
-abbrev pub Proper : Token → Type 0
+abbrev pub Proper : TextToken → Type 0
 Proper (nonterminal n) = n < 100
 Proper (value n) = n < 100
 Proper (attribute m a) = a < 100
@@ -47,19 +47,19 @@ Proper (string cs) = StringOf cs
 Proper (word w) = Unit {0}
 Proper (sign s) = Unit {0}
 
-pub record Fine (t : Token) : Type 0 where
+pub record Fine (t : TextToken) : Type 0 where
   pub good : Good t
   pub proper : Proper t
-  pub some-bytes : bytesOf t ≡ [] → ⊥
+  pub some-bytes : tokenBytes t ≡ [] → ⊥
 
 -- a token that stands in no expression and no program; and one that stands nowhere
-record Silent (t : Token) : Type 0 where
+record Silent (t : TextToken) : Type 0 where
   in-condition : (v : Visit) → partOf v t ≡ other
   at-start : (v : Visit) → startOf v t ≡ no-start
-  behind : nextOf t ≡ nothing
-  in-expression : pieceOf t ≡ Piece.other
+  behind : behindOf t ≡ nothing
+  in-expression : pieceOf t ≡ ExpressionPart.other
 
-record Stray (t : Token) : Type 0 where
+record Stray (t : TextToken) : Type 0 where
   silent : Silent t
   outside : keyOf t ≡ Key.other
 
@@ -84,11 +84,11 @@ no-target : {P : Type 0} (d : Dec P) (b : Bool) (a : ℕ) → (P → ⊥) → ta
 no-target (yes p) b a h = absurd (h p)
 no-target (no p) b a h = refl
 
-no-item : {P : Type 0} (d : Dec P) (p : Program) → (P → ⊥) → itemIf d p ≡ nothing
+no-item : {P : Type 0} (d : Dec P) (p : TextProgram) → (P → ⊥) → itemIf d p ≡ nothing
 no-item (yes p) q h = absurd (h p)
 no-item (no p) q h = refl
 
-no-atom : {P : Type 0} (d : Dec P) (k : Atom) → (P → ⊥) → atomIf d k ≡ Piece.other
+no-atom : {P : Type 0} (d : Dec P) (k : Atom) → (P → ⊥) → atomIf d k ≡ ExpressionPart.other
 no-atom (yes p) k h = absurd (h p)
 no-atom (no p) k h = refl
 
@@ -136,12 +136,12 @@ chars-bounded zero (c ∷ cs) h l = absurd (omega (arith, utf8-some c, simp leng
 chars-bounded (suc k) [] h l = tt
 chars-bounded (suc k) (c ∷ cs) h l = (omega (arith, char-most (h .0)), chars-bounded k cs (h .1) (omega (arith, utf8-some c, simp length-append at l)))
 
-mark-some : (m : Mark) (l : List ℕ) → markBytes m ++ l ≡ [] → ⊥
+mark-some : (m : Dollar) (l : List ℕ) → markBytes m ++ l ≡ [] → ⊥
 mark-some plain l e = cons≢[] e
 mark-some left l e = cons≢[] e
 mark-some right l e = cons≢[] e
 
-word-some : (w : Word) → bytesOf (word w) ≡ [] → ⊥
+word-some : (w : Keyword) → tokenBytes (word w) ≡ [] → ⊥
 word-some CHAR e = cons≢[] e
 word-some ECHO e = cons≢[] e
 word-some ECHO-OFF e = cons≢[] e
@@ -157,7 +157,7 @@ word-some OR e = cons≢[] e
 word-some NOT e = cons≢[] e
 word-some EMPTY e = cons≢[] e
 
-sign-some : (s : Sign) → bytesOf (sign s) ≡ [] → ⊥
+sign-some : (s : Sign) → tokenBytes (sign s) ≡ [] → ⊥
 sign-some DEFINED e = cons≢[] e
 sign-some ASSIGNED e = cons≢[] e
 sign-some OPEN e = cons≢[] e
@@ -170,7 +170,7 @@ sign-some STAR e = cons≢[] e
 sign-some SEMICOLON e = cons≢[] e
 sign-some EQUALS e = cons≢[] e
 
-fine-or-stray : (t : Token) → Fine t ⊎ Stray t
+fine-or-stray : (t : TextToken) → Fine t ⊎ Stray t
 fine-or-stray (nonterminal n) = on (nonterminal? n)
   where
     on : Dec (n < nonterminals) → Fine (nonterminal n) ⊎ Stray (nonterminal n)
@@ -215,35 +215,35 @@ fine-or-stray (word w) = inl (record { good = tt; proper = tt; some-bytes = word
 fine-or-stray (sign s) = inl (record { good = tt; proper = tt; some-bytes = sign-some s })
 
 -- no machine takes it
-list-stops : (v : Visit) (s : Listing) (t : Token) → Silent t → stepStatements v s t ≡ none
-list-stops v (wants w l ls) t h = ap (started w l ls) (h .at-start v)
+list-stops : (v : Visit) (s : Listing) (t : TextToken) → Silent t → stepStatements v s t ≡ none
+list-stops v (wants w l ls) t h = ap (startedList w l ls) (h .at-start v)
 list-stops v (target a l ls) t h = ap (targeted a l ls) (h .behind)
 list-stops v (assigning a l ls) t h = ap (assignedBy a l ls) (h .in-condition v)
 list-stops v (printing l ls) t h = ap (printed l ls) (h .behind)
 list-stops v (testing r l ls) t h =
-    ap (λ k. tested (stepPart parentheses r k) (valueOf r) l ls (nextOf t)) (h .in-condition v)
-    ∙ ap (λ o. tested o (valueOf r) l ls (nextOf t)) (part-stops parentheses r)
-    ∙ ap (thenned (valueOf r) l ls) (h .behind) ∙ then-stops (valueOf r) l ls
+    ap (λ k. tested (stepPart parentheses r k) (valueOfCondition r) l ls (behindOf t)) (h .in-condition v)
+    ∙ ap (λ o. tested o (valueOfCondition r) l ls (behindOf t)) (part-stops parentheses r)
+    ∙ ap (thenned (valueOfCondition r) l ls) (h .behind) ∙ then-stops (valueOfCondition r) l ls
 list-stops v (after b p l ls) t h = ap (followed b p l ls) (h .behind)
 
-listing-stops : {S : Type 0} (v : Visit) (q : Listing) (t : Token) (holds : Listing → S) (ended : Program → S) → Silent t → listing (stepStatements v q t) holds (unbraces (pieceOf t) (valueOfList q) ended) ≡ none
+listing-stops : {S : Type 0} (v : Visit) (q : Listing) (t : TextToken) (holds : Listing → S) (ended : TextProgram → S) → Silent t → listing (stepStatements v q t) holds (unbraces (pieceOf t) (valueOfList q) ended) ≡ none
 listing-stops v q t holds ended h = ap (λ o. listing o holds (unbraces (pieceOf t) (valueOfList q) ended)) (list-stops v q t h) ∙ ap (λ k. unbraces k (valueOfList q) ended) (h .in-expression)
 
-piece-stops : (s : Parsing) → stepPiece s Piece.other ≡ none
+piece-stops : (s : Parsing) → stepPiece s ExpressionPart.other ≡ none
 piece-stops (Parsing.wants b l ls) = refl
 piece-stops (Parsing.in-front q ls) = refl
 piece-stops (Parsing.after e l ls) = refl
 piece-stops (Parsing.behind q f k ls) = refl
 piece-stops (Parsing.over e ls) = refl
 
-content-stops : (s : Parsing) (t : Token) → Silent t → stepExpression s t ≡ none
+content-stops : (s : Parsing) (t : TextToken) → Silent t → stepExpression s t ≡ none
 content-stops (Parsing.wants b l ls) t h = ap (stepPiece (Parsing.wants b l ls)) (h .in-expression)
 content-stops (Parsing.in-front q ls) t h = listing-stops first q t _ _ h
 content-stops (Parsing.after e l ls) t h = ap (stepPiece (Parsing.after e l ls)) (h .in-expression)
 content-stops (Parsing.behind q f k ls) t h = listing-stops second q t _ _ h
 content-stops (Parsing.over e ls) t h = ap (stepPiece (Parsing.over e ls)) (h .in-expression)
 
-rules-stop : (s : Progress) (t : Token) → Stray t → stepRules s t ≡ none
+rules-stop : (s : Progress) (t : TextToken) → Stray t → stepRules s t ≡ none
 rules-stop beginning t h = ap (stepKey beginning) (h .outside)
 rules-stop (first-word n) t h = ap (stepKey (first-word n)) (h .outside)
 rules-stop (named d) t h = ap (stepKey (named d)) (h .outside)
@@ -252,13 +252,13 @@ rules-stop (own-front q d) t h = listing-stops first q t _ _ (h .silent)
 rules-stop (wants-tag f d) t h = ap (stepKey (wants-tag f d)) (h .outside)
 rules-stop (tagged f u d) t h = ap (stepKey (tagged f u d)) (h .outside)
 rules-stop (within x f u d) t h =
-    ap (λ o. parsing o (closes (keyOf t) (valueOfContent x) f u d) f u d) (content-stops x t (h .silent))
-    ∙ ap (λ k. closes k (valueOfContent x) f u d) (h .outside)
+    ap (λ o. parsing o (closesContent (keyOf t) (valueOfContent x) f u d) f u d) (content-stops x t (h .silent))
+    ∙ ap (λ k. closesContent k (valueOfContent x) f u d) (h .outside)
 rules-stop (closed f u e d) t h = ap (stepKey (closed f u e d)) (h .outside)
 rules-stop (own-back q f u e d) t h = listing-stops second q t _ _ (h .silent)
 rules-stop (complete r d) t h = ap (stepKey (complete r d)) (h .outside)
 
-pub taken-is-fine : (s s′ : Progress) (t : Token) → stepRules s t ≡ some s′ → Fine t
+pub taken-is-fine : (s s′ : Progress) (t : TextToken) → stepRules s t ≡ some s′ → Fine t
 taken-is-fine s s′ t e = ⊎-elim (λ (f : Fine t). f) (λ (h : Stray t). absurd (none≢some (rules-stop s t h) e)) (fine-or-stray t)
 
 -- a name stands only where a tag is wanted, and there nothing but a name or a { does
@@ -324,7 +324,7 @@ key-tags (complete r d) Key.other h = tt
 name-silent : (n : List ℕ) → Silent (name n)
 name-silent n = record { in-condition = λ v. refl; at-start = λ v. refl; behind = refl; in-expression = refl }
 
-closes-name : (k : Key) (o : Option (Option Tree)) (f : Option Program) (t : List ℕ) (h : Head) → NameKey k → closes k o f t h ≡ none
+closes-name : (k : Key) (o : Option (Option Tree)) (f : Option TextProgram) (t : List ℕ) (h : Head) → NameKey k → closesContent k o f t h ≡ none
 closes-name (Key.a-nonterminal n) o f t h i = absurd i
 closes-name (Key.a-name n) o f t h i = refl
 closes-name Key.a-definition o f t h i = absurd i
@@ -348,12 +348,12 @@ name-wants-tag s s′ n e = on s e
     on (wants-tag f h) i = tt
     on (tagged f t h) i = by-key (tagged f t h) i
     on (within x f t h) i =
-        none≢some (ap (λ o. parsing o (closes (keyOf (name n)) (valueOfContent x) f t h) f t h) (content-stops x (name n) (name-silent n)) ∙ closes-name (keyOf (name n)) (valueOfContent x) f t h (name-key (tagName? n) n)) i
+        none≢some (ap (λ o. parsing o (closesContent (keyOf (name n)) (valueOfContent x) f t h) f t h) (content-stops x (name n) (name-silent n)) ∙ closes-name (keyOf (name n)) (valueOfContent x) f t h (name-key (tagName? n) n)) i
     on (closed f t x h) i = by-key (closed f t x h) i
-    on (own-back q f t x h) i = none≢some (listing-stops second q (name n) (λ r. own-back r f t x h) (λ p. complete (ruleOf f (some p) t x h) h) (name-silent n)) i
+    on (own-back q f t x h) i = none≢some (listing-stops second q (name n) (λ r. own-back r f t x h) (λ p. complete (ruleRead f (some p) t x h) h) (name-silent n)) i
     on (complete r h) i = by-key (complete r h) i
 
-pub tag-place : (s s′ : Progress) (t : Token) → WantsTag s → stepRules s t ≡ some s′ → ((n : List ℕ) × (t ≡ name n)) ⊎ (t ≡ sign BRACE)
+pub tag-place : (s s′ : Progress) (t : TextToken) → WantsTag s → stepRules s t ≡ some s′ → ((n : List ℕ) × (t ≡ name n)) ⊎ (t ≡ sign BRACE)
 tag-place s s′ t w e = on s w e
   where
     of-defined : (h : Head) (k : Key) → KeyIs t k → stepKey (defined h) k ≡ some s′ → ((n : List ℕ) × (t ≡ name n)) ⊎ (t ≡ sign BRACE)
@@ -365,7 +365,7 @@ tag-place s s′ t w e = on s w e
     of-defined h Key.a-brace i j = inr i
     of-defined h Key.other i j = absurd (none≢some refl j)
 
-    of-wanting : (f : Option Program) (h : Head) (k : Key) → KeyIs t k → stepKey (wants-tag f h) k ≡ some s′ → ((n : List ℕ) × (t ≡ name n)) ⊎ (t ≡ sign BRACE)
+    of-wanting : (f : Option TextProgram) (h : Head) (k : Key) → KeyIs t k → stepKey (wants-tag f h) k ≡ some s′ → ((n : List ℕ) × (t ≡ name n)) ⊎ (t ≡ sign BRACE)
     of-wanting f h (Key.a-nonterminal n) i j = absurd (none≢some refl j)
     of-wanting f h (Key.a-name n) i j = inl (n, i .0)
     of-wanting f h Key.a-definition i j = absurd (none≢some refl j)

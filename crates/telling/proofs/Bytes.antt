@@ -11,9 +11,9 @@ use lib.ListN.{length, length-append}
 use Rattle.text.specs.Names.{blank, All}
 use Rattle.text.proofs.Shapes.{cons≢[]}
 use Rattle.expressions.specs.Expr.{nodesOf}
-use Rattle.notation.specs.Program.{Program}
-use Rattle.notation.specs.Rules.{Visits, Tree, contentOf, visitsIn, Rule, Rules}
-use Rattle.notation.specs.Limits.{sizeOf, nestingOf, ProgramWithin, OptionWithin, VisitsWithin, AllWithin, depthOf, ContentWithin, RuleWithin, EachWithin, nodesInAll, Within}
+use Rattle.notation.specs.Program.{TextProgram}
+use Rattle.notation.specs.Rules.{TextVisits, Tree, contentInside, visitsInside, TextRule, Rules}
+use Rattle.notation.specs.Limits.{sizeOf, nestingOf, ProgramWithin, OptionWithin, VisitsWithin, AllWithin, contentDepth, ContentWithin, RuleWithin, EachWithin, nodesInAll, WithinLimits}
 use Rattle.notation.specs.Gaps.{inComment, Gap, white, comment, Ending, gap, open-comment}
 use Rattle.notation.proofs.Rows.{splits}
 use Rattle.reading.specs.Tests.{both?, either?, true?, all?}
@@ -169,7 +169,7 @@ ending-is p (g, [], i, (k, w)) = subst Ending (sym (i ∙ append-nil g)) (gap k)
 ending-is p (g, b ∷ c, i, (k, (e, a))) = subst Ending (sym (i ∙ ap (λ q. g ++ q ∷ c) e)) (open-comment c k a)
 
 -- the limits of rules
-program-within? : (p : Program) → Dec (ProgramWithin p)
+program-within? : (p : TextProgram) → Dec (ProgramWithin p)
 program-within? p = on (decLe (sizeOf p) 256) (decLe (nestingOf p) 8)
   where
     on : Dec (sizeOf p ≤ 256) → Dec (nestingOf p ≤ 8) → Dec (ProgramWithin p)
@@ -177,27 +177,27 @@ program-within? p = on (decLe (sizeOf p) 256) (decLe (nestingOf p) 8)
     on (yes a) (no b) = no (λ h. b (h .shallow))
     on (no a) b = no (λ h. a (h .short))
 
-option-within? : (o : Option Program) → Dec (OptionWithin o)
+option-within? : (o : Option TextProgram) → Dec (OptionWithin o)
 option-within? none = yes tt
 option-within? (some p) = program-within? p
 
-visits-within? : (v : Visits) → Dec (VisitsWithin v)
+visits-within? : (v : TextVisits) → Dec (VisitsWithin v)
 visits-within? v = both? (option-within? (v .first-visit)) (option-within? (v .second-visit))
 
-all-within? : (vs : List Visits) → Dec (AllWithin vs)
+all-within? : (vs : List TextVisits) → Dec (AllWithin vs)
 all-within? [] = yes tt
 all-within? (v ∷ vs) = both? (visits-within? v) (all-within? vs)
 
 content-within? : (e : Option Tree) → Dec (ContentWithin e)
-content-within? e = on (decLe (nodesOf (contentOf e)) 32) (decLe (depthOf (contentOf e)) 12) (all-within? (visitsIn e))
+content-within? e = on (decLe (nodesOf (contentInside e)) 32) (decLe (contentDepth (contentInside e)) 12) (all-within? (visitsInside e))
   where
-    on : Dec (nodesOf (contentOf e) ≤ 32) → Dec (depthOf (contentOf e) ≤ 12) → Dec (AllWithin (visitsIn e)) → Dec (ContentWithin e)
+    on : Dec (nodesOf (contentInside e) ≤ 32) → Dec (contentDepth (contentInside e) ≤ 12) → Dec (AllWithin (visitsInside e)) → Dec (ContentWithin e)
     on (yes a) (yes b) (yes c) = yes (record { few-nodes = a; shallow = b; programs = c })
     on (yes a) (yes b) (no c) = no (λ h. c (h .programs))
     on (yes a) (no b) c = no (λ h. b (h .shallow))
     on (no a) b c = no (λ h. a (h .few-nodes))
 
-rule-within? : (r : Rule) → Dec (RuleWithin r)
+rule-within? : (r : TextRule) → Dec (RuleWithin r)
 rule-within? r = on (visits-within? (r .own)) (content-within? (r .inside))
   where
     on : Dec (VisitsWithin (r .own)) → Dec (ContentWithin (r .inside)) → Dec (RuleWithin r)
@@ -205,14 +205,14 @@ rule-within? r = on (visits-within? (r .own)) (content-within? (r .inside))
     on (yes a) (no b) = no (λ h. b (h .inside))
     on (no a) b = no (λ h. a (h .own))
 
-each-within? : (rs : List Rule) → Dec (EachWithin rs)
+each-within? : (rs : List TextRule) → Dec (EachWithin rs)
 each-within? [] = yes tt
 each-within? (r ∷ rs) = both? (rule-within? r) (each-within? rs)
 
-pub within? : (r : Rules) → Dec (Within r)
+pub within? : (r : Rules) → Dec (WithinLimits r)
 within? r = on (decLe (length (r .productions)) 64) (decLe (nodesInAll (r .productions)) 256) (each-within? (r .productions))
   where
-    on : Dec (length (r .productions) ≤ 64) → Dec (nodesInAll (r .productions) ≤ 256) → Dec (EachWithin (r .productions)) → Dec (Within r)
+    on : Dec (length (r .productions) ≤ 64) → Dec (nodesInAll (r .productions) ≤ 256) → Dec (EachWithin (r .productions)) → Dec (WithinLimits r)
     on (yes a) (yes b) (yes c) = yes (record { few-productions = a; few-nodes = b; each = c })
     on (yes a) (yes b) (no c) = no (λ h. c (h .each))
     on (yes a) (no b) c = no (λ h. b (h .few-nodes))

@@ -15,7 +15,7 @@ use Rattle.text.specs.Names.{nameFirst, nameByte, blank, All, Name}
 use Rattle.text.proofs.Shapes.{cons≢[], shape1}
 use Rattle.text.proofs.Unique.{char-one}
 use Rattle.text.proofs.NameLaws.{name-all, blank-stops}
-use Rattle.notation.specs.Tokens.{Mark, plain, left, right, Token, nonterminal, value, attribute, name, start-tag, end-tag, empty-tag, string, word, Word, CHAR, ECHO, ECHO-OFF, REJECT, PRINT, IF, THEN, ELSE, BEGIN, END, AND, OR, NOT, EMPTY, sign, Sign, DEFINED, ASSIGNED, OPEN, CLOSE, BRACE, UNBRACE, DOT, BAR, STAR, SEMICOLON, EQUALS, decimal, in-quotes, all-in-quotes, bytesOf, TagName, StringOf}
+use Rattle.notation.specs.Tokens.{Dollar, plain, left, right, TextToken, nonterminal, value, attribute, name, start-tag, end-tag, empty-tag, string, word, Keyword, CHAR, ECHO, ECHO-OFF, REJECT, PRINT, IF, THEN, ELSE, BEGIN, END, AND, OR, NOT, EMPTY, sign, Sign, DEFINED, ASSIGNED, OPEN, CLOSE, BRACE, UNBRACE, DOT, BAR, STAR, SEMICOLON, EQUALS, decimal, in-quotes, all-in-quotes, tokenBytes, TagName, StringOf}
 use Rattle.notation.specs.Spelled.{wordByte, joins, MayFollow}
 use Rattle.notation.proofs.Strings.{same-string}
 use Rattle.telling.proofs.Acceptable.{Proper}
@@ -58,7 +58,7 @@ abbrev digit : ℕ → Bool
 digit b = leb 48 b && leb b 57
 
 -- the token that begins with a byte and goes on with others
-abbrev lettered : ℕ → List ℕ → Token
+abbrev lettered : ℕ → List ℕ → TextToken
 lettered b x =
     cond (eqb b 67) (word CHAR)
     (cond (eqb b 69) (cond (eqb (first-of x) 77) (word EMPTY) (cond (eqb (length (span wordByte x)) 3) (word ECHO) (word ECHO-OFF)))
@@ -70,7 +70,7 @@ lettered b x =
     (cond (eqb b 98) (word BEGIN)
     (cond (eqb b 97) (word AND) (word OR)))))))))
 
-abbrev signed : ℕ → List ℕ → Token
+abbrev signed : ℕ → List ℕ → TextToken
 signed b x =
     cond (eqb b 58) (cond (eqb (first-of x) 58) (sign DEFINED) (sign ASSIGNED))
     (cond (eqb b 40) (sign OPEN)
@@ -87,17 +87,17 @@ abbrev tailOf : List ℕ → List ℕ
 tailOf [] = []
 tailOf (y ∷ l) = l
 
-abbrev marked : List ℕ → Token
+abbrev marked : List ℕ → TextToken
 marked x =
     cond (eqb (first-of x) 46) (attribute plain (number (span wordByte (tailOf (tailOf x)))))
     (cond (eqb (first-of x) 91) (attribute left (number (span wordByte (tailOf (tailOf (tailOf x)))))) (attribute right (number (span wordByte (tailOf (tailOf (tailOf x)))))))
 
-abbrev bracketed : List ℕ → Token
+abbrev bracketed : List ℕ → TextToken
 bracketed x =
     cond (eqb (first-of x) 47) (end-tag (span nameByte (tailOf x)))
     (cond (eqb (first-of (beyond nameByte x)) 62) (start-tag (span nameByte x)) (empty-tag (span nameByte x)))
 
-abbrev lexeme : ℕ → List ℕ → Token
+abbrev lexeme : ℕ → List ℕ → TextToken
 lexeme b x =
     cond (digit b) (value (number (span wordByte (b ∷ x))))
     (cond (eqb b 110) (cond (digit (first-of x)) (nonterminal (number (span wordByte x))) (word NOT))
@@ -105,11 +105,11 @@ lexeme b x =
     (cond (eqb b 60) (bracketed x)
     (cond (eqb b 34) (string []) (signed b x)))))
 
-abbrev pub lexed : List ℕ → Token
+abbrev pub lexed : List ℕ → TextToken
 lexed [] = sign EQUALS
 lexed (b ∷ x) = lexeme b x
 
-word-lexed : (w : Word) (r : List ℕ) → Stops wordByte r → lexed (bytesOf (word w) ++ r) ≡ word w
+word-lexed : (w : Keyword) (r : List ℕ) → Stops wordByte r → lexed (tokenBytes (word w) ++ r) ≡ word w
 unfolding first-of
 word-lexed CHAR r s = refl
 word-lexed ECHO r s = rw (span-run wordByte (67 ∷ 72 ∷ 79 ∷ []) r (refl, (refl, (refl, tt))) s) refl
@@ -126,7 +126,7 @@ word-lexed OR r s = refl
 word-lexed NOT r s = refl
 word-lexed EMPTY r s = refl
 
-sign-lexed : (s : Sign) (r : List ℕ) → lexed (bytesOf (sign s) ++ r) ≡ sign s
+sign-lexed : (s : Sign) (r : List ℕ) → lexed (tokenBytes (sign s) ++ r) ≡ sign s
 unfolding first-of
 sign-lexed DEFINED r = refl
 sign-lexed ASSIGNED r = refl
@@ -205,7 +205,7 @@ nonterminal-lexed n r h s =
     ∙ ap (λ b. cond b (nonterminal (number (span wordByte (decimal n ++ r)))) (word NOT)) (digit-is (d .lead) (d .low) (d .high))
     ∙ ap nonterminal (number-read n r h s)
 
-attribute-lexed : (m : Mark) (a : ℕ) (r : List ℕ) → a < 100 → Stops wordByte r → lexed (bytesOf (attribute m a) ++ r) ≡ attribute m a
+attribute-lexed : (m : Dollar) (a : ℕ) (r : List ℕ) → a < 100 → Stops wordByte r → lexed (tokenBytes (attribute m a) ++ r) ≡ attribute m a
 unfolding first-of
 attribute-lexed plain a r h s = ap (attribute plain) (number-read a r h s)
 attribute-lexed left a r h s = ap (attribute left) (number-read a r h s)
@@ -240,16 +240,16 @@ pub same-name : (n m r q : List ℕ) → Name n → Name m → Stops nameByte r 
 same-name n m r q h k s t e = sym (span-run nameByte n r (name-all n h) s) ∙ ap (span nameByte) e ∙ span-run nameByte m q (name-all m k) t
 
 -- what a token is, to its reader
-pub data View (t : Token) : Type 0 where
+pub data View (t : TextToken) : Type 0 where
   a-name : (n : List ℕ) → t ≡ name n → TagName n → View t
   a-string : (cs : List ℕ) → t ≡ string cs → View t
-  lexical : ((r : List ℕ) → MayFollow t r → lexed (bytesOf t ++ r) ≡ t) → ((cs : List ℕ) → t ≡ string cs → ⊥) → ((n : List ℕ) → t ≡ name n → ⊥) → View t
+  lexical : ((r : List ℕ) → MayFollow t r → lexed (tokenBytes t ++ r) ≡ t) → ((cs : List ℕ) → t ≡ string cs → ⊥) → ((n : List ℕ) → t ≡ name n → ⊥) → View t
 
-pub stops-of : (p : ℕ → Bool) (t : Token) → ((b : ℕ) → joins t b ≡ p b) → (r : List ℕ) → MayFollow t r → Stops p r
+pub stops-of : (p : ℕ → Bool) (t : TextToken) → ((b : ℕ) → joins t b ≡ p b) → (r : List ℕ) → MayFollow t r → Stops p r
 stops-of p t h [] m = tt
 stops-of p t h (b ∷ r) m = sym (h b) ∙ m
 
-pub view : (t : Token) → Proper t → View t
+pub view : (t : TextToken) → Proper t → View t
 view (nonterminal n) h = lexical (λ r m. nonterminal-lexed n r h (stops-of wordByte (nonterminal n) (λ b. refl) r m)) (λ cs e. let z : _≡_ {A = ℕ} 0 1 = cc in omega arith) (λ n e. let z : _≡_ {A = ℕ} 0 1 = cc in omega arith)
 view (value n) h = lexical (λ r m. value-lexed n r h (stops-of wordByte (value n) (λ b. refl) r m)) (λ cs e. let z : _≡_ {A = ℕ} 0 1 = cc in omega arith) (λ n e. let z : _≡_ {A = ℕ} 0 1 = cc in omega arith)
 view (attribute k a) h = lexical (λ r m. attribute-lexed k a r h (stops-of wordByte (attribute k a) (λ b. refl) r m)) (λ cs e. let z : _≡_ {A = ℕ} 0 1 = cc in omega arith) (λ n e. let z : _≡_ {A = ℕ} 0 1 = cc in omega arith)
@@ -292,12 +292,12 @@ name-solid (x ∷ n) h = record {
   no-sharp = λ e. let z : nameFirst 35 ≡ true = subst (λ y. nameFirst y ≡ true) e (h .0) in let y : _≡_ {A = ℕ} 0 1 = cc in omega arith;
 }
 
-mark-solid : (m : Mark) (a : ℕ) → Solid (bytesOf (attribute m a))
+mark-solid : (m : Dollar) (a : ℕ) → Solid (tokenBytes (attribute m a))
 mark-solid plain a = solid-at 36 (46 ∷ 97 ∷ decimal a) refl (λ e. omega arith)
 mark-solid left a = solid-at 36 (91 ∷ 46 ∷ 97 ∷ decimal a) refl (λ e. omega arith)
 mark-solid right a = solid-at 36 (93 ∷ 46 ∷ 97 ∷ decimal a) refl (λ e. omega arith)
 
-word-solid : (w : Word) → Solid (bytesOf (word w))
+word-solid : (w : Keyword) → Solid (tokenBytes (word w))
 word-solid CHAR = record { lead = _; others = _; are = refl; no-blank = refl; no-sharp = λ e. omega arith }
 word-solid ECHO = record { lead = _; others = _; are = refl; no-blank = refl; no-sharp = λ e. omega arith }
 word-solid ECHO-OFF = record { lead = _; others = _; are = refl; no-blank = refl; no-sharp = λ e. omega arith }
@@ -313,7 +313,7 @@ word-solid OR = record { lead = _; others = _; are = refl; no-blank = refl; no-s
 word-solid NOT = record { lead = _; others = _; are = refl; no-blank = refl; no-sharp = λ e. omega arith }
 word-solid EMPTY = record { lead = _; others = _; are = refl; no-blank = refl; no-sharp = λ e. omega arith }
 
-sign-solid : (s : Sign) → Solid (bytesOf (sign s))
+sign-solid : (s : Sign) → Solid (tokenBytes (sign s))
 sign-solid DEFINED = record { lead = _; others = _; are = refl; no-blank = refl; no-sharp = λ e. omega arith }
 sign-solid ASSIGNED = record { lead = _; others = _; are = refl; no-blank = refl; no-sharp = λ e. omega arith }
 sign-solid OPEN = record { lead = _; others = _; are = refl; no-blank = refl; no-sharp = λ e. omega arith }
@@ -326,7 +326,7 @@ sign-solid STAR = record { lead = _; others = _; are = refl; no-blank = refl; no
 sign-solid SEMICOLON = record { lead = _; others = _; are = refl; no-blank = refl; no-sharp = λ e. omega arith }
 sign-solid EQUALS = record { lead = _; others = _; are = refl; no-blank = refl; no-sharp = λ e. omega arith }
 
-pub solid : (t : Token) → Proper t → Solid (bytesOf t)
+pub solid : (t : TextToken) → Proper t → Solid (tokenBytes t)
 solid (nonterminal n) h = solid-at 110 (decimal n) refl (λ e. omega arith)
 solid (value n) h = value-solid n h
 solid (attribute m a) h = mark-solid m a

@@ -9,10 +9,10 @@ use native.Mathlib.Omega.{arith}
 use Rattle.text.specs.Names.{blank, All, nameFirst, nameByte, Name}
 use Rattle.text.proofs.Shapes.{cons≢[]}
 use Rattle.notation.specs.Rules.{Rules}
-use Rattle.notation.specs.Limits.{Within}
-use Rattle.notation.specs.Tokens.{Token, name, string, sign, BRACE, bytesOf, TagName}
+use Rattle.notation.specs.Limits.{WithinLimits}
+use Rattle.notation.specs.Tokens.{TextToken, name, string, sign, BRACE, tokenBytes, TagName}
 use Rattle.notation.specs.Gaps.{inComment, Gap, white, comment, Ending}
-use Rattle.notation.specs.Spelled.{joins, MayFollow, Spelled, end, token}
+use Rattle.notation.specs.Spelled.{joins, MayFollow, TypedAs, end, token}
 use Rattle.notation.specs.Productions.{RulesAre}
 use Rattle.notation.specs.RuleText.{RuleText}
 use Rattle.reading.specs.Machine.{andThen, walk}
@@ -92,33 +92,33 @@ brace-name (x ∷ n) r q h e = clash (sym (subst (λ z. nameFirst z ≡ true) (h
 
 -- one token at one place of one state
 module _ (s : Progress) where
-  name-other : (z z′ : Progress) (t u : Token) (n r q : List ℕ) → t ≡ name n → TagName n → stepRules s t ≡ some z → stepRules s u ≡ some z′ → bytesOf t ++ r ≡ bytesOf u ++ q
+  name-other : (z z′ : Progress) (t u : TextToken) (n r q : List ℕ) → t ≡ name n → TagName n → stepRules s t ≡ some z → stepRules s u ≡ some z′ → tokenBytes t ++ r ≡ tokenBytes u ++ q
       → (((m : List ℕ) → u ≡ name m → ⊥)) → ⊥
   name-other z z′ t u n r q e h i j k f =
       ⊎-elim (λ (x : (m : List ℕ) × (u ≡ name m)). f (x .0) (x .1))
-      (λ (x : u ≡ sign BRACE). brace-name n r q (h .a-name) (sym (ap (λ y. bytesOf y ++ r) e) ∙ k ∙ ap (λ y. bytesOf y ++ q) x))
+      (λ (x : u ≡ sign BRACE). brace-name n r q (h .a-name) (sym (ap (λ y. tokenBytes y ++ r) e) ∙ k ∙ ap (λ y. tokenBytes y ++ q) x))
       (tag-place s z′ u (name-wants-tag s z n (sym (ap (stepRules s) e) ∙ i)) j)
 
-  pub one-token : (z z′ : Progress) (t u : Token) (r q : List ℕ) → stepRules s t ≡ some z → stepRules s u ≡ some z′ → MayFollow t r → MayFollow u q → bytesOf t ++ r ≡ bytesOf u ++ q → t ≡ u
+  pub one-token : (z z′ : Progress) (t u : TextToken) (r q : List ℕ) → stepRules s t ≡ some z → stepRules s u ≡ some z′ → MayFollow t r → MayFollow u q → tokenBytes t ++ r ≡ tokenBytes u ++ q → t ≡ u
   one-token z z′ t u r q i j m k e = on (view t (taken-is-fine s z t i .proper)) (view u (taken-is-fine s z′ u j .proper))
     where
       on : View t → View u → t ≡ u
       on (a-name n f h) (a-name l g h′) =
           let same = same-name n l r q (h .a-name) (h′ .a-name) (stops-of nameByte (name n) (λ b. refl) r (subst (λ x. MayFollow x r) f m)) (stops-of nameByte (name l) (λ b. refl) q (subst (λ x. MayFollow x q) g k))
-          (sym (ap (λ x. bytesOf x ++ r) f) ∙ e ∙ ap (λ x. bytesOf x ++ q) g) in
+          (sym (ap (λ x. tokenBytes x ++ r) f) ∙ e ∙ ap (λ x. tokenBytes x ++ q) g) in
           f ∙ ap name same ∙ sym g
       on (a-name n f h) (a-string cs g) = absurd (name-other z z′ t u n r q f h i j e (λ l x. let y : _≡_ {A = ℕ} 0 1 = cc in omega arith))
       on (a-name n f h) (lexical g x y) = absurd (name-other z z′ t u n r q f h i j e y)
       on (a-string cs f) (a-name l g h) = absurd (name-other z′ z u t l q r g h j i (sym e) (λ n x. let y : _≡_ {A = ℕ} 0 1 = cc in omega arith))
       on (a-string cs f) (a-string ds g) =
-          f ∙ ap string (same-string cs ds r q (tail-eq-of-cons-eq (sym (ap (λ x. bytesOf x ++ r) f) ∙ e ∙ ap (λ x. bytesOf x ++ q) g))) ∙ sym g
-      on (a-string cs f) (lexical g x y) = absurd (x [] (sym (g q k) ∙ ap lexed (sym e) ∙ ap (λ w. lexed (bytesOf w ++ r)) f))
+          f ∙ ap string (same-string cs ds r q (tail-eq-of-cons-eq (sym (ap (λ x. tokenBytes x ++ r) f) ∙ e ∙ ap (λ x. tokenBytes x ++ q) g))) ∙ sym g
+      on (a-string cs f) (lexical g x y) = absurd (x [] (sym (g q k) ∙ ap lexed (sym e) ∙ ap (λ w. lexed (tokenBytes w ++ r)) f))
       on (lexical f x y) (a-name l g h) = absurd (name-other z′ z u t l q r g h j i (sym e) y)
-      on (lexical f x y) (a-string ds g) = absurd (x [] (sym (f r m) ∙ ap lexed e ∙ ap (λ w. lexed (bytesOf w ++ q)) g))
+      on (lexical f x y) (a-string ds g) = absurd (x [] (sym (f r m) ∙ ap lexed e ∙ ap (λ w. lexed (tokenBytes w ++ q)) g))
       on (lexical f x y) (lexical g x′ y′) = sym (f r m) ∙ ap lexed e ∙ g q k
 
 -- a walk that was taken, and its first step
-pub first-step : (s z : Progress) (t : Token) (ts : List Token) → walk stepRules s (t ∷ ts) ≡ some z → (s′ : Progress) × (stepRules s t ≡ some s′) × (walk stepRules s′ ts ≡ some z)
+pub first-step : (s z : Progress) (t : TextToken) (ts : List TextToken) → walk stepRules s (t ∷ ts) ≡ some z → (s′ : Progress) × (stepRules s t ≡ some s′) × (walk stepRules s′ ts ≡ some z)
 first-step s z t ts e = on (cases (stepRules s t))
   where
     on : (stepRules s t ≡ none) ⊎ ((s′ : Progress) × (stepRules s t ≡ some s′)) → (s′ : Progress) × (stepRules s t ≡ some s′) × (walk stepRules s′ ts ≡ some z)
@@ -130,29 +130,29 @@ end-no-token x g y e h s i =
     let w = ending-was e x [] (sym (append-nil x)) in
     gap-no-end (w .3 .0) h (w .1) y (w .3 .1) s (sym (w .2) ∙ i)
 
-pub token-solid : (s s′ : Progress) (t : Token) (r : List ℕ) → stepRules s t ≡ some s′ → Solid (bytesOf t ++ r)
-token-solid s s′ t r h = solid-append (bytesOf t) r (solid t (taken-is-fine s s′ t h .proper))
+pub token-solid : (s s′ : Progress) (t : TextToken) (r : List ℕ) → stepRules s t ≡ some s′ → Solid (tokenBytes t ++ r)
+token-solid s s′ t r h = solid-append (tokenBytes t) r (solid t (taken-is-fine s s′ t h .proper))
 
 -- two spellings of one text
-pub one-row : {ts us : List Token} {x y : List ℕ} → Spelled ts x → Spelled us y → (s z z′ : Progress) → x ≡ y → walk stepRules s ts ≡ some z → walk stepRules s us ≡ some z′ → ts ≡ us
+pub one-row : {ts us : List TextToken} {x y : List ℕ} → TypedAs ts x → TypedAs us y → (s z z′ : Progress) → x ≡ y → walk stepRules s ts ≡ some z → walk stepRules s us ≡ some z′ → ts ≡ us
 one-row (end e) (end f) s z z′ i j k = refl
 one-row (end {e = x} e) (token {g = g} {rest = r} {ts = us} t h m sp) s z z′ i j k =
     let n = first-step s z′ t us k in
-    absurd (end-no-token x g (bytesOf t ++ r) e h (token-solid s (n .0) t r (n .1)) i)
+    absurd (end-no-token x g (tokenBytes t ++ r) e h (token-solid s (n .0) t r (n .1)) i)
 one-row (token {g = g} {rest = r} {ts = ts} t h m sp) (end {e = y} e) s z z′ i j k =
     let n = first-step s z t ts j in
-    absurd (end-no-token y g (bytesOf t ++ r) e h (token-solid s (n .0) t r (n .1)) (sym i))
+    absurd (end-no-token y g (tokenBytes t ++ r) e h (token-solid s (n .0) t r (n .1)) (sym i))
 one-row (token {g = g} {rest = r} {ts = ts} t h m sp) (token {g = g′} {rest = q} {ts = us} u h′ m′ sp′) s z z′ i j k =
     let n = first-step s z t ts j in
     let n′ = first-step s z′ u us k in
-    let e = gap-one h h′ (bytesOf t ++ r) (bytesOf u ++ q) (token-solid s (n .0) t r (n .1)) (token-solid s (n′ .0) u q (n′ .1)) i in
+    let e = gap-one h h′ (tokenBytes t ++ r) (tokenBytes u ++ q) (token-solid s (n .0) t r (n .1)) (token-solid s (n′ .0) u q (n′ .1)) i in
     let same : t ≡ u = one-token s (n .0) (n′ .0) t u r q (n .1) (n′ .1) m m′ e in
-    let rest-same : r ≡ q = append-cancel-left (bytesOf u) r q (ap (λ y. bytesOf y ++ r) (sym same) ∙ e) in
+    let rest-same : r ≡ q = append-cancel-left (tokenBytes u) r q (ap (λ y. tokenBytes y ++ r) (sym same) ∙ e) in
     let there : n .0 ≡ n′ .0 = same-state s (n .0) (n′ .0) t u same (n .1) (n′ .1) in
     let more = one-row sp sp′ (n′ .0) z z′ rest-same (subst (λ y. walk stepRules y ts ≡ some z) there (n .2)) (n′ .2) in
     cc
   where
-    same-state : (s a b : Progress) (t u : Token) → t ≡ u → stepRules s t ≡ some a → stepRules s u ≡ some b → a ≡ b
+    same-state : (s a b : Progress) (t u : TextToken) → t ≡ u → stepRules s t ≡ some a → stepRules s u ≡ some b → a ≡ b
     same-state s a b t u e i j = let f : _≡_ {A = Option Progress} (some a) (some b) = sym i ∙ ap (stepRules s) e ∙ j in cc
 
 pub one-rules : OneRules
@@ -160,4 +160,4 @@ one-rules text r q h k =
     let c = reads-rules .complete (h .tokens) r (h .grammatical) in
     let d = reads-rules .complete (k .tokens) q (k .grammatical) in
     let same = one-row (h .spelled) (k .spelled) beginning (c .last) (d .last) refl (c .walked) (d .walked) in
-    writes-one Token Rules rules RulesAre Within reads-rules (k .tokens) r q (subst (λ ts. RulesAre ts r) same (h .grammatical)) (k .grammatical)
+    writes-one TextToken Rules rules RulesAre WithinLimits reads-rules (k .tokens) r q (subst (λ ts. RulesAre ts r) same (h .grammatical)) (k .grammatical)

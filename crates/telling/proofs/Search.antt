@@ -7,7 +7,7 @@ use Prim.Native.Nat.{ℕ, zero, suc, _+_, _≤_, _<_}
 use native.Mathlib.Omega.{arith}
 use native.Mathlib.Decide.{decLe, decLt, ℕ-discrete}
 use lib.ListN.{length}
-use Rattle.notation.specs.Tokens.{Mark, plain, left, right, Token, nonterminal, value, attribute, name, start-tag, end-tag, empty-tag, string, word, Word, CHAR, ECHO, ECHO-OFF, REJECT, PRINT, IF, THEN, ELSE, BEGIN, END, AND, OR, NOT, EMPTY, sign, Sign, DEFINED, ASSIGNED, OPEN, CLOSE, BRACE, UNBRACE, DOT, BAR, STAR, SEMICOLON, EQUALS}
+use Rattle.notation.specs.Tokens.{Dollar, plain, left, right, TextToken, nonterminal, value, attribute, name, start-tag, end-tag, empty-tag, string, word, Keyword, CHAR, ECHO, ECHO-OFF, REJECT, PRINT, IF, THEN, ELSE, BEGIN, END, AND, OR, NOT, EMPTY, sign, Sign, DEFINED, ASSIGNED, OPEN, CLOSE, BRACE, UNBRACE, DOT, BAR, STAR, SEMICOLON, EQUALS}
 use Rattle.reading.specs.Tests.{both?, either?}
 
 -- some number below n
@@ -53,7 +53,7 @@ lists? (suc n) b P d = on (d []) (below? b (λ x. (l : List ℕ) × Bounded n b 
         out (x ∷ l, h, q) = e (x, h .0, (l, h .1, q))
 
 -- the numbers, names and strings of tokens are bounded
-abbrev pub Good : Token → Type 0
+abbrev pub Good : TextToken → Type 0
 Good (nonterminal n) = n < 100
 Good (value n) = n < 100
 Good (attribute m a) = a < 100
@@ -65,7 +65,7 @@ Good (string cs) = Bounded 255 0x110000 cs
 Good (word w) = Unit {0}
 Good (sign s) = Unit {0}
 
-wordAt : ℕ → Word
+wordAt : ℕ → Keyword
 wordAt zero = CHAR
 wordAt (suc zero) = ECHO
 wordAt (suc (suc zero)) = ECHO-OFF
@@ -81,7 +81,7 @@ wordAt (suc (suc (suc (suc (suc (suc (suc (suc (suc (suc (suc zero))))))))))) = 
 wordAt (suc (suc (suc (suc (suc (suc (suc (suc (suc (suc (suc (suc zero)))))))))))) = NOT
 wordAt (suc (suc (suc (suc (suc (suc (suc (suc (suc (suc (suc (suc (suc n))))))))))))) = EMPTY
 
-word-number : (x : Word) → (i : ℕ) × (i < 14) × (wordAt i ≡ x)
+word-number : (x : Keyword) → (i : ℕ) × (i < 14) × (wordAt i ≡ x)
 unfolding wordAt
 word-number CHAR = (0, omega arith, refl)
 word-number ECHO = (1, omega arith, refl)
@@ -125,23 +125,23 @@ sign-number STAR = (8, omega arith, refl)
 sign-number SEMICOLON = (9, omega arith, refl)
 sign-number EQUALS = (10, omega arith, refl)
 
-markAt : ℕ → Mark
+markAt : ℕ → Dollar
 markAt zero = plain
 markAt (suc zero) = left
 markAt (suc (suc n)) = right
 
-mark-number : (x : Mark) → (i : ℕ) × (i < 3) × (markAt i ≡ x)
+mark-number : (x : Dollar) → (i : ℕ) × (i < 3) × (markAt i ≡ x)
 unfolding markAt
 mark-number plain = (0, omega arith, refl)
 mark-number left = (1, omega arith, refl)
 mark-number right = (2, omega arith, refl)
 
 -- some token
-module _ (P : Token → Type 0) (d : (t : Token) → Dec (P t)) where
-  word? : Dec ((w : Word) × P (word w))
+module _ (P : TextToken → Type 0) (d : (t : TextToken) → Dec (P t)) where
+  word? : Dec ((w : Keyword) × P (word w))
   word? = on (below? 14 (λ i. P (word (wordAt i))) (λ i. d (word (wordAt i))))
     where
-      on : Dec ((i : ℕ) × (i < 14) × P (word (wordAt i))) → Dec ((w : Word) × P (word w))
+      on : Dec ((i : ℕ) × (i < 14) × P (word (wordAt i))) → Dec ((w : Keyword) × P (word w))
       on (yes h) = yes (wordAt (h .0), h .2)
       on (no h) = no (λ x. let n = word-number (x .0) in h (n .0, n .1, subst (λ w. P (word w)) (sym (n .2)) (x .1)))
 
@@ -152,24 +152,24 @@ module _ (P : Token → Type 0) (d : (t : Token) → Dec (P t)) where
       on (yes h) = yes (signAt (h .0), h .2)
       on (no h) = no (λ x. let n = sign-number (x .0) in h (n .0, n .1, subst (λ w. P (sign w)) (sym (n .2)) (x .1)))
 
-  attribute? : Dec ((m : Mark) × (a : ℕ) × (a < 100) × P (attribute m a))
+  attribute? : Dec ((m : Dollar) × (a : ℕ) × (a < 100) × P (attribute m a))
   attribute? = on (below? 3 (λ i. (a : ℕ) × (a < 100) × P (attribute (markAt i) a)) (λ i. below? 100 (λ a. P (attribute (markAt i) a)) (λ a. d (attribute (markAt i) a))))
     where
-      on : Dec ((i : ℕ) × (i < 3) × ((a : ℕ) × (a < 100) × P (attribute (markAt i) a))) → Dec ((m : Mark) × (a : ℕ) × (a < 100) × P (attribute m a))
+      on : Dec ((i : ℕ) × (i < 3) × ((a : ℕ) × (a < 100) × P (attribute (markAt i) a))) → Dec ((m : Dollar) × (a : ℕ) × (a < 100) × P (attribute m a))
       on (yes h) = yes (markAt (h .0), h .2 .0, h .2 .1, h .2 .2)
       on (no h) = no (λ x. let n = mark-number (x .0) in h (n .0, n .1, (x .1, x .2, subst (λ m. P (attribute m (x .1))) (sym (n .2)) (x .3))))
 
-  pub token? : Dec ((t : Token) × Good t × P t)
+  pub token? : Dec ((t : TextToken) × Good t × P t)
   token? =
       on (below? 100 (λ n. P (nonterminal n)) (λ n. d (nonterminal n))) (below? 100 (λ n. P (value n)) (λ n. d (value n))) attribute?
       (lists? 15 256 (λ n. P (name n)) (λ n. d (name n))) (lists? 15 256 (λ n. P (start-tag n)) (λ n. d (start-tag n)))
       (lists? 15 256 (λ n. P (end-tag n)) (λ n. d (end-tag n))) (lists? 15 256 (λ n. P (empty-tag n)) (λ n. d (empty-tag n)))
       (lists? 255 0x110000 (λ n. P (string n)) (λ n. d (string n))) word? sign?
     where
-      on : Dec ((n : ℕ) × (n < 100) × P (nonterminal n)) → Dec ((n : ℕ) × (n < 100) × P (value n)) → Dec ((m : Mark) × (a : ℕ) × (a < 100) × P (attribute m a))
+      on : Dec ((n : ℕ) × (n < 100) × P (nonterminal n)) → Dec ((n : ℕ) × (n < 100) × P (value n)) → Dec ((m : Dollar) × (a : ℕ) × (a < 100) × P (attribute m a))
           → Dec ((n : List ℕ) × Bounded 15 256 n × P (name n)) → Dec ((n : List ℕ) × Bounded 15 256 n × P (start-tag n))
           → Dec ((n : List ℕ) × Bounded 15 256 n × P (end-tag n)) → Dec ((n : List ℕ) × Bounded 15 256 n × P (empty-tag n))
-          → Dec ((n : List ℕ) × Bounded 255 0x110000 n × P (string n)) → Dec ((w : Word) × P (word w)) → Dec ((s : Sign) × P (sign s)) → Dec ((t : Token) × Good t × P t)
+          → Dec ((n : List ℕ) × Bounded 255 0x110000 n × P (string n)) → Dec ((w : Keyword) × P (word w)) → Dec ((s : Sign) × P (sign s)) → Dec ((t : TextToken) × Good t × P t)
       on (yes h) b c e f g i j k l = yes (nonterminal (h .0), h .1, h .2)
       on (no a) (yes h) c e f g i j k l = yes (value (h .0), h .1, h .2)
       on (no a) (no b) (yes h) e f g i j k l = yes (attribute (h .0) (h .1), h .2, h .3)
@@ -182,7 +182,7 @@ module _ (P : Token → Type 0) (d : (t : Token) → Dec (P t)) where
       on (no a) (no b) (no c) (no e) (no f) (no g) (no i) (no j) (no k) (yes h) = yes (sign (h .0), tt, h .1)
       on (no a) (no b) (no c) (no e) (no f) (no g) (no i) (no j) (no k) (no l) = no out
         where
-          out : (t : Token) × Good t × P t → ⊥
+          out : (t : TextToken) × Good t × P t → ⊥
           out (nonterminal n, h, p) = a (n, h, p)
           out (value n, h, p) = b (n, h, p)
           out (attribute m x, h, p) = c (m, x, h, p)

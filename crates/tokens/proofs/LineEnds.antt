@@ -19,7 +19,7 @@ use Rattle.text.proofs.Shapes.{Range, range, shape1, shape2, shape3, shape4}
 use Rattle.tokens.specs.declared.Event.{Event}
 use Rattle.tokens.specs.Tokens.{Kind, start, end, empty, Ref, amp, lt, gt, apos, quot, crlf, cr, Tok, tag, ref, numeric, line, char, Good, openingBytes, closingBytes, spelled, stands, bytes, eventOf}
 use Rattle.tokens.specs.Stream.{Reads, flat, AllGood, AllShort, Followed, AllWhole, eventsAt}
-use Rattle.tokens.specs.LineEnds.{normalAfter, normal, NoCR, Handed, a-tag, a-character, handed, allHanded, TranslatedTo, Translated}
+use Rattle.tokens.specs.LineEnds.{normalAfter, normal, NoCR, Handed, a-tag, a-character, handedOn, allHanded, TranslatedTo, Translated}
 use Rattle.text.proofs.Shapes.{cons≢[]}
 use Rattle.tokens.proofs.Theory.{utf8-cons}
 use Rattle.tokens.proofs.Runs.{all-append}
@@ -256,7 +256,7 @@ all-unix-said : (ts : List Tok) → map said ts ≡ map said (map unix ts)
 all-unix-said [] = refl
 all-unix-said (t ∷ ts) = ap₂ (λ (x : Handed) (xs : List Handed). x ∷ xs) (unix-said t) (all-unix-said ts)
 
-hands : (t : Tok) (s : List ℕ) (at : ℕ) (r : List ℕ) → drop at s ≡ bytes t ++ r → handed s (eventOf at t) ≡ said t
+hands : (t : Tok) (s : List ℕ) (at : ℕ) (r : List ℕ) → drop at s ≡ bytes t ++ r → handedOn s (eventOf at t) ≡ said t
 hands (tag start n b) s at r e = ap (a-tag start) (name-place start s at n b r e)
 hands (tag end n b) s at r e = ap (a-tag end) (name-place end s at n b r e)
 hands (tag empty n b) s at r e = ap (a-tag empty) (name-place empty s at n b r e)

@@ -17,7 +17,7 @@ use Rattle.text.specs.Names.{All}
 use Rattle.text.specs.Numerals.{digitValue, Base, decimal, hex, radix, digitBelow, Digits, valueFrom, valueOf}
 use Rattle.text.proofs.Shapes.{cons≢[], char-low, char-most}
 use Rattle.text.proofs.NumeralLaws.{value-append, value-grows}
-use Rattle.tokens.specs.Inner.{cutAt, Opened, Fewest}
+use Rattle.tokens.specs.Inner.{cutAt, OpensNumeric, Fewest}
 use Rattle.tokens.specs.Tokens.{crlf, Tok, numeric, Good, baseMark, bytes, Means}
 use Rattle.tokens.specs.declared.Event.the-variants.{Character}
 use Rattle.tokens.specs.declared.Answer.the-variants.{Token, Begun, Bad}
@@ -209,7 +209,7 @@ no-mark-in decimal f from n v =
     subst (λ (l : List ℕ). NoMark decimal (l ++ v)) (sym (drop-cons f from 0 (w .0))) (w .1)
 no-mark-in hex f from n v = tt
 
-module _ (f : List ℕ) (at from r : ℕ) (O : Opened f from r) (i n : ℕ) (C : Counted f from r i n) where
+module _ (f : List ℕ) (at from r : ℕ) (O : OpensNumeric f from r) (i n : ℕ) (C : Counted f from r i n) where
   base-digits : Digits (O .base) (C .run)
   base-digits = subst (λ (x : ℕ). All (digitBelow x) (C .run)) (O .radix-is) (C .pass)
 
@@ -333,7 +333,7 @@ begun-number f at l e e′ =
     begun f at (numeric decimal (57 ∷ [])) ((refl, tt), inl refl) (no-line (numeric decimal (57 ∷ [])) crlf refl)
     (57 ∷ 59 ∷ [], ap (λ (r : List ℕ). r ++ (57 ∷ 59 ∷ [])) (sym s), cons≢[]) (omega arith)
 
-pub opened-hex : (f : List ℕ) → 3 ≤ length f → getD f 0 0 ≡ 38 → getD f 1 0 ≡ 35 → getD f 2 0 ≡ 120 → Opened f 3 16
+pub opened-hex : (f : List ℕ) → 3 ≤ length f → getD f 0 0 ≡ 38 → getD f 1 0 ≡ 35 → getD f 2 0 ≡ 120 → OpensNumeric f 3 16
 opened-hex f l e e′ e″ =
     record {
       base = hex;
@@ -343,7 +343,7 @@ opened-hex f l e e′ e″ =
       no-mark = λ p. absurd (let z : _≡_ {A = ℕ} 0 1 = cc in omega arith);
     }
 
-pub opened-decimal : (f : List ℕ) → 3 ≤ length f → getD f 0 0 ≡ 38 → getD f 1 0 ≡ 35 → (getD f 2 0 ≡ 120 → ⊥) → Opened f 2 10
+pub opened-decimal : (f : List ℕ) → 3 ≤ length f → getD f 0 0 ≡ 38 → getD f 1 0 ≡ 35 → (getD f 2 0 ≡ 120 → ⊥) → OpensNumeric f 2 10
 opened-decimal f l e e′ n =
     record {
       base = decimal;
@@ -353,7 +353,7 @@ opened-decimal f l e e′ n =
       no-mark = λ p. (omega arith, n);
     }
 
-pub opened-within : (f : List ℕ) (from r : ℕ) → Opened f from r → from ≤ length f
+pub opened-within : (f : List ℕ) (from r : ℕ) → OpensNumeric f from r → from ≤ length f
 opened-within f from r O = omega (arith, ap length (O .opened), length-append (baseMark (O .base)) (drop from f), O .place)
 
 -- the next number is far from the largest of a machine's
@@ -362,7 +362,7 @@ product-most n r m (inl e) = subst (λ (x : ℕ). n * x + x ≤ 17825792) (sym e
 product-most n r m (inr e) = subst (λ (x : ℕ). n * x + x ≤ 17825792) (sym e) (omega arith)
 
 -- the base of a reference that is opened
-pub either-base : (f : List ℕ) (from r : ℕ) → Opened f from r → (r ≡ 10) ⊎ (r ≡ 16)
+pub either-base : (f : List ℕ) (from r : ℕ) → OpensNumeric f from r → (r ≡ 10) ⊎ (r ≡ 16)
 either-base f from r O = go (O .base) (O .radix-is)
   where
     go : (k : Base) → r ≡ radix k → (r ≡ 10) ⊎ (r ≡ 16)

@@ -19,7 +19,7 @@ use Rattle.tokens.specs.declared.Event.the-variants.{Start, End, Empty, 
 use Rattle.tokens.specs.declared.Answer.{Answer}
 use Rattle.tokens.specs.declared.Answer.the-variants.{Token, Waiting, Begun, Bad}
 use Rattle.tokens.specs.Tokens.{Ref, amp, lt, gt, apos, quot, crlf, ref, spelled, stands, front, Means}
-use Rattle.tokens.specs.Inner.{Run, cutAt, Opened, Fewest}
+use Rattle.tokens.specs.Inner.{PassUpTo, cutAt, OpensNumeric, Fewest}
 use Rattle.tokens.proofs.Runs.{Going, going-none, going-more, going-stop, going-end}
 use Rattle.tokens.proofs.Reading.{Tag, tag-of, open-cut, open-start, open-slash, open-empty, open-bad, open-bad-slash, open-none, end-cut, end-token, end-bad, end-none, begun-open, begun-end, char-token, char-begun, char-bad, greater-bad, begun-none, spelled-most, starts-length, begins-length, begun-amp, cr-waits, cr-lf, cr-alone, ref-bad, each-ref}
 use Rattle.tokens.proofs.Theory.{either, none-of, stop-59, whole, begun, no-line}
@@ -96,16 +96,16 @@ module _ (f : List ℕ) (k : ℕ) (below : (c : ℕ) → Char c → c < k) where
 
 -- where bytes that pass a test stop
 module _ (p : ℕ → Bool) (f : List ℕ) (at : ℕ) where
-  go-on : (left i : ℕ) → Going p f at i → length f ≤ i + left → (to : ℕ) × Run p f at to
+  go-on : (left i : ℕ) → Going p f at i → length f ≤ i + left → (to : ℕ) × PassUpTo p f at to
   go-on zero i g h = (i, going-end p f at i g (omega arith))
   go-on (suc left) i g h = by (λ g′. go-on left (i + 1) g′ (omega arith)) (decided (decLt i (length f))) (p (getD f i 0)) refl
     where
-      by : (Going p f at (i + 1) → (to : ℕ) × Run p f at to) → Decided (i < length f) → (b : Bool) → p (getD f i 0) ≡ b → (to : ℕ) × Run p f at to
+      by : (Going p f at (i + 1) → (to : ℕ) × PassUpTo p f at to) → Decided (i < length f) → (b : Bool) → p (getD f i 0) ≡ b → (to : ℕ) × PassUpTo p f at to
       by next (inr n) b e = (i, going-end p f at i g (omega arith))
       by next (inl l) true e = next (going-more p f at i g l e)
       by next (inl l) false e = (i, going-stop p f at i g l e)
 
-  some-stop : at ≤ length f → (to : ℕ) × Run p f at to
+  some-stop : at ≤ length f → (to : ℕ) × PassUpTo p f at to
   some-stop h = go-on (length f) at (going-none p f at h) (omega arith)
 
 -- the front f
@@ -171,7 +171,7 @@ module _ (f : List ℕ) (at : ℕ) (short : length f ≤ 32) where
       try x (inr (inr a)) next = next a
 
   -- the digits from i on
-  module _ (from r : ℕ) (O : Opened f from r) where
+  module _ (from r : ℕ) (O : OpensNumeric f from r) where
     cut-read : (i n : ℕ) → Counted f from r i n → length f ≤ i → Read
     cut-read i n C h =
         let (k, F, few) = some-fewest (O .base) n (C .small) in

@@ -15,7 +15,7 @@ use Rattle.text.specs.Chars.{Char, utf8, Starts, Begins, Apart, DecodedIs}
 use Rattle.text.specs.declared.Decoded.{Decoded}
 use Rattle.text.specs.Names.{nameFirst, nameByte, blank, All, Name}
 use Rattle.text.proofs.Shapes.{front1, front2, front3, none-left, lead, range, shape1, shape2, shape3, shape4, cons≢[]}
-use Rattle.tokens.specs.Inner.{Stops, Run, WordIs, cutAt}
+use Rattle.tokens.specs.Inner.{Stops, PassUpTo, WordIs, cutAt}
 use Rattle.tokens.specs.Tokens.{Kind, start, end, empty, Ref, amp, lt, gt, apos, quot, crlf, cr, Tok, tag, ref, line, char, Good, openingBytes, closingBytes, spelled, stands, bytes, tagEvent, BeginsOne, Means, front}
 use Rattle.tokens.specs.declared.Word.{Word}
 use Rattle.tokens.specs.declared.Word.the-variants.{Whole, No}
@@ -97,7 +97,7 @@ pub record Tag (f : List ℕ) (from to close : ℕ) : Type 0 where
   pub ends : Stops nameByte (gap ++ drop close f)
   pub rests : Stops blank (drop close f)
 
-pub tag-of : (f : List ℕ) (from to close : ℕ) → from < length f → nameFirst (getD f from 0) ≡ true → Run nameByte f (from + 1) to → Run blank f to close → Tag f from to close
+pub tag-of : (f : List ℕ) (from to close : ℕ) → from < length f → nameFirst (getD f from 0) ≡ true → PassUpTo nameByte f (from + 1) to → PassUpTo blank f to close → Tag f from to close
 tag-of f from to close h k r s =
     record {
       name = getD f from 0 ∷ r .run;

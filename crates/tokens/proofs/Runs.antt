@@ -11,7 +11,7 @@ use lib.ListN.{length, getD, drop, length-append, drop-of-length-le}
 use lib.Seq.{drop-cons}
 use Rattle.text.specs.Names.{nameByte, blank, All}
 use Rattle.text.proofs.NameLaws.{blank-stops}
-use Rattle.tokens.specs.Inner.{Stops, Run}
+use Rattle.tokens.specs.Inner.{Stops, PassUpTo}
 
 -- a run on its way: what a loop over it keeps
 pub record Going (p : ℕ → Bool) (f : List ℕ) (at i : ℕ) : Type 0 where
@@ -50,13 +50,13 @@ module _ (p : ℕ → Bool) (f : List ℕ) (at : ℕ) where
   stops-end : (i : ℕ) → length f ≤ i → Stops p (drop i f)
   stops-end i h = rw (drop-of-length-le f h) tt
 
-  stopped : (i : ℕ) → Going p f at i → Stops p (drop i f) → Run p f at i
+  stopped : (i : ℕ) → Going p f at i → Stops p (drop i f) → PassUpTo p f at i
   stopped i g s = record { run = g .run; pass = g .pass; split = g .split; count = g .count; within = g .within; stops = s }
 
-  pub going-stop : (i : ℕ) → Going p f at i → i < length f → p (getD f i 0) ≡ false → Run p f at i
+  pub going-stop : (i : ℕ) → Going p f at i → i < length f → p (getD f i 0) ≡ false → PassUpTo p f at i
   going-stop i g h k = stopped i g (stops-at i h k)
 
-  pub going-end : (i : ℕ) → Going p f at i → length f ≤ i → Run p f at i
+  pub going-end : (i : ℕ) → Going p f at i → length f ≤ i → PassUpTo p f at i
   going-end i g h = stopped i g (stops-end i h)
 
 -- two splits of one list into bytes that pass and what stops are the same

@@ -27,7 +27,7 @@ Stops p [] = Unit {0}
 Stops p (x ∷ l) = p x ≡ false
 
 -- the bytes of f from `at` on that pass, up to `to`, where they stop
-pub record Run (p : ℕ → Bool) (f : List ℕ) (at to : ℕ) : Type 0 where
+pub record PassUpTo (p : ℕ → Bool) (f : List ℕ) (at to : ℕ) : Type 0 where
   pub run : List ℕ
   pub pass : All p run
   pub split : drop at f ≡ run ++ drop to f
@@ -50,7 +50,7 @@ abbrev pub cutAt : ℕ → Answer
 cutAt n = pickAnswer (ltb n longestToken) Answer.Begun Long
 
 -- f starts with what opens a reference by number, its digits are of the base r, and they come next, from `from` on
-pub record Opened (f : List ℕ) (from r : ℕ) : Type 0 where
+pub record OpensNumeric (f : List ℕ) (from r : ℕ) : Type 0 where
   pub base : Base
   pub radix-is : r ≡ radix base
   pub place : from ≡ 2 + length (baseMark base)

@@ -30,15 +30,15 @@ pub data Handed : Type 0 where
   a-tag : Kind → List ℕ → Handed
   a-character : ℕ → Bool → Handed
 
-abbrev pub handed : List ℕ → Event → Handed
-handed s (Start from len) = a-tag start (take len (drop from s))
-handed s (End from len) = a-tag end (take len (drop from s))
-handed s (Empty from len) = a-tag empty (take len (drop from s))
-handed s (Character c literal) = a-character c literal
+abbrev pub handedOn : List ℕ → Event → Handed
+handedOn s (Start from len) = a-tag start (take len (drop from s))
+handedOn s (End from len) = a-tag end (take len (drop from s))
+handedOn s (Empty from len) = a-tag empty (take len (drop from s))
+handedOn s (Character c literal) = a-character c literal
 
 abbrev pub allHanded : List ℕ → List Event → List Handed
 allHanded s [] = []
-allHanded s (e ∷ es) = handed s e ∷ allHanded s es
+allHanded s (e ∷ es) = handedOn s e ∷ allHanded s es
 
 -- the normalised bytes have no CR, they are read to their end as tokens too, and what is handed on is the same, references included
 pub record TranslatedTo (s : List ℕ) (es : List Event) : Type 0 where

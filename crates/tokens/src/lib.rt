@@ -5,7 +5,7 @@ ghost use Prim.Native.Nat.{_≤_};
 ghost use lib.ListN.{length, getD};
 ghost use Rattle.text.specs.Names.{nameByte, blank};
 ghost use Rattle.tokens.specs.Tokens.{Means, front};
-ghost use Rattle.tokens.specs.Inner.{Front, Run, WordIs, cutAt, Opened, Fewest};
+ghost use Rattle.tokens.specs.Inner.{Front, PassUpTo, WordIs, cutAt, OpensNumeric, Fewest};
 
 // A place in a stream.
 pub struct Cursor {
@@ -158,7 +158,7 @@ fn cut(len: usize) -> Answer
 // Where the name that goes on at `from` ends.
 fn name_end(f: &[u8], from: usize) -> usize
     requires { ⌜ from ≤ length (now f) ⌝ }
-    ensures { λ r. ⌜ Run nameByte (now (f .entry)) from r ⌝ }
+    ensures { λ r. ⌜ PassUpTo nameByte (now (f .entry)) from r ⌝ }
 {
     let mut i = from;
     while i < f.len() {
@@ -174,7 +174,7 @@ fn name_end(f: &[u8], from: usize) -> usize
 // Where the white space from `from` on ends.
 fn blank_end(f: &[u8], from: usize) -> usize
     requires { ⌜ from ≤ length (now f) ⌝ }
-    ensures { λ r. ⌜ Run blank (now (f .entry)) from r ⌝ }
+    ensures { λ r. ⌜ PassUpTo blank (now (f .entry)) from r ⌝ }
 {
     let mut i = from;
     while i < f.len() {
@@ -239,7 +239,7 @@ fn numeric(f: &[u8], at: usize) -> Answer
 // Its digits, from `from` on, up to ; or to the end of f. A number past the last character is none at once: it would only grow, and in the end wrap.
 fn number(f: &[u8], at: usize, from: usize, radix: u32) -> Answer
     requires { ⌜ Front (now f) at ⌝ }
-    requires { ⌜ Opened (now f) from radix ⌝ }
+    requires { ⌜ OpensNumeric (now f) from radix ⌝ }
     ensures { λ r. ⌜ Means (now (f .entry)) at r ⌝ }
 {
     let mut i = from;

@@ -15,7 +15,7 @@ use Rattle.expressions.specs.Count.{Count, mul, bit}
 use Rattle.layout.specs.Layout.{productionCount}
 use Rattle.layout.specs.Records.{nonterminalOf, tagNumberOf}
 use Rattle.trees.specs.Answers.{alikeBefore}
-use Rattle.trees.specs.Sums.{Zeros, Room, cells, cellOf, OneAlike, AllAlike, raised, TagsRaised}
+use Rattle.trees.specs.Sums.{Zeros, RoomForOne, cells, cellOf, OneAlike, AllAlike, raised, TagsRaised}
 use Rattle.limits.specs.Limits.{mostTags}
 use Rattle.expressions.specs.Grammar.{nonterminals}
 
@@ -80,7 +80,7 @@ module _ (s : List ℕ) where
   pub none-counted : (k : List ℕ) → Zeros k → CountedBefore s 0 k
   none-counted k z = record { low = λ i. omega (arith, z .each i); is = λ n u a b. z .each (cellOf n u) }
 
-  pub room-left : (q : ℕ) (k : List ℕ) → CountedBefore s q k → q < 255 → Room k
+  pub room-left : (q : ℕ) (k : List ℕ) → CountedBefore s q k → q < 255 → RoomForOne k
   room-left q k h b = record { each = λ i. omega (arith, h .low i) }
 
   pub counted-one : (q m t : ℕ) (k after : List ℕ) → CountedBefore s q k → m ≡ nonterminalOf s q → t ≡ tagNumberOf s q → OneAlike m t k after → CountedBefore s (q + 1) after

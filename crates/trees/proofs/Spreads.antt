@@ -24,7 +24,7 @@ use Rattle.trees.specs.declared.Tally.{Tally}
 use Rattle.trees.specs.Trees.{TreeAt, ContentAt}
 use Rattle.trees.specs.GrammarAt.{GrammarIs}
 use Rattle.trees.specs.Tally.{countOf, PastOf, Tallied}
-use Rattle.trees.specs.Sums.{cellOf, AllAlike, sumCells, raised, symbolOf, Raised, TagsRaised, PassedAs, EitherAs, Spread, CountedFrom}
+use Rattle.trees.specs.Sums.{cellOf, AllAlike, sumCells, raised, symbolOf, Raised, TagsRaised, PassedAs, UnionAs, Spread, CountedFrom}
 use Rattle.trees.proofs.Unique.{nodes-pos, by-kind-1, by-kind-2, by-kind-3, by-kind-4, by-kind-5, by-kind-6}
 use Rattle.trees.proofs.Grammars.{alike-there, member-alike, content-at}
 use Rattle.trees.proofs.Counts.{add-none, mul-none, mul-one, raised-add, through-either, out-of-both, into-both, out-of-star, into-star}
@@ -173,7 +173,7 @@ module _ (s : List ℕ) (p at j : ℕ) (n : Count) (before : List ℕ) where
       ∙ into-both n (null e) (last e j p) (first tags e y) (follow tags e j p y) (first tags f y) (follow tags f (j + atoms e) p y))
 
   pub alt-spread : (mid : List ℕ) (l : Onward) → Spread s p (at + 1) j n before mid l → (after : List ℕ) (r′ r : Onward) →
-      Spread s p (l .next) (l .atom) n mid after r′ → EitherAs (countOf (l .out)) r′ r → kindOf s at ≡ 4 → Spread s p at j n before after r
+      Spread s p (l .next) (l .atom) n mid after r′ → UnionAs (countOf (l .out)) r′ r → kindOf s at ≡ 4 → Spread s p at j n before after r
   alt-spread mid l sl after r′ r sr q k =
       join-spread mid l sl after n r′ sr alt r (q .next-is) (q .atom-is) (λ e f. refl) (λ e f. refl) (by-kind-4 s at k)
       (λ e f o u. q .out-is ∙ ap₂ add o u ∙ through-either n (null e) (null f) (last e j p) (last f (j + atoms e) p))

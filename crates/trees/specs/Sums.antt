@@ -23,7 +23,7 @@ use Rattle.trees.specs.Answers.{alikeBefore}
 pub record Zeros (memory : List ℕ) : Type 0 where
   pub each : (i : ℕ) → getD memory i 0 ≡ 0
 
-pub record Room (memory : List ℕ) : Type 0 where
+pub record RoomForOne (memory : List ℕ) : Type 0 where
   pub each : (i : ℕ) → getD memory i 0 < 255
 
 -- a cell for each nonterminal and tag
@@ -72,7 +72,7 @@ pub record PassedAs (here : Bool) (next atom-past : ℕ) (r : Onward) : Type 0 w
   pub atom-is : r .atom ≡ atom-past
 
 -- the parts of a union are behind
-pub record EitherAs (n : Count) (second r : Onward) : Type 0 where
+pub record UnionAs (n : Count) (second r : Onward) : Type 0 where
   pub out-is : countOf (r .out) ≡ add n (countOf (second .out))
   pub next-is : r .next ≡ second .next
   pub atom-is : r .atom ≡ second .atom

@@ -14,7 +14,7 @@ ghost use Rattle.trees.specs.Trees.{Trees};
 ghost use Rattle.trees.specs.Parsed.{RunsInside, NodeFits, ParsedAt, HasContent};
 ghost use Rattle.trees.specs.Tally.{countOf, LeafOf, EmptyOf, StarOf, JoinOf, TreeIn, Tallied};
 ghost use Rattle.trees.specs.Answers.{AlikeIs, CanBeIs, CharacterIs, AtomsIs};
-ghost use Rattle.trees.specs.Sums.{Zeros, Room, cells, OneAlike, AllAlike, sumCells, raised, TagsRaised, PassedAs, EitherAs, Spread, CountedFrom};
+ghost use Rattle.trees.specs.Sums.{Zeros, RoomForOne, cells, OneAlike, AllAlike, sumCells, raised, TagsRaised, PassedAs, UnionAs, Spread, CountedFrom};
 use layout::Layout;
 use layout::argument_of;
 use layout::first_node_of;
@@ -362,7 +362,7 @@ pub fn walk_tree(s: &[u8], l: Layout, p: usize, at: usize, left: usize, j: usize
 // One more production of nonterminal m and tag t. No sheet that fits has other numbers.
 fn one_alike(known: &mut [u8], m: usize, t: usize)
     requires { ⌜ length (now known) ≡ cells ⌝ }
-    requires { ⌜ Room (now known) ⌝ }
+    requires { ⌜ RoomForOne (now known) ⌝ }
     ensures { λ _. ⌜ OneAlike m t (now (known .entry)) (now (known .exit)) ⌝ }
 {
     if m >= NONTERMINALS {
@@ -444,7 +444,7 @@ fn passed(here: bool, next: usize, atom: usize) -> Onward
 
 // Both parts of a union are behind: n lead to the end of the first.
 fn either(n: Number, second: Onward) -> Onward
-    ensures { λ r. ⌜ EitherAs (countOf n) second r ⌝ }
+    ensures { λ r. ⌜ UnionAs (countOf n) second r ⌝ }
 {
     let m = second.out;
     let out = plus(n, m);

@@ -52,7 +52,7 @@ abbrev pub modeOf : Stand → (stack area : List ℕ) → Mode
 modeOf t b d = modeBy (t .mode) t b d
 
 -- a run that stands in h over the stack b: it is open, fits the sheet, and its count is within the limit
-pub record Stands (a : Sheet) (h : Live) (b : List ℕ) : Type 0 where
+pub record RunStands (a : Sheet) (h : Live) (b : List ℕ) : Type 0 where
   pub count : h .count ≤ mostVisits
   pub is-open : h .closed ≡ notClosed
   pub shaped : Shaped (full h b)
@@ -61,7 +61,7 @@ pub record Stands (a : Sheet) (h : Live) (b : List ℕ) : Type 0 where
 -- what holds in each mode, before the stream's byte `past`: that a record began earlier, and what returns; and the number that refused it
 pub data HoldsIn (a : Sheet) (past : ℕ) (t : Stand) : ℕ → Type 0 where
   holds-between : t .waits ≡ 0 → HoldsIn a past t 0
-  holds-inside : t .first < past → t .before .depth ≡ 1 → Stands a (t .before) [] → HoldsIn a past t 1
+  holds-inside : t .first < past → t .before .depth ≡ 1 → RunStands a (t .before) [] → HoldsIn a past t 1
   holds-skipping : damaged (t .number) ≡ true → t .waits ≡ 0 → HoldsIn a past t 2
 
 -- the bytes are a sheet that passes, of the shape, with this tag for its records
@@ -80,7 +80,7 @@ pub record ReadyOn (a : Sheet) (g : Given) (part : List ℕ) (p : Place) (t : St
   pub room : p .put ≤ length out
   pub waits : t .waits ≤ length area
   pub long : stackWidth ≤ length stack
-  pub stands : Stands a (t .live) stack
+  pub stands : RunStands a (t .live) stack
   pub holds : HoldsIn a (g .base + p .at) t (t .mode)
 
 pub record Ready (s : List ℕ) (g : Given) (part : List ℕ) (p : Place) (t : Stand) (stack out area : List ℕ) : Type 0 where

@@ -25,7 +25,7 @@ use Rattle.live.specs.declared.Live.{Live}
 use Rattle.live.specs.Live.{full, SameBelow}
 use Rattle.steps.specs.declared.Stepped.{Stepped}
 use Rattle.steps.specs.Seen.{whole}
-use Rattle.steps.specs.Parts.{Over}
+use Rattle.steps.specs.Parts.{OverStack}
 use Rattle.steps.specs.Taken.{TakenAs}
 use Rattle.converter.specs.Inner.{NumberedAs}
 use Rattle.rescued.specs.Bytes.{entryWidth, entryBytes}
@@ -41,8 +41,8 @@ pub data ToldAs (rep : List ℕ) (told first last number : ℕ) (rep′ : List �
   entry : told < length rep / entryWidth → rep′ ≡ put true rep (entryWidth * told) (entryBytes (lost first last number)) → ToldAs rep told first last number rep′ true
 
 -- where a record that is dropped for good ends
-abbrev pub lastOf : (number end token : ℕ) → ℕ
-lastOf n end token = cond (eqb n 27) end token - 1
+abbrev pub droppedEnd : (number end token : ℕ) → ℕ
+droppedEnd n end token = cond (eqb n 27) end token - 1
 
 -- a record stops with the number n at a place
 pub data BrokenAs (t : Stand) (z : Live) (f n base len : ℕ) (p : Place) (rep rep′ : List ℕ) (r : Turn) : Type 0 where
@@ -55,7 +55,7 @@ pub data BrokenAs (t : Stand) (z : Live) (f n base len : ℕ) (p : Place) (rep r
   no-space : leavesOpen n ≡ false → damaged n ≡ false → ((n ≡ 27 → ⊥) → f < base + p .at) → length rep / entryWidth ≤ p .told →
       r ≡ stopping t 17 (p .at) (p .put) (p .told) (t .waits) → rep′ ≡ rep → BrokenAs t z f n base len p rep rep′ r
   closes : leavesOpen n ≡ false → damaged n ≡ false → ((n ≡ 27 → ⊥) → f < base + p .at) → p .told < length rep / entryWidth →
-      r ≡ stopping (betweenIn z) n (p .at) (p .put) (p .told + 1) (t .waits) → rep′ ≡ put true rep (entryWidth * p .told) (entryBytes (lost f (lastOf n (base + len) (base + p .at)) n)) →
+      r ≡ stopping (betweenIn z) n (p .at) (p .put) (p .told + 1) (t .waits) → rep′ ≡ put true rep (entryWidth * p .told) (entryBytes (lost f (droppedEnd n (base + len) (base + p .at)) n)) →
       BrokenAs t z f n base len p rep rep′ r
 
 -- whether a name is that of a tag, and whether a token begins a record
@@ -77,7 +77,7 @@ pub data RecordEnds (q : Stepped) (base : ℕ) (z : Live) (f len next : ℕ) (p 
 
 pub record RecordTokenAs (s : List ℕ) (base : ℕ) (z : Live) (f : ℕ) (part : List ℕ) (e : Event) (next : ℕ) (p : Place) (t : Stand) (b b′ out out′ area area′ rep rep′ : List ℕ) (r : Turn) : Type 0 where
   pub taking : Stepped
-  pub takes : Over (t .live) b b′ (TakenAs s part e (full (t .live) b) area (t .waits) (whole taking b′) area′)
+  pub takes : OverStack (t .live) b b′ (TakenAs s part e (full (t .live) b) area (t .waits) (whole taking b′) area′)
   pub ends : RecordEnds taking base z f (length part) next p t out out′ area′ rep rep′ r
 
 -- what another token came to
@@ -87,7 +87,7 @@ pub data OtherEnds (q : Stepped) (next : ℕ) (p : Place) (t : Stand) (r : Turn)
 
 pub record OtherTokenAs (s part : List ℕ) (e : Event) (next : ℕ) (p : Place) (t : Stand) (b b′ out out′ : List ℕ) (r : Turn) : Type 0 where
   pub taking : Stepped
-  pub takes : Over (t .live) b b′ (TakenAs s part e (full (t .live) b) out (p .put) (whole taking b′) out′)
+  pub takes : OverStack (t .live) b b′ (TakenAs s part e (full (t .live) b) out (p .put) (whole taking b′) out′)
   pub ends : OtherEnds taking next p t r
 
 -- reading resumes, or does not in this part

@@ -5,13 +5,13 @@ use mathlib.Core.List.{List, []}
 use mathlib.Core.Option.{Option, none, some}
 use Prim.Native.Nat.{ℕ}
 use native.Mathlib.Omega.{arith}
-use Rattle.notation.specs.Program.{Program}
+use Rattle.notation.specs.Program.{TextProgram}
 use Rattle.notation.specs.Rules.{Tree}
-use Rattle.notation.specs.Tokens.{Token}
+use Rattle.notation.specs.Tokens.{TextToken}
 use Rattle.programs.specs.Limits.{first, second}
 use Rattle.reading.specs.Statements.{Listing, stepStatements, valueOfList}
-use Rattle.reading.specs.Expressions.{pieceOf, unbraces, listing, fresh, Parsing, wants, stepExpression, valueOfContent}
-use Rattle.reading.specs.Rules.{Key, a-nonterminal, a-name, a-definition, an-open, a-close, a-brace, other, keyOf, Head, Progress, beginning, first-word, named, defined, own-front, wants-tag, tagged, within, closed, own-back, complete, stepKey, closes, parsing, stepRules, ruleOf}
+use Rattle.reading.specs.Expressions.{pieceOf, unbraces, listing, freshExpression, Parsing, wants, stepExpression, valueOfContent}
+use Rattle.reading.specs.Rules.{Key, a-nonterminal, a-name, a-definition, an-open, a-close, a-brace, other, keyOf, Head, Progress, beginning, first-word, named, defined, own-front, wants-tag, tagged, within, closed, own-back, complete, stepKey, closesContent, parsing, stepRules, ruleRead}
 use Rattle.beds.proofs.Beds.{none-some, some-same}
 use Rattle.mentions.proofs.Expressions.{unbraced}
 
@@ -105,23 +105,23 @@ not-inside (tagged f₀ u₀ h₀) k w = absurd (w refl)
 pub true-false : {B : Type 0} → true ≡ false → B
 true-false e = absurd (let z : _≡_ {A = ℕ} 0 1 = cc in omega arith)
 
-pub data CameFrom (t : Token) (x′ : Parsing) (f : Option Program) (u : List ℕ) (h : Head) (s : Progress) : Type 0 where
-  from-tag : s ≡ tagged f u h → wants true fresh [] ≡ x′ → CameFrom t x′ f u h s
+pub data CameFrom (t : TextToken) (x′ : Parsing) (f : Option TextProgram) (u : List ℕ) (h : Head) (s : Progress) : Type 0 where
+  from-tag : s ≡ tagged f u h → wants true freshExpression [] ≡ x′ → CameFrom t x′ f u h s
   from-inside : (x : Parsing) → s ≡ within x f u h → stepExpression x t ≡ some x′ → CameFrom t x′ f u h s
 
-module _ (t : Token) (x′ : Parsing) (f : Option Program) (u : List ℕ) (h : Head) where
+module _ (t : TextToken) (x′ : Parsing) (f : Option TextProgram) (u : List ℕ) (h : Head) where
   abbrev There : Progress
   There = within x′ f u h
 
   by-key : (s : Progress) → (atTag s ≡ true → ⊥) → stepKey s (keyOf t) ≡ some There → CameFrom t x′ f u h s
   by-key s w e = true-false (sym (ap leadsInside e) ∙ not-inside s (keyOf t) w)
 
-  by-list : {s : Progress} (o : Option Listing) (hold : Listing → Progress) (v : Option Program) (g : Program → Progress) → listing o hold (unbraces (pieceOf t) v g) ≡ some There
-      → ((q : Listing) → isInside (hold q) ≡ false) → ((p : Program) → isInside (g p) ≡ false) → CameFrom t x′ f u h s
+  by-list : {s : Progress} (o : Option Listing) (hold : Listing → Progress) (v : Option TextProgram) (g : TextProgram → Progress) → listing o hold (unbraces (pieceOf t) v g) ≡ some There
+      → ((q : Listing) → isInside (hold q) ≡ false) → ((p : TextProgram) → isInside (g p) ≡ false) → CameFrom t x′ f u h s
   by-list none hold v g e a b = let z = unbraced t v g There e in true-false (sym (ap isInside (z .behind)) ∙ b (z .program))
   by-list (some q) hold v g e a b = true-false (sym (ap isInside (some-same e)) ∙ a q)
 
-  opened-tag : (f₀ : Option Program) (u₀ : List ℕ) (h₀ : Head) (k : Key) → stepKey (tagged f₀ u₀ h₀) k ≡ some There → CameFrom t x′ f u h (tagged f₀ u₀ h₀)
+  opened-tag : (f₀ : Option TextProgram) (u₀ : List ℕ) (h₀ : Head) (k : Key) → stepKey (tagged f₀ u₀ h₀) k ≡ some There → CameFrom t x′ f u h (tagged f₀ u₀ h₀)
   opened-tag f₀ u₀ h₀ (a-nonterminal n) e = none-some e
   opened-tag f₀ u₀ h₀ (a-name v) e = none-some e
   opened-tag f₀ u₀ h₀ a-definition e = none-some e
@@ -134,7 +134,7 @@ module _ (t : Token) (x′ : Parsing) (f : Option Program) (u : List ℕ) (h : H
   opened-tag f₀ u₀ h₀ a-brace e = none-some e
   opened-tag f₀ u₀ h₀ other e = none-some e
 
-  closes-out : (k : Key) (o : Option (Option Tree)) (f₀ : Option Program) (u₀ : List ℕ) (h₀ : Head) → leadsInside (closes k o f₀ u₀ h₀) ≡ false
+  closes-out : (k : Key) (o : Option (Option Tree)) (f₀ : Option TextProgram) (u₀ : List ℕ) (h₀ : Head) → leadsInside (closesContent k o f₀ u₀ h₀) ≡ false
   closes-out (a-nonterminal n) o f₀ u₀ h₀ = refl
   closes-out (a-name v) o f₀ u₀ h₀ = refl
   closes-out a-definition o f₀ u₀ h₀ = refl
@@ -144,7 +144,7 @@ module _ (t : Token) (x′ : Parsing) (f : Option Program) (u : List ℕ) (h : H
   closes-out a-brace o f₀ u₀ h₀ = refl
   closes-out other o f₀ u₀ h₀ = refl
 
-  goes-inside : (x : Parsing) (f₀ : Option Program) (u₀ : List ℕ) (h₀ : Head) (o : Option Parsing) → stepExpression x t ≡ o → parsing o (closes (keyOf t) (valueOfContent x) f₀ u₀ h₀) f₀ u₀ h₀ ≡ some There
+  goes-inside : (x : Parsing) (f₀ : Option TextProgram) (u₀ : List ℕ) (h₀ : Head) (o : Option Parsing) → stepExpression x t ≡ o → parsing o (closesContent (keyOf t) (valueOfContent x) f₀ u₀ h₀) f₀ u₀ h₀ ≡ some There
       → CameFrom t x′ f u h (within x f₀ u₀ h₀)
   goes-inside x f₀ u₀ h₀ none s e = true-false (sym (ap leadsInside e) ∙ closes-out (keyOf t) (valueOfContent x) f₀ u₀ h₀)
   goes-inside x f₀ u₀ h₀ (some y) s e =
@@ -165,12 +165,12 @@ module _ (t : Token) (x′ : Parsing) (f : Option Program) (u : List ℕ) (h : H
   came-from (within x f₀ u₀ h₀) e = goes-inside x f₀ u₀ h₀ (stepExpression x t) refl e
   came-from (closed f₀ u₀ e₀ h₀) e = by-key (closed f₀ u₀ e₀ h₀) (λ w. true-false (sym w)) e
   came-from (own-back q f₀ u₀ e₀ h₀) e =
-      by-list (stepStatements second q t) (λ r. own-back r f₀ u₀ e₀ h₀) (valueOfList q) (λ p. complete (ruleOf f₀ (some p) u₀ e₀ h₀) h₀) e (λ r. refl) (λ p. refl)
+      by-list (stepStatements second q t) (λ r. own-back r f₀ u₀ e₀ h₀) (valueOfList q) (λ p. complete (ruleRead f₀ (some p) u₀ e₀ h₀) h₀) e (λ r. refl) (λ p. refl)
   came-from (complete d h₀) e = by-key (complete d h₀) (λ w. true-false (sym w)) e
 
 -- out of the parentheses: what stood between them
-module _ (t : Token) (x : Parsing) (f f′ : Option Program) (u u′ : List ℕ) (h h′ : Head) (e : Option Tree) where
-  closes-value : (k : Key) (o : Option (Option Tree)) → closes k o f u h ≡ some (closed f′ u′ e h′) → o ≡ some e
+module _ (t : TextToken) (x : Parsing) (f f′ : Option TextProgram) (u u′ : List ℕ) (h h′ : Head) (e : Option Tree) where
+  closes-value : (k : Key) (o : Option (Option Tree)) → closesContent k o f u h ≡ some (closed f′ u′ e h′) → o ≡ some e
   closes-value (a-nonterminal n) o s = none-some s
   closes-value (a-name v) o s = none-some s
   closes-value a-definition o s = none-some s
@@ -180,7 +180,7 @@ module _ (t : Token) (x : Parsing) (f f′ : Option Program) (u u′ : List ℕ)
   closes-value a-brace o s = none-some s
   closes-value other o s = none-some s
 
-  closing-value : (o : Option Parsing) → parsing o (closes (keyOf t) (valueOfContent x) f u h) f u h ≡ some (closed f′ u′ e h′) → valueOfContent x ≡ some e
+  closing-value : (o : Option Parsing) → parsing o (closesContent (keyOf t) (valueOfContent x) f u h) f u h ≡ some (closed f′ u′ e h′) → valueOfContent x ≡ some e
   closing-value none s = closes-value (keyOf t) (valueOfContent x) s
   closing-value (some y) s = true-false (ap leadsInside s)
 

@@ -9,9 +9,9 @@ use lib.ListN.{length, drop, getD, set, length-append, length-drop, length-set}
 use lib.Seq.{drop-drop, drop-cons, drop-at, set-at}
 use borrow.Author.Tests.{eq-eqb, ne-eqb}
 use Rattle.text.specs.Characters.{utf8s}
-use Rattle.notation.specs.Tokens.{string, bytesOf, all-in-quotes, StringOf}
+use Rattle.notation.specs.Tokens.{string, tokenBytes, all-in-quotes, StringOf}
 use Rattle.unquoting.specs.declared.Piece.{Piece}
-use Rattle.unquoting.specs.Unquoted.{quoted, all-quoted, unescaped, PieceIs, Unquoted, UnquotedIs}
+use Rattle.unquoting.specs.Unquoted.{quotedByte, all-quoted, unescaped, StringPieceIs, Unquoted, UnquotedIs}
 use Rattle.unquoting.proofs.Quoting.{Written, with-escape, plainly, written, string-same}
 
 if-so : (a b x y : ℕ) → a ≡ b → cond (eqb a b) x y ≡ x
@@ -44,7 +44,7 @@ module _ (x : List ℕ) (i : ℕ) (h : i < length x) where
   long = length-drop i x
 
   -- a \ and what stands behind it
-  pub piece-escaped : (b c : ℕ) → b ≡ getD x i 0 → b ≡ 92 → i + 1 < length x → c ≡ unescaped (getD x (i + 1) 0) → PieceIs (drop i x) (piece c 2)
+  pub piece-escaped : (b c : ℕ) → b ≡ getD x i 0 → b ≡ 92 → i + 1 < length x → c ≡ unescaped (getD x (i + 1) 0) → StringPieceIs (drop i x) (piece c 2)
   piece-escaped b c e f k g = record {
     onward = omega arith;
     inside = omega (arith, long, k);
@@ -55,7 +55,7 @@ module _ (x : List ℕ) (i : ℕ) (h : i < length x) where
       next : drop (suc i) x ≡ getD x (i + 1) 0 ∷ drop (suc (i + 1)) x
       next = let j : suc i ≡ i + 1 = omega arith in ap (λ (n : ℕ). drop n x) j ∙ drop-cons x (i + 1) 0 k
 
-      on-byte : (y : ℕ) (rest : List ℕ) → drop i x ≡ quoted y ++ rest → Written y → c ≡ y
+      on-byte : (y : ℕ) (rest : List ℕ) → drop i x ≡ quotedByte y ++ rest → Written y → c ≡ y
       on-byte y rest w (with-escape n u q) =
           let z : getD x i 0 ∷ drop (suc i) x ≡ 92 ∷ n ∷ rest = sym first-is ∙ w ∙ ap (λ (l : List ℕ). l ++ rest) q in
           let s : getD x (i + 1) 0 ≡ n = head-eq-of-cons-eq (sym next ∙ tail-eq-of-cons-eq z) in
@@ -64,14 +64,14 @@ module _ (x : List ℕ) (i : ℕ) (h : i < length x) where
           let z : getD x i 0 ∷ drop (suc i) x ≡ y ∷ rest = sym first-is ∙ w ∙ ap (λ (l : List ℕ). l ++ rest) q in
           absurd (d (sym (head-eq-of-cons-eq z) ∙ sym e ∙ f))
 
-      on-long : (y : ℕ) (rest : List ℕ) → drop i x ≡ quoted y ++ rest → Written y → 2 ≡ length (quoted y)
+      on-long : (y : ℕ) (rest : List ℕ) → drop i x ≡ quotedByte y ++ rest → Written y → 2 ≡ length (quotedByte y)
       on-long y rest w (with-escape n u q) = sym (ap length q)
       on-long y rest w (plainly a d q) =
           let z : getD x i 0 ∷ drop (suc i) x ≡ y ∷ rest = sym first-is ∙ w ∙ ap (λ (l : List ℕ). l ++ rest) q in
           absurd (d (sym (head-eq-of-cons-eq z) ∙ sym e ∙ f))
 
   -- a \ at the end
-  pub piece-cut : (b : ℕ) → b ≡ getD x i 0 → b ≡ 92 → length x ≤ i + 1 → PieceIs (drop i x) (piece b 1)
+  pub piece-cut : (b : ℕ) → b ≡ getD x i 0 → b ≡ 92 → length x ≤ i + 1 → StringPieceIs (drop i x) (piece b 1)
   piece-cut b e f k = record {
     onward = omega arith;
     inside = omega (arith, long, h);
@@ -79,14 +79,14 @@ module _ (x : List ℕ) (i : ℕ) (h : i < length x) where
     long-is = λ y rest w. absurd (too-short y rest w (written y));
   }
     where
-      too-short : (y : ℕ) (rest : List ℕ) → drop i x ≡ quoted y ++ rest → Written y → ⊥
+      too-short : (y : ℕ) (rest : List ℕ) → drop i x ≡ quotedByte y ++ rest → Written y → ⊥
       too-short y rest w (with-escape n u q) = let z = ap length (w ∙ ap (λ (l : List ℕ). l ++ rest) q) in omega (arith, z, long, k)
       too-short y rest w (plainly a d q) =
           let z : getD x i 0 ∷ drop (suc i) x ≡ y ∷ rest = sym first-is ∙ w ∙ ap (λ (l : List ℕ). l ++ rest) q in
           d (sym (head-eq-of-cons-eq z) ∙ sym e ∙ f)
 
   -- any other byte
-  pub piece-plain : (b : ℕ) → b ≡ getD x i 0 → (b ≡ 92 → ⊥) → PieceIs (drop i x) (piece b 1)
+  pub piece-plain : (b : ℕ) → b ≡ getD x i 0 → (b ≡ 92 → ⊥) → StringPieceIs (drop i x) (piece b 1)
   piece-plain b e f = record {
     onward = omega arith;
     inside = omega (arith, long, h);
@@ -94,7 +94,7 @@ module _ (x : List ℕ) (i : ℕ) (h : i < length x) where
     long-is = λ y rest w. on-long y rest w (written y);
   }
     where
-      on-byte : (y : ℕ) (rest : List ℕ) → drop i x ≡ quoted y ++ rest → Written y → b ≡ y
+      on-byte : (y : ℕ) (rest : List ℕ) → drop i x ≡ quotedByte y ++ rest → Written y → b ≡ y
       on-byte y rest w (with-escape n u q) =
           let z : getD x i 0 ∷ drop (suc i) x ≡ 92 ∷ n ∷ rest = sym first-is ∙ w ∙ ap (λ (l : List ℕ). l ++ rest) q in
           absurd (f (e ∙ head-eq-of-cons-eq z))
@@ -102,13 +102,13 @@ module _ (x : List ℕ) (i : ℕ) (h : i < length x) where
           let z : getD x i 0 ∷ drop (suc i) x ≡ y ∷ rest = sym first-is ∙ w ∙ ap (λ (l : List ℕ). l ++ rest) q in
           e ∙ head-eq-of-cons-eq z
 
-      on-long : (y : ℕ) (rest : List ℕ) → drop i x ≡ quoted y ++ rest → Written y → 1 ≡ length (quoted y)
+      on-long : (y : ℕ) (rest : List ℕ) → drop i x ≡ quotedByte y ++ rest → Written y → 1 ≡ length (quotedByte y)
       on-long y rest w (with-escape n u q) =
           let z : getD x i 0 ∷ drop (suc i) x ≡ 92 ∷ n ∷ rest = sym first-is ∙ w ∙ ap (λ (l : List ℕ). l ++ rest) q in
           absurd (f (e ∙ head-eq-of-cons-eq z))
       on-long y rest w (plainly a d q) = sym (ap length q)
 
-pub piece-past : (x : List ℕ) (i : ℕ) (p : Piece) → i < length x → PieceIs (drop i x) p → i + p .long ≤ length x
+pub piece-past : (x : List ℕ) (i : ℕ) (p : Piece) → i < length x → StringPieceIs (drop i x) p → i + p .long ≤ length x
 piece-past x i p h f = omega (arith, f .inside, length-drop i x, h)
 
 -- what is left of a string
@@ -150,7 +150,7 @@ ended-with x before out i n bs rest l h q = on (l .left) (l .ahead) (l .whole)
     on [] e w = w ∙ append-nil (l .done)
     on (y ∷ ys) e w = absurd (no-quote x i y ys rest h q e)
 
-to-drop : (x cs rest : List ℕ) → x ≡ bytesOf (string cs) ++ rest → drop 1 x ≡ all-quoted (utf8s cs) ++ 34 ∷ rest
+to-drop : (x cs rest : List ℕ) → x ≡ tokenBytes (string cs) ++ rest → drop 1 x ≡ all-quoted (utf8s cs) ++ 34 ∷ rest
 to-drop x cs rest e =
     ap (drop 1) e ∙ append-assoc (all-in-quotes cs) (34 ∷ []) rest ∙ ap (λ (z : List ℕ). z ++ 34 ∷ rest) (string-same cs)
 
@@ -185,7 +185,7 @@ unquoted-cut x before out i n u h = record {
 }
 
 -- one byte more
-pub under-on : (x before out : List ℕ) (i n : ℕ) (p : Piece) → Under x before out i n → i < length x → (getD x i 0 ≡ 34 → ⊥) → (n ≡ length out → ⊥) → PieceIs (drop i x) p → Under x before (set out n (p .byte)) (i + p .long) (n + 1)
+pub under-on : (x before out : List ℕ) (i n : ℕ) (p : Piece) → Under x before out i n → i < length x → (getD x i 0 ≡ 34 → ⊥) → (n ≡ length out → ⊥) → StringPieceIs (drop i x) p → Under x before (set out n (p .byte)) (i + p .long) (n + 1)
 under-on x before out i n p u h q r′ f = record {
   same = length-set out n (p .byte) ∙ u .same;
   inside = omega (arith, r, u .same);
@@ -198,7 +198,7 @@ under-on x before out i n p u h q r′ f = record {
     on : (bs rest : List ℕ) (l : Left x before out i n bs rest) → (left : List ℕ) → drop i x ≡ all-quoted left ++ 34 ∷ rest → bs ≡ l .done ++ left → Left x before (set out n (p .byte)) (i + p .long) (n + 1) bs rest
     on bs rest l [] e w = absurd (q (head-eq-of-cons-eq (sym (drop-cons x i 0 h) ∙ e)))
     on bs rest l (y ∷ ys) e w =
-        let e′ : drop i x ≡ quoted y ++ (all-quoted ys ++ 34 ∷ rest) = e ∙ append-assoc (quoted y) (all-quoted ys) (34 ∷ rest) in
+        let e′ : drop i x ≡ quotedByte y ++ (all-quoted ys ++ 34 ∷ rest) = e ∙ append-assoc (quotedByte y) (all-quoted ys) (34 ∷ rest) in
         let b = f .byte-is y (all-quoted ys ++ 34 ∷ rest) e′ in
         let n′ = f .long-is y (all-quoted ys ++ 34 ∷ rest) e′ in
         let free : n < length before = omega (arith, r, u .same) in
@@ -208,7 +208,7 @@ under-on x before out i n p u h q r′ f = record {
           done = l .done ++ y ∷ [];
           left = ys;
           whole = w ∙ sym (append-assoc (l .done) (y ∷ []) ys);
-          ahead = sym (drop-drop (p .long) i x) ∙ ap (drop (p .long)) e′ ∙ drop-at (quoted y) (all-quoted ys ++ 34 ∷ rest) (p .long) (sym n′);
+          ahead = sym (drop-drop (p .long) i x) ∙ ap (drop (p .long)) e′ ∙ drop-at (quotedByte y) (all-quoted ys ++ 34 ∷ rest) (p .long) (sym n′);
           count = omega (arith, l .count, length-append (l .done) (y ∷ []));
           laid = ap (λ (z : List ℕ). set z n (p .byte)) laid ∙ set-at (l .done) (getD before n 0) (drop (suc n) before) (p .byte) n (sym (l .count))
               ∙ ap (λ (c : ℕ). l .done ++ c ∷ drop (suc n) before) b ∙ sym (append-assoc (l .done) (y ∷ []) (drop (suc n) before)) ∙ ap (λ (c : ℕ). (l .done ++ y ∷ []) ++ drop c before) next;

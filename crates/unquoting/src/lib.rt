@@ -2,7 +2,7 @@
 ghost use mathlib.Core.Path.{_≡_};
 ghost use Prim.Native.Nat.{_<_};
 ghost use lib.ListN.{length, drop};
-ghost use Rattle.unquoting.specs.Unquoted.{unescaped, PieceIs, UnquotedIs};
+ghost use Rattle.unquoting.specs.Unquoted.{unescaped, StringPieceIs, UnquotedIs};
 
 // The byte that a byte behind a \ stands for.
 fn unescape(b: u8) -> u8
@@ -29,7 +29,7 @@ struct Piece {
 // The byte of a string that is written at a place.
 fn piece_at(x: &[u8], i: usize) -> Piece
     requires { ⌜ i < length (now x) ⌝ }
-    ensures { λ r. ⌜ PieceIs (drop i (now (x .entry))) r ⌝ }
+    ensures { λ r. ⌜ StringPieceIs (drop i (now (x .entry))) r ⌝ }
 {
     let b = x[i];
     let j = i + 1;

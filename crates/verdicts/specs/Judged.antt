@@ -7,25 +7,25 @@ use Prim.Native.Nat.{ℕ, suc, _+_}
 use lib.ListN.{length}
 use Rattle.text.specs.Names.{blank, All}
 use Rattle.notation.specs.Rules.{Rules}
-use Rattle.notation.specs.Tokens.{Token, bytesOf}
+use Rattle.notation.specs.Tokens.{TextToken, tokenBytes}
 use Rattle.notation.specs.Gaps.{inComment, Gap, Ending}
 use Rattle.notation.specs.Spelled.{MayFollow}
-use Rattle.notation.specs.Limits.{Within}
+use Rattle.notation.specs.Limits.{WithinLimits}
 use Rattle.reading.specs.Rules.{Progress, stepRules, valueOfRules, finishedRules}
 use Rattle.lexing.specs.Front.{Stuck}
 
 -- the machine takes the token, and where it then stands the shortest continuation keeps the limits
-pub record Goes (s : Progress) (t : Token) (s′ : Progress) : Type 0 where
+pub record Goes (s : Progress) (t : TextToken) (s′ : Progress) : Type 0 where
   pub taken : stepRules s t ≡ some s′
-  pub fits : Within (finishedRules s′)
+  pub fits : WithinLimits (finishedRules s′)
 
-abbrev pub Takes : Progress → Token → Type 0
-Takes s t = (s′ : Progress) × Goes s t s′
+abbrev pub TakesToken : Progress → TextToken → Type 0
+TakesToken s t = (s′ : Progress) × Goes s t s′
 
 -- the first byte is no white space and no #
-abbrev pub Inked : List ℕ → Type 0
-Inked [] = ⊥
-Inked (b ∷ x) = (blank b ≡ false) × (b ≡ 35 → ⊥)
+abbrev pub NoGapFirst : List ℕ → Type 0
+NoGapFirst [] = ⊥
+NoGapFirst (b ∷ x) = (blank b ≡ false) × (b ≡ 35 → ⊥)
 
 pub data Verdict : Type 0 where
   writes : Rules → Verdict
@@ -39,8 +39,8 @@ later n (refused-at k) = refused-at (n + k)
 pub data Judged : Progress → List ℕ → Verdict → Type 0 where
   ended : {s : Progress} {x : List ℕ} {r : Rules} → Ending x → valueOfRules s ≡ some r → Judged s x (writes r)
   early : {s : Progress} {x : List ℕ} → Ending x → valueOfRules s ≡ none → Judged s x (refused-at (length x))
-  token : {s s′ : Progress} {x g rest : List ℕ} {v : Verdict} (t : Token) → x ≡ g ++ (bytesOf t ++ rest) → Gap g → Goes s t s′ → MayFollow t rest → Judged s′ rest v
-      → Judged s x (later (length g + length (bytesOf t)) v)
-  stuck : {s : Progress} {x g y : List ℕ} {k : ℕ} → x ≡ g ++ y → Gap g → Inked y → Stuck (Takes s) y k → Judged s x (refused-at (length g + k))
+  token : {s s′ : Progress} {x g rest : List ℕ} {v : Verdict} (t : TextToken) → x ≡ g ++ (tokenBytes t ++ rest) → Gap g → Goes s t s′ → MayFollow t rest → Judged s′ rest v
+      → Judged s x (later (length g + length (tokenBytes t)) v)
+  stuck : {s : Progress} {x g y : List ℕ} {k : ℕ} → x ≡ g ++ y → Gap g → NoGapFirst y → Stuck (TakesToken s) y k → Judged s x (refused-at (length g + k))
   no-comment : {s : Progress} {b : ℕ} {x g : List ℕ} (c y : List ℕ) → x ≡ g ++ 35 ∷ (c ++ b ∷ y) → Gap g → All inComment c → inComment b ≡ false → (b ≡ 10 → ⊥)
       → Judged s x (refused-at (length g + suc (length c)))

@@ -6,18 +6,18 @@ use mathlib.Core.Option.{none, some}
 use Prim.Native.Nat.{ℕ, _+_}
 use lib.ListN.{drop}
 use Rattle.notation.specs.Rules.{Rules}
-use Rattle.notation.specs.Tokens.{Token}
+use Rattle.notation.specs.Tokens.{TextToken}
 use Rattle.reading.specs.Rules.{Progress, valueOfRules}
 use Rattle.gaps.specs.declared.Skipped.{Skipped}
 use Rattle.gaps.specs.Skipped.{SkippedIs}
 use Rattle.lexemes.specs.declared.Lexeme.{Lexeme}
-use Rattle.lexemes.specs.Kinds.{kindOf, numberOf, Allowed, Lexed}
-use Rattle.verdicts.specs.Judged.{Goes, Takes, Verdict, writes, refused-at, later, Judged}
+use Rattle.lexemes.specs.Kinds.{tokenKind, tokenNumber, MarkedKind, Lexed}
+use Rattle.verdicts.specs.Judged.{Goes, TakesToken, Verdict, writes, refused-at, later, Judged}
 
 -- the marked kinds are those that the machine takes
 pub record Marks (s : Progress) (may : List Bool) : Type 0 where
-  pub taken : (t : Token) → Allowed may t → Takes s t
-  pub marked : (t : Token) → Takes s t → Allowed may t
+  pub taken : (t : TextToken) → MarkedKind may t → TakesToken s t
+  pub marked : (t : TextToken) → TakesToken s t → MarkedKind may t
 
 abbrev pub JudgesEnd : Type 0
 JudgesEnd = (s : Progress) (x : List ℕ) → SkippedIs x Skipped.End
@@ -31,9 +31,9 @@ JudgesStuck = (s : Progress) (may : List Bool) (x : List ℕ) (i k : ℕ) → Ma
 
 -- a token that the machine takes; what is told of the rest is told of all
 pub record Onward (s : Progress) (x : List ℕ) (k n l : ℕ) : Type 0 where
-  pub token : Token
-  pub kind : k ≡ kindOf token
-  pub number : n ≡ numberOf token
+  pub token : TextToken
+  pub kind : k ≡ tokenKind token
+  pub number : n ≡ tokenNumber token
   pub next : Progress
   pub goes : Goes s token next
   pub judged : (v : Verdict) → Judged next (drop l x) v → Judged s x (later l v)

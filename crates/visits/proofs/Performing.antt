@@ -22,15 +22,15 @@ use Rattle.runs.specs.Execute.{Effect, nameOf}
 use Rattle.runs.specs.Visits.{performed}
 use Rattle.runs.proofs.SheetFits.{one-of-all}
 use Rattle.visits.specs.Evaluated.{LiesAt}
-use Rattle.visits.specs.Written.{Pen, NameAt, Sources}
-use Rattle.visits.specs.Ran.{mostPrinted, Comes, RanAs, lists}
+use Rattle.visits.specs.Written.{Pen, TagNameAt, Sources}
+use Rattle.visits.specs.Ran.{mostPrinted, Came, RanAs, lists}
 use Rattle.visits.specs.Performed.{PerformedAs}
 use Rattle.visits.specs.declared.Env.{Env}
 use Rattle.visits.specs.declared.Ran.{Ran}
 use Rattle.visits.proofs.Running.{still}
 
 -- ---- names
-name-in : (s : List ℕ) (t : ℕ) (n : List ℕ) → tagOffset s ≡ 0 → TagAt s t n → NameAt s t n
+name-in : (s : List ℕ) (t : ℕ) (n : List ℕ) → tagOffset s ≡ 0 → TagAt s t n → TagNameAt s t n
 name-in s t n zero-at T =
     let here = drop (16 * t) s in
     let fill : List ℕ = replicate (15 - length n) 0 in
@@ -41,10 +41,10 @@ name-in s t n zero-at T =
       spelled = (fill ++ drop 16 here, sym (take-append-drop 16 here) ∙ ap (λ (l : List ℕ). l ++ drop 16 here) e ∙ append-assoc (length n ∷ n) fill (drop 16 here));
     }
 
-pub names-in : (s : List ℕ) (i k : ℕ) (ns : List (List ℕ)) → tagOffset s ≡ 0 → From (TagAt s) i k ns → (t : ℕ) → t < length ns → NameAt s (i + t) (nameOf ns t)
+pub names-in : (s : List ℕ) (i k : ℕ) (ns : List (List ℕ)) → tagOffset s ≡ 0 → From (TagAt s) i k ns → (t : ℕ) → t < length ns → TagNameAt s (i + t) (nameOf ns t)
 names-in s i k [] z f t h = absurd (omega arith)
-names-in s i k (n ∷ ns) z f zero h = subst (λ (m : ℕ). NameAt s m n) (omega arith) (name-in s i n z (f .0))
-names-in s i k (n ∷ ns) z f (suc t) h = subst (λ (m : ℕ). NameAt s m (nameOf ns t)) (omega arith) (names-in s (suc i) k ns z (f .1) t (omega arith))
+names-in s i k (n ∷ ns) z f zero h = subst (λ (m : ℕ). TagNameAt s m n) (omega arith) (name-in s i n z (f .0))
+names-in s i k (n ∷ ns) z f (suc t) h = subst (λ (m : ℕ). TagNameAt s m (nameOf ns t)) (omega arith) (names-in s (suc i) k ns z (f .1) t (omega arith))
 
 -- ---- the program that starts at an offset
 together : (ps qs : List Program) → backToBack (ps ++ qs) ≡ backToBack ps ++ backToBack qs
@@ -92,7 +92,7 @@ module _ (s : List ℕ) (l : Layout) (L : LaidOut s l) where
 
   module _ (a : Sheet) (z : IsSheet s a) where
     pub sources : Sources s strings-of a
-    sources = record { names-are = λ t h. subst (λ (m : ℕ). NameAt s m (nameOf (a .names) t)) (omega arith) (names-in s 0 (tagCount s) (a .names) (z .well-formed .sections .tags-at) (z .names-are) t h); strings-are = z .strings-are ∙ sym strings-are }
+    sources = record { names-are = λ t h. subst (λ (m : ℕ). TagNameAt s m (nameOf (a .names) t)) (omega arith) (names-in s 0 (tagCount s) (a .names) (z .well-formed .sections .tags-at) (z .names-are) t h); strings-are = z .strings-are ∙ sym strings-are }
 
     filled : Fill (length (a .names)) strings-of section-of (z .well-formed .programs .programs)
     filled =
@@ -106,14 +106,14 @@ module _ (s : List ℕ) (l : Layout) (L : LaidOut s l) where
     pub no-field : field ≡ 65535 → PerformedAs s field kept e p (record { ok = true; at = p .at; env = e }) (p .lent)
     no-field k = record { reach = omega arith; dry = λ y. refl; back = λ y. absurd (true≢false y); right = λ a z v m f. go a m f }
       where
-        go : (a : Sheet) {ps : List Program} {v : Visit} (m : Option Program) → FieldIs ps v field m → Comes (performed a kept m (e .values) (e .echo)) p true (p .at) e (p .lent)
+        go : (a : Sheet) {ps : List Program} {v : Visit} (m : Option Program) → FieldIs ps v field m → Came (performed a kept m (e .values) (e .echo)) p true (p .at) e (p .lent)
         go a none f = still p e
         go a (some q) (names n q₁ S w) = absurd (n k)
 
     pub past-section : (field ≡ 65535 → ⊥) → l .programs < field → PerformedAs s field kept e p (record { ok = false; at = p .at; env = e }) (p .lent)
     past-section n far = record { reach = omega arith; dry = λ y. refl; back = λ y. (refl, refl); right = go }
       where
-        go : (a : Sheet) (z : IsSheet s a) (v : Visit) (m : Option Program) → FieldIs (z .well-formed .programs .programs) v field m → Comes (performed a kept m (e .values) (e .echo)) p false (p .at) e (p .lent)
+        go : (a : Sheet) (z : IsSheet s a) (v : Visit) (m : Option Program) → FieldIs (z .well-formed .programs .programs) v field m → Came (performed a kept m (e .values) (e .echo)) p false (p .at) e (p .lent)
         go a z v none (no-program k) = absurd (n k)
         go a z v (some q) (names k q₁ S w) =
             absurd (omega (arith, far, section-length, it-starts-inside (length (a .names)) strings-of section-of (z .well-formed .programs .programs) (filled a z) field q S))
@@ -121,7 +121,7 @@ module _ (s : List ℕ) (l : Layout) (L : LaidOut s l) where
     -- the list at that offset was run
     module _ (n : field ≡ 65535 → ⊥) (r : Ran) (d : List ℕ) (R : RanAs lists (record { section = section-of; tags = s; strings = strings-of }) field kept e true p r d) where
       came : (a : Sheet) (z : IsSheet s a) (v : Visit) (m : Option Program) → FieldIs (z .well-formed .programs .programs) v field m
-          → Comes (performed a kept m (e .values) (e .echo)) p (r .ok) (r .at) (r .env) d
+          → Came (performed a kept m (e .values) (e .echo)) p (r .ok) (r .at) (r .env) d
       came a z v none (no-program k) = absurd (n k)
       came a z v (some q) (names k q₁ S w) =
           R .right a (sources a z) q
@@ -134,7 +134,7 @@ module _ (s : List ℕ) (l : Layout) (L : LaidOut s l) where
             reach = reaches;
             dry = R .dry;
             back = λ x. absurd (true≢false x);
-            right = λ a z v m f. subst (λ (b : Bool). Comes (performed a kept m (e .values) (e .echo)) p b (r .at) (r .env) d) y (came a z v m f);
+            right = λ a z v m f. subst (λ (b : Bool). Came (performed a kept m (e .values) (e .echo)) p b (r .at) (r .env) d) y (came a z v m f);
           }
         where
           short : r .next ≤ 16384
@@ -146,6 +146,6 @@ module _ (s : List ℕ) (l : Layout) (L : LaidOut s l) where
       pub was-rejected : r .ok ≡ false → PerformedAs s field kept e p (record { ok = false; at = p .at; env = e }) d
       was-rejected y = record { reach = omega arith; dry = R .dry; back = λ x. (refl, refl); right = λ a z v m f. rejected (performed a kept m (e .values) (e .echo)) (came a z v m f) }
         where
-          rejected : (o : Option Effect) → Comes o p (r .ok) (r .at) (r .env) d → Comes o p false (p .at) e d
+          rejected : (o : Option Effect) → Came o p (r .ok) (r .at) (r .env) d → Came o p false (p .at) e d
           rejected none c = refl
           rejected (some x) c = absurd (true≢false (sym (c .0) ∙ y))

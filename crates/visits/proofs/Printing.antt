@@ -25,7 +25,7 @@ use Rattle.output.proofs.Writing.{each-token}
 use Rattle.runs.specs.Characters.{charactersOf}
 use Rattle.runs.specs.Execute.{Effect, nameOf, executeOne}
 use Rattle.runs.proofs.Characters.{characters-of}
-use Rattle.visits.specs.Written.{Pen, Written, TextOf, RangeOf, tagText, NameAt, TagOf, PrintOf}
+use Rattle.visits.specs.Written.{Pen, Written, TextOf, RangeOf, tagText, TagNameAt, TagOf, PrintOf}
 use Rattle.visits.specs.Ran.{mostPrinted}
 use Rattle.visits.proofs.Lying.{second-part, statement-of}
 use Rattle.visits.proofs.Settling.{same-effect, no-effect}
@@ -102,7 +102,7 @@ pub range-due : (s : List ℕ) (o n : ℕ) (w : List ℕ) → RangeOf s o n w �
 range-due s o n w u = let same : o + n - o ≡ n = omega arith in rw same (u .0 .whole, u .1)
 
 -- ---- tags
-module _ (tags : List ℕ) (t : ℕ) (n : List ℕ) (N : NameAt tags t n) where
+module _ (tags : List ℕ) (t : ℕ) (n : List ℕ) (N : TagNameAt tags t n) where
   pub record-inside : 16 * t + 1 + length n ≤ length tags
   record-inside = omega (arith, starts-length (drop (16 * t) tags) (length n ∷ n) (N .spelled), length-drop (16 * t) tags)
 

@@ -21,7 +21,7 @@ use Rattle.runs.specs.Options.{bind}
 use Rattle.runs.specs.Execute.{Effect, holds, chosen, after-print, executeOne, execute}
 use Rattle.visits.specs.Evaluated.{LiesAt, JudgedAs, SettledAs, PastIs}
 use Rattle.visits.specs.Written.{Pen, Written, Sources, PrintOf}
-use Rattle.visits.specs.Ran.{mostPrinted, lived, Comes, Says, Ground, RanAs, statements, lists}
+use Rattle.visits.specs.Ran.{mostPrinted, lived, Came, WentOnTo, Ground, RanAs, statements, lists}
 use Rattle.visits.specs.declared.Env.{Env}
 use Rattle.visits.specs.declared.Judged.{Judged}
 use Rattle.visits.specs.declared.Ran.{Ran}
@@ -44,20 +44,20 @@ pen-at p d n = record { write = p .write; lent = d; at = n }
 abbrev unchanged : Env → Effect
 unchanged e = record { values = e .values; echo = e .echo; printed = [] }
 
-pub still : (p : Pen) (e : Env) → Comes (some (unchanged e)) p true (p .at) e (p .lent)
+pub still : (p : Pen) (e : Env) → Came (some (unchanged e)) p true (p .at) e (p .lent)
 still p e = (refl, refl, refl, nothing-put (p .write) (p .lent) (p .at))
 
-idle : (live : Bool) (p : Pen) (e : Env) → Comes (lived live (some (unchanged e)) e) p true (p .at) e (p .lent)
+idle : (live : Bool) (p : Pen) (e : Env) → Came (lived live (some (unchanged e)) e) p true (p .at) e (p .lent)
 idle true p e = still p e
 idle false p e = still p e
 
-pub said-no : (o : Option Effect) (p : Pen) (ok : Bool) (at : ℕ) (e : Env) (d : List ℕ) → Comes o p ok at e d → ok ≡ false → o ≡ none
+pub said-no : (o : Option Effect) (p : Pen) (ok : Bool) (at : ℕ) (e : Env) (d : List ℕ) → Came o p ok at e d → ok ≡ false → o ≡ none
 said-no none p ok at e d s k = refl
 said-no (some x) p ok at e d s k = absurd (true≢false (sym (s .0) ∙ k))
 
 -- writing goes on where it stopped
 joined : (o : List Piece) (x : Option Effect) (p : Pen) (d₁ : List ℕ) (n : ℕ) (ok : Bool) (at : ℕ) (e : Env) (d : List ℕ)
-    → PutAs (p .write) (p .lent) (p .at) (render o) d₁ n → Comes x (pen-at p d₁ n) ok at e d → Comes (after-print o x) p ok at e d
+    → PutAs (p .write) (p .lent) (p .at) (render o) d₁ n → Came x (pen-at p d₁ n) ok at e d → Came (after-print o x) p ok at e d
 joined o none p d₁ n ok at e d P s = s
 joined o (some y) p d₁ n ok at e d P s = (
   s .0,
@@ -67,20 +67,20 @@ joined o (some y) p d₁ n ok at e d P s = (
       (put-then (p .write) (p .lent) (p .at) (render o) (render (y .printed)) d₁ d n at P (s .3)),
 )
 
-after-nothing : (x : Option Effect) (p : Pen) (ok : Bool) (at : ℕ) (e : Env) (d : List ℕ) → Comes (after-print [] x) p ok at e d → Comes x p ok at e d
+after-nothing : (x : Option Effect) (p : Pen) (ok : Bool) (at : ℕ) (e : Env) (d : List ℕ) → Came (after-print [] x) p ok at e d → Came x p ok at e d
 after-nothing none p ok at e d s = s
 after-nothing (some y) p ok at e d s = s
 
 -- what two parts came to, where the first went on
 module _ (e : Env) (p : Pen) (l r : Ran) (d₁ d : List ℕ) (k : l .ok ≡ true) (G : List ℕ → Bool → Option Effect) where
   abbrev First : Option Effect → Type 0
-  First o = Comes o p (l .ok) (l .at) (l .env) d₁
+  First o = Came o p (l .ok) (l .at) (l .env) d₁
 
   abbrev Then : Option Effect → Type 0
-  Then o = Comes o (pen-at p d₁ (l .at)) (r .ok) (r .at) (r .env) d
+  Then o = Came o (pen-at p d₁ (l .at)) (r .ok) (r .at) (r .env) d
 
   abbrev Whole : Option Effect → Type 0
-  Whole o = Comes o p (r .ok) (r .at) (r .env) d
+  Whole o = Came o p (r .ok) (r .at) (r .env) d
 
   together : (o : List Piece) (x : Option Effect) → PutAs (p .write) (p .lent) (p .at) (render o) d₁ (l .at) → Then x → Whole (after-print o x)
   together o x P s = joined o x p d₁ (l .at) (r .ok) (r .at) (r .env) d P s
@@ -107,12 +107,12 @@ module _ (e : Env) (p : Pen) (l r : Ran) (d₁ d : List ℕ) (k : l .ok ≡ true
 
 -- where the first did not
 module _ (e : Env) (p : Pen) (l : Ran) (d : List ℕ) (z : l .ok ≡ false) where
-  stopped : (v : Bool) (o : Option Effect) (F : Effect → Option Effect) → Comes (lived v o e) p (l .ok) (l .at) (l .env) d → Comes (lived v (bind o F) e) p (l .ok) (l .at) (l .env) d
+  stopped : (v : Bool) (o : Option Effect) (F : Effect → Option Effect) → Came (lived v o e) p (l .ok) (l .at) (l .env) d → Came (lived v (bind o F) e) p (l .ok) (l .at) (l .env) d
   stopped false o F a = absurd (true≢false (sym (a .0) ∙ z))
   stopped true none F a = z
   stopped true (some x) F a = absurd (true≢false (sym (a .0) ∙ z))
 
-  branch-stopped : (v y : Bool) (o u : Option Effect) → Comes (lived (v && y) o e) p (l .ok) (l .at) (l .env) d → Comes (lived v (chosen y o u) e) p (l .ok) (l .at) (l .env) d
+  branch-stopped : (v y : Bool) (o u : Option Effect) → Came (lived (v && y) o e) p (l .ok) (l .at) (l .env) d → Came (lived v (chosen y o u) e) p (l .ok) (l .at) (l .env) d
   branch-stopped false y o u a = absurd (true≢false (sym (a .0) ∙ z))
   branch-stopped true true none u a = z
   branch-stopped true true (some x) u a = absurd (true≢false (sym (a .0) ∙ z))
@@ -151,7 +151,7 @@ module _ (g : Ground) (i : ℕ) (kept : List ℕ) (e : Env) (live : Bool) (p : P
         does a (branch c l m) st z = n10 (first-byte (g .section) i 10 (conditionBytes c ++ (programBytes l ++ programBytes m)) st)
 
         go : (a : Sheet) → Sources (g .tags) (g .strings) a → (t : Statement) → LiesAt statementBytes (g .section) i t → StatementFits (length (a .names)) (g .strings) t
-            → (o : Option Effect) → executeOne a kept t (e .values) (e .echo) ≡ o → Comes o p true to f d
+            → (o : Option Effect) → executeOne a kept t (e .values) (e .echo) ≡ o → Came o p true to f d
         go a src t st fits none q = absurd (does a t st q)
         go a src t st fits (some x) q =
             let w = F a (length (a .names)) (g .strings) t st fits x q in
@@ -166,7 +166,7 @@ module _ (g : Ground) (i : ℕ) (kept : List ℕ) (e : Env) (live : Bool) (p : P
     -- the condition and the first list, of a branch that lies there
     record Parts (a : Sheet) (c : Condition) (q m : Program) : Type 0 where
       judged : j .yes ≡ holds kept c (e .values)
-      first : Says (lived (live && j .yes) (execute a kept q (e .values) (e .echo)) e) p (j .next + length (programBytes q)) l d₁
+      first : WentOnTo (lived (live && j .yes) (execute a kept q (e .values) (e .echo)) e) p (j .next + length (programBytes q)) l d₁
       second-lies : Starts (drop (j .next + length (programBytes q)) (g .section)) (programBytes m)
       long : j .next + length (programBytes q) + length (programBytes m) ≡ i + length (10 ∷ Bytes c q m)
 
@@ -178,7 +178,7 @@ module _ (g : Ground) (i : ℕ) (kept : List ℕ) (e : Env) (live : Bool) (p : P
         let two = subst (λ (n : ℕ). Starts (drop n s) (programBytes q ++ programBytes m)) (sym (w .1)) (second-part s (i + 1) (conditionBytes c) (programBytes q ++ programBytes m) one) in
         record {
           judged = w .0;
-          first = subst (λ (v : Bool). Says (lived v (execute a kept q (e .values) (e .echo)) e) p (j .next + length (programBytes q)) l d₁) bis (L .right a src q (first-part s (j .next) (programBytes q) (programBytes m) two) fits);
+          first = subst (λ (v : Bool). WentOnTo (lived v (execute a kept q (e .values) (e .echo)) e) p (j .next + length (programBytes q)) l d₁) bis (L .right a src q (first-part s (j .next) (programBytes q) (programBytes m) two) fits);
           second-lies = second-part s (j .next) (programBytes q) (programBytes m) two;
           long = omega (arith, w .1, length-append (conditionBytes c) (programBytes q ++ programBytes m), length-append (programBytes q) (programBytes m));
         }
@@ -187,7 +187,7 @@ module _ (g : Ground) (i : ℕ) (kept : List ℕ) (e : Env) (live : Bool) (p : P
     branch-stops z = record { low = omega (arith, J .low, L .low); high = L .high; reach = omega (arith, J .low, L .reach); dry = L .dry; right = go }
       where
         go : (a : Sheet) → Sources (g .tags) (g .strings) a → (t : Statement) → LiesAt statementBytes (g .section) i t → StatementFits (length (a .names)) (g .strings) t
-            → Says (lived live (executeOne a kept t (e .values) (e .echo)) e) p (i + length (statementBytes t)) l d₁
+            → WentOnTo (lived live (executeOne a kept t (e .values) (e .echo)) e) p (i + length (statementBytes t)) l d₁
         go a src t st fits =
             let w = statement-of (g .section) i h k t st in
             let c = w .0 in
@@ -201,7 +201,7 @@ module _ (g : Ground) (i : ℕ) (kept : List ℕ) (e : Env) (live : Bool) (p : P
     branch-goes y b′ bis′ r d R = record { low = omega (arith, J .low, L .low, R .low); high = R .high; reach = omega (arith, J .low, L .reach, R .reach); dry = λ z. R .dry z ∙ L .dry z; right = go }
       where
         go : (a : Sheet) → Sources (g .tags) (g .strings) a → (t : Statement) → LiesAt statementBytes (g .section) i t → StatementFits (length (a .names)) (g .strings) t
-            → Says (lived live (executeOne a kept t (e .values) (e .echo)) e) p (i + length (statementBytes t)) r d
+            → WentOnTo (lived live (executeOne a kept t (e .values) (e .echo)) e) p (i + length (statementBytes t)) r d
         go a src t st fits =
             let w = statement-of (g .section) i h k t st in
             let c = w .0 in
@@ -211,7 +211,7 @@ module _ (g : Ground) (i : ℕ) (kept : List ℕ) (e : Env) (live : Bool) (p : P
             let x = parts a src c q m (rw (w .3) at st) (f .1) in
             let nx = x .first .1 y in
             let s = R .right a src m (subst (λ (n : ℕ). Starts (drop n (g .section)) (programBytes m)) (sym nx) (x .second-lies)) (f .2) in
-            let s′ = subst (λ (v : Bool). Says (lived v (execute a kept m (l .env .values) (l .env .echo)) (l .env)) (pen-at p d₁ (l .at)) (l .next + length (programBytes m)) r d) bis′ s in
+            let s′ = subst (λ (v : Bool). WentOnTo (lived v (execute a kept m (l .env .values) (l .env .echo)) (l .env)) (pen-at p d₁ (l .at)) (l .next + length (programBytes m)) r d) bis′ s in
             rw (w .3) (rw (← x .judged) (branched e p l r d₁ d y (execute a kept m) live (j .yes) (execute a kept q (e .values) (e .echo)) (x .first .0) (s′ .0)), λ ok. omega (arith, s′ .1 ok, nx, x .long))
 
   -- ---- lists
@@ -219,7 +219,7 @@ module _ (g : Ground) (i : ℕ) (kept : List ℕ) (e : Env) (live : Bool) (p : P
   list-done k = record { low = omega arith; high = omega arith; reach = omega arith; dry = λ z. refl; right = go }
     where
       go : (a : Sheet) → Sources (g .tags) (g .strings) a → (q : Program) → LiesAt programBytes (g .section) i q → StatementsFit (length (a .names)) (g .strings) q
-          → Says (lived live (execute a kept q (e .values) (e .echo)) e) p (i + length (programBytes q)) (record { ok = true; next = i + 1; at = p .at; env = e }) (p .lent)
+          → WentOnTo (lived live (execute a kept q (e .values) (e .echo)) e) p (i + length (programBytes q)) (record { ok = true; next = i + 1; at = p .at; env = e }) (p .lent)
       go a src done st fits = (idle live p e, λ z. refl)
       go a src (step t q) st fits = absurd (statement-of (g .section) i h k t (first-part (g .section) i (statementBytes t) (programBytes q) st))
 
@@ -228,7 +228,7 @@ module _ (g : Ground) (i : ℕ) (kept : List ℕ) (e : Env) (live : Bool) (p : P
     list-stops z = record { low = omega (arith, L .low); high = L .high; reach = L .reach; dry = L .dry; right = go }
       where
         go : (a : Sheet) → Sources (g .tags) (g .strings) a → (q : Program) → LiesAt programBytes (g .section) i q → StatementsFit (length (a .names)) (g .strings) q
-            → Says (lived live (execute a kept q (e .values) (e .echo)) e) p (i + length (programBytes q)) l d₁
+            → WentOnTo (lived live (execute a kept q (e .values) (e .echo)) e) p (i + length (programBytes q)) l d₁
         go a src done st fits = absurd (k (first-byte (g .section) i 0 [] st))
         go a src (step t q) st fits =
             let x = L .right a src t (first-part (g .section) i (statementBytes t) (programBytes q) st) (fits .0) in
@@ -238,7 +238,7 @@ module _ (g : Ground) (i : ℕ) (kept : List ℕ) (e : Env) (live : Bool) (p : P
     list-goes y r d R = record { low = omega (arith, L .low, R .low); high = R .high; reach = omega (arith, L .reach, R .reach); dry = λ z. R .dry z ∙ L .dry z; right = go }
       where
         go : (a : Sheet) → Sources (g .tags) (g .strings) a → (q : Program) → LiesAt programBytes (g .section) i q → StatementsFit (length (a .names)) (g .strings) q
-            → Says (lived live (execute a kept q (e .values) (e .echo)) e) p (i + length (programBytes q)) r d
+            → WentOnTo (lived live (execute a kept q (e .values) (e .echo)) e) p (i + length (programBytes q)) r d
         go a src done st fits = absurd (k (first-byte (g .section) i 0 [] st))
         go a src (step t q) st fits =
             let s = g .section in

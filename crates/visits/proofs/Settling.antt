@@ -13,7 +13,7 @@ use Rattle.programs.specs.Limits.{Attribute}
 use Rattle.programs.proofs.Reading.{byte-of, first-byte, starts-length}
 use Rattle.output.specs.Escape.{Piece}
 use Rattle.runs.specs.Execute.{Effect}
-use Rattle.visits.specs.Evaluated.{LiesAt, SettledAs, PastIs, EndIs}
+use Rattle.visits.specs.Evaluated.{LiesAt, SettledAs, PastIs, SectionEndIs}
 use Rattle.visits.specs.declared.Env.{Env}
 use Rattle.visits.proofs.Lying.{statement-of}
 
@@ -104,7 +104,7 @@ module _ (s : List ℕ) (i : ℕ) where
   width-is (branch c l m) st =
       rw (first-byte s i 10 (conditionBytes c ++ (programBytes l ++ programBytes m)) st) (λ z. absurd (omega arith), λ z. absurd (omega arith), λ z. absurd (omega arith), λ z. absurd (omega arith), λ z a b c d. absurd (d refl))
 
-  pub past-is : (w r : ℕ) → EndIs s i w r → ((t : Statement) → LiesAt statementBytes s i t → length (statementBytes t) ≡ w) → PastIs s i r
+  pub past-is : (w r : ℕ) → SectionEndIs s i w r → ((t : Statement) → LiesAt statementBytes s i t → length (statementBytes t) ≡ w) → PastIs s i r
   past-is w r E f = record { low = E .low; high = E .high; exact = go }
     where
       go : (t : Statement) → LiesAt statementBytes s i t → r ≡ i + length (statementBytes t)

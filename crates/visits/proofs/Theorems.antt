@@ -17,7 +17,7 @@ use Rattle.runs.specs.Fits.{AllValues}
 use Rattle.runs.proofs.Execute.{Fine, execute-fine, recalls-nothing}
 use Rattle.runs.proofs.SheetFits.{program-fits, sheet-fits}
 use Rattle.visits.specs.Written.{Pen}
-use Rattle.visits.specs.Ran.{Comes}
+use Rattle.visits.specs.Ran.{Came}
 use Rattle.visits.specs.Performed.{PerformedAs}
 use Rattle.visits.specs.declared.Env.{Env}
 use Rattle.visits.specs.declared.Performed.{Performed}
@@ -36,16 +36,16 @@ module _ (s : List ℕ) (field : ℕ) (kept : List ℕ) (e : Env) (p : Pen) (r :
   pub one-answer : (q : Performed) (d′ : List ℕ) → PerformedAs s field kept e p q d′ → (v : Visit) (m : Option Program) → Names v m → (r ≡ q) × ((p .write ≡ false) ⊎ (r .ok ≡ true) → d ≡ d′)
   one-answer q d′ Q v m f = go (performed a kept m (e .values) (e .echo)) (R .right a z v m f) (Q .right a z v m f)
     where
-      go : (o : Option Effect) → Comes o p (r .ok) (r .at) (r .env) d → Comes o p (q .ok) (q .at) (q .env) d′ → (r ≡ q) × ((p .write ≡ false) ⊎ (r .ok ≡ true) → d ≡ d′)
+      go : (o : Option Effect) → Came o p (r .ok) (r .at) (r .env) d → Came o p (q .ok) (q .at) (q .env) d′ → (r ≡ q) × ((p .write ≡ false) ⊎ (r .ok ≡ true) → d ≡ d′)
       go none x y =
           (performed-by (x ∙ sym y) (R .back x .0 ∙ sym (Q .back y .0)) (R .back x .1 ∙ sym (Q .back y .1)), λ w. ⊎-elim (λ b. R .dry b ∙ sym (Q .dry b)) (λ b. absurd (true≢false (sym b ∙ x))) w)
       go (some c) x y = (performed-by (x .0 ∙ sym (y .0)) (x .3 .next ∙ sym (y .3 .next)) (env-by (x .1 ∙ sym (y .1)) (x .2 ∙ sym (y .2))), λ w. x .3 .left ∙ sym (y .3 .left))
 
   -- a first visit has nothing to recall
-  pub first-visit-recalls-nothing : (k : List ℕ) (m : Option Program) → Names first m → Comes (performed a k m (e .values) (e .echo)) p (r .ok) (r .at) (r .env) d
+  pub first-visit-recalls-nothing : (k : List ℕ) (m : Option Program) → Names first m → Came (performed a k m (e .values) (e .echo)) p (r .ok) (r .at) (r .env) d
   first-visit-recalls-nothing k none f = R .right a z first none f
   first-visit-recalls-nothing k (some q) (names n q₁ S w) =
-      subst (λ (o : Option Effect). Comes o p (r .ok) (r .at) (r .env) d) (recalls-nothing a kept k q w (e .values) (e .echo)) (R .right a z first (some q) (names n q S w))
+      subst (λ (o : Option Effect). Came o p (r .ok) (r .at) (r .env) d) (recalls-nothing a kept k q w (e .values) (e .echo)) (R .right a z first (some q) (names n q S w))
 
   -- values stay in bounds
   pub values-stay : (v : Visit) (m : Option Program) → Names v m → AllValues kept → AllValues (e .values) → AllValues (r .env .values)
@@ -56,6 +56,6 @@ module _ (s : List ℕ) (field : ℕ) (kept : List ℕ) (e : Env) (p : Pen) (r :
       fine (some q) (names n q₁ S w) =
           execute-fine a (sheet-fits z .names-fit) kept k-fits q (program-fits z v field (some q) (names n q S w) .0 .fits) (e .values) (e .echo) fits
 
-      go : (o : Option Effect) → Fine (length (e .values)) o → Comes o p (r .ok) (r .at) (r .env) d → AllValues (r .env .values)
+      go : (o : Option Effect) → Fine (length (e .values)) o → Came o p (r .ok) (r .at) (r .env) d → AllValues (r .env .values)
       go none g c = subst (λ (f : Env). AllValues (f .values)) (sym (R .back c .1)) fits
       go (some x) g c = subst AllValues (sym (c .1)) (g .0)

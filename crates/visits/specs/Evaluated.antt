@@ -28,7 +28,7 @@ pub record JudgedAs (s : List ℕ) (i : ℕ) (kept values : List ℕ) (r : Judge
   pub right : (c : Condition) → LiesAt conditionBytes s i c → (r .yes ≡ holds kept c values) × (r .next ≡ i + length (conditionBytes c))
 
 -- r is i + w, as far as the section goes
-pub record EndIs (s : List ℕ) (i w r : ℕ) : Type 0 where
+pub record SectionEndIs (s : List ℕ) (i w r : ℕ) : Type 0 where
   pub low : i + 1 ≤ r
   pub high : r ≤ length s
   pub exact : i + w ≤ length s → r ≡ i + w

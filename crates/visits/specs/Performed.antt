@@ -10,7 +10,7 @@ use Rattle.programs.specs.Section.{FieldIs}
 use Rattle.sheet.specs.Sheet.{Sheet, IsSheet}
 use Rattle.runs.specs.Visits.{performed}
 use Rattle.visits.specs.Written.{Pen}
-use Rattle.visits.specs.Ran.{mostPrinted, Comes}
+use Rattle.visits.specs.Ran.{mostPrinted, Came}
 use Rattle.visits.specs.declared.Env.{Env}
 use Rattle.visits.specs.declared.Performed.{Performed}
 
@@ -20,4 +20,4 @@ pub record PerformedAs (s : List ℕ) (field : ℕ) (kept : List ℕ) (e : Env) 
   pub dry : p .write ≡ false → d ≡ p .lent
   pub back : r .ok ≡ false → (r .at ≡ p .at) × (r .env ≡ e)
   pub right : (a : Sheet) (z : IsSheet s a) (v : Visit) (m : Option Program) → FieldIs (z .well-formed .programs .programs) v field m
-      → Comes (performed a kept m (e .values) (e .echo)) p (r .ok) (r .at) (r .env) d
+      → Came (performed a kept m (e .values) (e .echo)) p (r .ok) (r .at) (r .env) d

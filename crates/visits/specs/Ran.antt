@@ -26,14 +26,14 @@ lived true o e = o
 lived false o e = some (record { values = e .values; echo = e .echo; printed = [] })
 
 -- whether it went on, the offset, the attributes with echo, and the memory, are what the outcome says from p on
-abbrev pub Comes : Option Effect → Pen → Bool → ℕ → Env → List ℕ → Type 0
-Comes none p ok at e d = ok ≡ false
-Comes (some x) p ok at e d =
+abbrev pub Came : Option Effect → Pen → Bool → ℕ → Env → List ℕ → Type 0
+Came none p ok at e d = ok ≡ false
+Came (some x) p ok at e d =
     (ok ≡ true) × (e .values ≡ x .values) × (e .echo ≡ x .echo) × PutAs (p .write) (p .lent) (p .at) (render (x .printed)) d at
 
 -- also what was run ended at n, where it went on
-abbrev pub Says : Option Effect → Pen → ℕ → Ran → List ℕ → Type 0
-Says o p n r d = Comes o p (r .ok) (r .at) (r .env) d × (r .ok ≡ true → r .next ≡ n)
+abbrev pub WentOnTo : Option Effect → Pen → ℕ → Ran → List ℕ → Type 0
+WentOnTo o p n r d = Came o p (r .ok) (r .at) (r .env) d × (r .ok ≡ true → r .next ≡ n)
 
 -- a kind of thing that lies in a program section and does something
 pub record Runnable : Type 1 where
@@ -62,4 +62,4 @@ pub record RanAs (K : Runnable) (g : Ground) (i : ℕ) (kept : List ℕ) (e : En
   pub reach : r .at + mostPrinted * i ≤ p .at + mostPrinted * r .next
   pub dry : p .write ≡ false → d ≡ p .lent
   pub right : (a : Sheet) → Sources (g .tags) (g .strings) a → (x : K .Thing) → LiesAt (K .bytes) (g .section) i x → K .Fits (length (a .names)) (g .strings) x
-      → Says (lived live (K .does a kept x (e .values) (e .echo)) e) p (i + length (K .bytes x)) r d
+      → WentOnTo (lived live (K .does a kept x (e .values) (e .echo)) e) p (i + length (K .bytes x)) r d

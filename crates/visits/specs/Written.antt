@@ -44,16 +44,16 @@ tagText false n = startTag n
 tagText true n = endTag n
 
 -- the record of tag t, 16 bytes after 16 bytes, starts with the length of the name n and n
-pub record NameAt (tags : List ℕ) (t : ℕ) (n : List ℕ) : Type 0 where
+pub record TagNameAt (tags : List ℕ) (t : ℕ) (n : List ℕ) : Type 0 where
   pub short : length n ≤ longestName
   pub spelled : Starts (drop (16 * t) tags) (length n ∷ n)
 
 abbrev pub TagOf : List ℕ → ℕ → Bool → List ℕ → Type 0
-TagOf tags t ending w = (n : List ℕ) × NameAt tags t n × (w ≡ tagText ending n)
+TagOf tags t ending w = (n : List ℕ) × TagNameAt tags t n × (w ≡ tagText ending n)
 
 -- the bytes that the tags' records start, and the strings, are those of the sheet a
 pub record Sources (tags strings : List ℕ) (a : Sheet) : Type 0 where
-  pub names-are : (t : ℕ) → t < length (a .names) → NameAt tags t (nameOf (a .names) t)
+  pub names-are : (t : ℕ) → t < length (a .names) → TagNameAt tags t (nameOf (a .names) t)
   pub strings-are : a .strings ≡ strings
 
 -- what the statement that lies at i prints, in a sheet with those tags and strings

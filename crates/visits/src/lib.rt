@@ -6,7 +6,7 @@ ghost use lib.ListN.{length, getD, set};
 ghost use Rattle.output.specs.Reach.{farthest};
 ghost use Rattle.runs.specs.Visits.{attributes};
 ghost use Rattle.layout.specs.LaidOut.{LaidOut};
-ghost use Rattle.visits.specs.Evaluated.{ValueIs, JudgedAs, SettledAs, PastIs, EndIs};
+ghost use Rattle.visits.specs.Evaluated.{ValueIs, JudgedAs, SettledAs, PastIs, SectionEndIs};
 ghost use Rattle.visits.specs.Written.{Written, TextOf, RangeOf, TagOf, PrintOf};
 ghost use Rattle.visits.specs.Ran.{mostPrinted, RanAs, statements, lists};
 ghost use Rattle.visits.specs.Performed.{PerformedAs};
@@ -279,7 +279,7 @@ fn print(
 // The end of w bytes from i on, no further than the section goes.
 fn end_of(s: &[u8], i: usize, w: usize) -> usize
     requires { ⌜ (i < length (now s)) × (1 ≤ w) ⌝ }
-    ensures { λ r. ⌜ EndIs (now (s .entry)) i w r ⌝ }
+    ensures { λ r. ⌜ SectionEndIs (now (s .entry)) i w r ⌝ }
 {
     if s.len() - i < w {
         return s.len();

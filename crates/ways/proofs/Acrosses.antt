@@ -18,7 +18,7 @@ use Rattle.ways.specs.Held.{LineIn as Line}
 use Rattle.ways.specs.Held.{WayIn as Way}
 use Rattle.ways.specs.declared.Spot.{Spot}
 use Rattle.ways.specs.declared.Parts.{Parts}
-use Rattle.ways.specs.Held.{again, Kept, WayIs, MissingWay}
+use Rattle.ways.specs.Held.{withBytes, Kept, WayIs, MissingWay}
 use Rattle.ways.specs.Spot.{SpotIn, PartOf, PartsOf}
 use Rattle.ways.specs.Walks.{Into, OutOf, Across}
 use Rattle.ways.proofs.Away.{or-none, Away, out-away, across-away}
@@ -59,7 +59,7 @@ module _ (s : List ℕ) (t : Spot) (k : ℕ) (kind : k ≡ kindOf s (t .node)) (
               e at;
         }
 
-    pub across-turns : a .line .found ≡ false → (out : Line) → OutOf s only p (again w (a .line .bytes)) out → (r : Way) → Into s only x out r → Across s t p x w r
+    pub across-turns : a .line .found ≡ false → (out : Line) → OutOf s only p (withBytes w (a .line .bytes)) out → (r : Way) → Into s only x out r → Across s t p x w r
     across-turns missed out left r entered =
         record {
           few = omega (arith, left .few, entered .few, part .nodes-are, spot .any);
@@ -130,7 +130,7 @@ module _ (s : List ℕ) (t : Spot) (k : ℕ) (kind : k ≡ kindOf s (t .node)) (
       -- it is in the first part: none leads from the second
       module _ (before : p < two .second .atom) where
         -- a concatenation: out of the first part and into the second
-        pub across-cat : a .line .found ≡ false → k ≡ 3 → (out : Line) → OutOf s (two .first) p (again w (a .line .bytes)) out → (b : Way) → Into s (two .second) x out b → Across s t p x w b
+        pub across-cat : a .line .found ≡ false → k ≡ 3 → (out : Line) → OutOf s (two .first) p (withBytes w (a .line .bytes)) out → (b : Way) → Into s (two .second) x out b → Across s t p x w b
         across-cat missed c out left b entered =
             record {
               few = omega (arith, parts .both, left .few, entered .few);

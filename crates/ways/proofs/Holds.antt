@@ -10,7 +10,7 @@ use lib.ListN.{length, take, set, length-append, length-set}
 use lib.Seq.{take-take, take-set-le, take-suc-set}
 use Rattle.expressions.specs.Words.{Bracket}
 use Rattle.runs.specs.Way.{Way as Found, joined, led}
-use Rattle.ways.specs.Held.{LineIn as Line, WayIn as Way, again, codeOf, codes, LineIs, Kept, Missing, WayIs, MissingWay, Pushed, Bracketed}
+use Rattle.ways.specs.Held.{LineIn as Line, WayIn as Way, withBytes, codeOf, codes, LineIs, Kept, Missing, WayIs, MissingWay, PushedBracket, Bracketed}
 
 pub line-moved : {o p : Option (List Bracket)} {r : Line} → o ≡ p → LineIs o r → LineIs p r
 line-moved {o} {p} {r} e h = subst (λ (z : Option (List Bracket)). LineIs z r) e h
@@ -49,15 +49,15 @@ kept-then {w} {r} {q} h k =
           ∙ h .same;
     }
 
-pub kept-again : {w r : Line} → Kept w r → Kept w (again w (r .bytes))
+pub kept-again : {w r : Line} → Kept w r → Kept w (withBytes w (r .bytes))
 kept-again {w} {r} h = record { low = omega arith; long = h .long; same = h .same }
 
 pub line-with : {w : Line} (b : List ℕ) → (w .length ≤ length b → w .length ≤ length (w .bytes)) → take (w .length) b ≡ take (w .length) (w .bytes) →
-    (o : Option (List Bracket)) → LineIs o w → LineIs o (again w b)
+    (o : Option (List Bracket)) → LineIs o w → LineIs o (withBytes w b)
 line-with b room same none l = record { found-is = l .found-is; string-is = tt }
 line-with b room same (some α) l = record { found-is = l .found-is; string-is = (l .string-is .0, λ f. same ∙ l .string-is .1 (room f)) }
 
-pub line-again : {w r : Line} → Kept w r → (o : Option (List Bracket)) → LineIs o w → LineIs o (again w (r .bytes))
+pub line-again : {w r : Line} → Kept w r → (o : Option (List Bracket)) → LineIs o w → LineIs o (withBytes w (r .bytes))
 line-again {w} {r} h o l = line-with (r .bytes) (λ f. omega (arith, f, h .long)) (h .same) o l
 
 -- none
@@ -85,7 +85,7 @@ pub empty-line : (b : List ℕ) → LineIs (some []) (record { found = true; len
 empty-line b = record { found-is = refl; string-is = (refl, λ _. refl) }
 
 module _ (b : ℕ) (w : Line) where
-  pub pushed-none : w .found ≡ false → Pushed b w w
+  pub pushed-none : w .found ≡ false → PushedBracket b w w
   pushed-none f = record { few = omega arith; kept = kept-itself w; is = λ c e o h. absent-line w f o h (some (c ∷ [])) }
 
   module _ (f : w .found ≡ true) (room : w .length < length (w .bytes)) (r : Line) (found : r .found ≡ true) (one-more : r .length ≡ w .length + 1)
@@ -103,7 +103,7 @@ module _ (b : ℕ) (w : Line) where
           );
         }
 
-    pub pushed-one : Pushed b w r
+    pub pushed-one : PushedBracket b w r
     pushed-one =
         record {
           few = omega (arith, one-more);
@@ -126,9 +126,9 @@ module _ (b : ℕ) (w : Line) where
           string-is = (omega (arith, h .string-is .0, one-more, length-append α (c ∷ [])), λ room. absurd (omega (arith, room, one-more, past, ap length same)));
         }
 
-    pub pushed-past : Pushed b w r
+    pub pushed-past : PushedBracket b w r
     pushed-past = record { few = omega (arith, one-more); kept = record { low = omega (arith, one-more); long = ap length same; same = ap (take (w .length)) same }; is = λ c e o h. counted c o h }
 
-pub bracketed : (bracket : ℕ → Bracket) (i b : ℕ) (w r : Line) → b ≡ codeOf (bracket i) → Pushed b w r → Bracketed bracket i w r
+pub bracketed : (bracket : ℕ → Bracket) (i b : ℕ) (w r : Line) → b ≡ codeOf (bracket i) → PushedBracket b w r → Bracketed bracket i w r
 bracketed bracket i b w r e p =
     record { few = p .few; kept = p .kept; is = λ k q o h. p .is (bracket k) (e ∙ ap (λ (n : ℕ). codeOf (bracket n)) q) o h }

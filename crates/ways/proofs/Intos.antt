@@ -18,7 +18,7 @@ use Rattle.ways.specs.Held.{LineIn as Line}
 use Rattle.ways.specs.Held.{WayIn as Way}
 use Rattle.ways.specs.declared.Spot.{Spot}
 use Rattle.ways.specs.declared.Parts.{Parts}
-use Rattle.ways.specs.Held.{again, WayIs, MissingWay, Bracketed}
+use Rattle.ways.specs.Held.{withBytes, WayIs, MissingWay, Bracketed}
 use Rattle.ways.specs.Spot.{SpotIn, PartOf, PartsOf}
 use Rattle.ways.specs.Walks.{AtomWay, Through, Into}
 use Rattle.ways.proofs.Strings.{led-assoc, led-none, led-first, led-second}
@@ -90,7 +90,7 @@ module _ (s : List ℕ) (t : Spot) (k : ℕ) (kind : k ≡ kindOf s (t .node)) (
         }
 
     module _ (missed : a .line .found ≡ false) where
-      pub into-cat : k ≡ 3 → (over : Line) → Through s (two .first) (again inside (a .line .bytes)) over → (r : Way) → Into s (two .second) x over r → Into s t x w r
+      pub into-cat : k ≡ 3 → (over : Line) → Through s (two .first) (withBytes inside (a .line .bytes)) over → (r : Way) → Into s (two .second) x over r → Into s t x w r
       into-cat c over passed r second =
           record {
             few = omega (arith, parts .both, op .few, passed .few, second .few);
@@ -110,7 +110,7 @@ module _ (s : List ℕ) (t : Spot) (k : ℕ) (kind : k ≡ kindOf s (t .node)) (
                 e at;
           }
 
-      pub into-alt : (k ≡ 3 → ⊥) → (r : Way) → Into s (two .second) x (again inside (a .line .bytes)) r → Into s t x w r
+      pub into-alt : (k ≡ 3 → ⊥) → (r : Way) → Into s (two .second) x (withBytes inside (a .line .bytes)) r → Into s t x w r
       into-alt c r second =
           record {
             few = omega (arith, parts .both, op .few, second .few);

@@ -16,7 +16,7 @@ use Rattle.runs.specs.Way.{joined, closed, through, out-of}
 use Rattle.ways.specs.Held.{LineIn as Line}
 use Rattle.ways.specs.declared.Spot.{Spot}
 use Rattle.ways.specs.declared.Parts.{Parts}
-use Rattle.ways.specs.Held.{again, there, LineIs, Missing, Bracketed}
+use Rattle.ways.specs.Held.{withBytes, there, LineIs, Missing, Bracketed}
 use Rattle.ways.specs.Spot.{SpotIn, PartOf, PartsOf}
 use Rattle.ways.specs.Walks.{Through, OutOf, IfJoined}
 use Rattle.ways.proofs.Strings.{joined-assoc, joined-none}

@@ -15,9 +15,9 @@ use Rattle.runs.specs.Way.{Way as Found}
 use Rattle.trees.specs.declared.Symbol.{Symbol}
 use Rattle.trees.specs.declared.Symbol.the-variants.{Tag, Character, End}
 use Rattle.ways.specs.declared.Way.{Way as Answer}
-use Rattle.ways.specs.Held.{LineIn as Line, WayIn as Way, wayIn, again, LineIs, Missing, WayIs, MissingWay}
+use Rattle.ways.specs.Held.{LineIn as Line, WayIn as Way, wayIn, withBytes, LineIs, Missing, WayIs, MissingWay}
 use Rattle.few.specs.Strings.{mostBrackets}
-use Rattle.ways.specs.Answers.{EndWayIs, AtomWayIs, Told, WayAs}
+use Rattle.ways.specs.Answers.{EndWayIs, AtomWayIs, WayTold, WayAs}
 use Rattle.ways.proofs.Holds.{line-with, missing-line, missing-way}
 
 -- a way that was not found, and one in other bytes
@@ -30,20 +30,20 @@ none-way none r u w f n = n
 none-way (some v) r u w f n = absurd (true≢false (sym (w .line-is .found-is) ∙ f))
 
 abbrev inBytes : Way → List ℕ → Way
-inBytes r b = record { line = again (r .line) b; place = r .place; kind = r .kind; argument = r .argument }
+inBytes r b = record { line = withBytes (r .line) b; place = r .place; kind = r .kind; argument = r .argument }
 
 module _ (s : List ℕ) (q p : ℕ) where
   module _ (x : Symbol) (r : Way) where
-    pub told-tag : (t : ℕ) → x ≡ Tag t → AtomWayIs s q p x r → Told x s q p r
-    told-tag t e h = subst (λ (y : Symbol). Told y s q p r) (sym e) (subst (λ (y : Symbol). AtomWayIs s q p y r) e h)
+    pub told-tag : (t : ℕ) → x ≡ Tag t → AtomWayIs s q p x r → WayTold x s q p r
+    told-tag t e h = subst (λ (y : Symbol). WayTold y s q p r) (sym e) (subst (λ (y : Symbol). AtomWayIs s q p y r) e h)
 
-    pub told-character : x ≡ Character → AtomWayIs s q p x r → Told x s q p r
-    told-character e h = subst (λ (y : Symbol). Told y s q p r) (sym e) (subst (λ (y : Symbol). AtomWayIs s q p y r) e h)
+    pub told-character : x ≡ Character → AtomWayIs s q p x r → WayTold x s q p r
+    told-character e h = subst (λ (y : Symbol). WayTold y s q p r) (sym e) (subst (λ (y : Symbol). AtomWayIs s q p y r) e h)
 
-    pub told-end : x ≡ End → EndWayIs s q p (r .line) → r .place ≡ 0 → r .kind ≡ 0 → r .argument ≡ 0 → Told x s q p r
-    told-end e h i j k = subst (λ (y : Symbol). Told y s q p r) (sym e) (h, i, j, k)
+    pub told-end : x ≡ End → EndWayIs s q p (r .line) → r .place ≡ 0 → r .kind ≡ 0 → r .argument ≡ 0 → WayTold x s q p r
+    told-end e h i j k = subst (λ (y : Symbol). WayTold y s q p r) (sym e) (h, i, j, k)
 
-  pub told-few : (x : Symbol) (r : Way) → Told x s q p r → r .line .found ≡ true → r .line .length ≤ mostBrackets
+  pub told-few : (x : Symbol) (r : Way) → WayTold x s q p r → r .line .found ≡ true → r .line .length ≤ mostBrackets
   told-few (Tag t) r h f = h .few f
   told-few Character r h f = h .few f
   told-few End r h f = h .0 .few f
@@ -53,14 +53,14 @@ module _ (s : List ℕ) (q p : ℕ) where
     way-with : (o : Option Found) → r .line .length ≤ length (r .line .bytes) → WayIs o r → WayIs o (inBytes r b)
     way-with o full w = record { line-is = line-with b (λ _. full) e _ (w .line-is); place-is = w .place-is; kind-is = w .kind-is; argument-is = w .argument-is }
 
-    told-with : (x : Symbol) → Told x s q p r → Told x s q p (inBytes r b)
+    told-with : (x : Symbol) → WayTold x s q p r → WayTold x s q p (inBytes r b)
     told-with (Tag t) h = record { few = h .few; room = room; is = λ g γ d m. way-with _ (omega (arith, h .few found, h .room)) (h .is g γ d m) }
     told-with Character h = record { few = h .few; room = room; is = λ g γ d m. way-with _ (omega (arith, h .few found, h .room)) (h .is g γ d m) }
     told-with End h =
         (record { few = h .0 .few; room = room; is = λ g γ d m. line-with b (λ _. omega (arith, h .0 .few found, h .0 .room)) e _ (h .0 .is g γ d m) }, h .1, h .2, h .3)
 
-  told-none : (x : Symbol) (r : Way) → Told x s q p r → r .line .found ≡ false → (w : Line) → w .length ≡ 0 → (u : Way) → mostBrackets ≤ length (u .line .bytes) → MissingWay w u →
-      Told x s q p u
+  told-none : (x : Symbol) (r : Way) → WayTold x s q p r → r .line .found ≡ false → (w : Line) → w .length ≡ 0 → (u : Way) → mostBrackets ≤ length (u .line .bytes) → MissingWay w u →
+      WayTold x s q p u
   told-none (Tag t) r h f w e u room z =
       record { few = λ _. omega (arith, e, z .line-is .length-is); room = room; is = λ g γ d m. none-way _ r u (h .is g γ d m) f (missing-way z) }
   told-none Character r h f w e u room z =
@@ -73,7 +73,7 @@ module _ (s : List ℕ) (q p : ℕ) where
   )
 
   module _ (x : Symbol) (lent : List ℕ) where
-    pub way-none : (r : Way) → Told x s q p r → r .line .found ≡ false → (w : Line) → w .length ≡ 0 → (u : Answer) → mostBrackets ≤ length lent → MissingWay w (wayIn u lent) →
+    pub way-none : (r : Way) → WayTold x s q p r → r .line .found ≡ false → (w : Line) → w .length ≡ 0 → (u : Answer) → mostBrackets ≤ length lent → MissingWay w (wayIn u lent) →
         WayAs s q p x lent u lent
     way-none r h f w e u room z =
         record {
@@ -84,7 +84,7 @@ module _ (s : List ℕ) (q p : ℕ) where
           nothing = λ _. omega (arith, e, z .line-is .length-is);
         }
 
-    module _ (r : Answer) (b : List ℕ) (told : Told x s q p (wayIn r b)) (room : mostBrackets ≤ length lent) (full : mostBrackets ≤ length b) (f : r .line .found ≡ true) where
+    module _ (r : Answer) (b : List ℕ) (told : WayTold x s q p (wayIn r b)) (room : mostBrackets ≤ length lent) (full : mostBrackets ≤ length b) (f : r .line .found ≡ true) where
       fits : r .line .length ≤ mostBrackets
       fits = told-few x (wayIn r b) told f
 

@@ -14,7 +14,7 @@ use Rattle.runs.specs.Way.{joined, through}
 use Rattle.ways.specs.Held.{LineIn as Line}
 use Rattle.ways.specs.declared.Spot.{Spot}
 use Rattle.ways.specs.declared.Parts.{Parts}
-use Rattle.ways.specs.Held.{again, LineIs, Missing, Bracketed}
+use Rattle.ways.specs.Held.{withBytes, LineIs, Missing, Bracketed}
 use Rattle.ways.specs.Spot.{SpotIn, PartsOf}
 use Rattle.ways.specs.Walks.{Through}
 use Rattle.ways.proofs.Strings.{joined-assoc, joined-none, joined-first, joined-second, enclosed-is}
@@ -88,7 +88,7 @@ module _ (s : List ℕ) (t : Spot) (k : ℕ) (kind : k ≡ kindOf s (t .node)) (
                   e at;
             }
 
-        pub through-second : a .found ≡ false → (b r : Line) → Through s (two .second) (again inside (a .bytes)) b → Bracketed closing (t .bracket) b r → Through s t w r
+        pub through-second : a .found ≡ false → (b r : Line) → Through s (two .second) (withBytes inside (a .bytes)) b → Bracketed closing (t .bracket) b r → Through s t w r
         through-second missed b r second cl =
             record {
               few = omega (arith, parts .both, op .few, second .few, cl .few);

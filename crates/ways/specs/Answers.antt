@@ -38,15 +38,15 @@ pub record AtomWayIs (s : List ℕ) (q p : ℕ) (x : Symbol) (r : WayIn) : Type 
   pub is : (g : List Production) → GrammarIs s g → (d : Production) → Nth g q d → WayIs (atomWay (tagsOf g) (d .content) p (nextOf x)) r
 
 -- from there to the symbol x; the way to the end leads to no atom
-abbrev pub Told : Symbol → List ℕ → ℕ → ℕ → WayIn → Type 0
-Told (Tag t) s q p r = AtomWayIs s q p (Tag t) r
-Told Character s q p r = AtomWayIs s q p Character r
-Told End s q p r = EndWayIs s q p (r .line) × (r .place ≡ 0) × (r .kind ≡ 0) × (r .argument ≡ 0)
+abbrev pub WayTold : Symbol → List ℕ → ℕ → ℕ → WayIn → Type 0
+WayTold (Tag t) s q p r = AtomWayIs s q p (Tag t) r
+WayTold Character s q p r = AtomWayIs s q p Character r
+WayTold End s q p r = EndWayIs s q p (r .line) × (r .place ≡ 0) × (r .kind ≡ 0) × (r .argument ≡ 0)
 
 -- the same in the first of the lent bytes; those behind it stay as they were, and all of them where there is no way
 pub record WayAs (s : List ℕ) (q p : ℕ) (x : Symbol) (lent : List ℕ) (r : Way) (d : List ℕ) : Type 0 where
   pub few : r .line .length ≤ mostBrackets
   pub long : length d ≡ length lent
-  pub told : Told x s q p (wayIn r d)
+  pub told : WayTold x s q p (wayIn r d)
   pub behind : drop (r .line .length) d ≡ drop (r .line .length) lent
   pub nothing : r .line .found ≡ false → r .line .length ≡ 0

@@ -32,8 +32,8 @@ abbrev pub wayIn : Way → List ℕ → WayIn
 wayIn r b = record { line = lineIn (r .line) b; place = r .place; kind = r .kind; argument = r .argument }
 
 -- the same line where the lent bytes have become b
-abbrev pub again : LineIn → List ℕ → LineIn
-again w b = record { found = w .found; length = w .length; bytes = b }
+abbrev pub withBytes : LineIn → List ℕ → LineIn
+withBytes w b = record { found = w .found; length = w .length; bytes = b }
 
 -- a bracket's byte
 abbrev pub codeOf : Bracket → ℕ
@@ -54,14 +54,14 @@ stringIn none = []
 stringIn (some α) = α
 
 -- of n lent bytes b: where there is a string, it is that long and, if they have room for it, those are its bytes
-abbrev pub Holds : Option (List Bracket) → ℕ → List ℕ → Type 0
-Holds none n b = Unit {0}
-Holds (some α) n b = (n ≡ length α) × (n ≤ length b → take n b ≡ codes α)
+abbrev pub HoldsString : Option (List Bracket) → ℕ → List ℕ → Type 0
+HoldsString none n b = Unit {0}
+HoldsString (some α) n b = (n ≡ length α) × (n ≤ length b → take n b ≡ codes α)
 
 -- r holds the string, or that there is none
 pub record LineIs (o : Option (List Bracket)) (r : LineIn) : Type 0 where
   pub found-is : r .found ≡ there o
-  pub string-is : Holds o (r .length) (r .bytes)
+  pub string-is : HoldsString o (r .length) (r .bytes)
 
 -- what w has in the lent bytes stays there
 pub record Kept (w r : LineIn) : Type 0 where
@@ -87,9 +87,9 @@ abbrev pub argumentNumber : Atom → ℕ
 argumentNumber (nonterminal n) = n
 argumentNumber anychar = 0
 
-abbrev pub placeIn : Option Found → ℕ
-placeIn none = 0
-placeIn (some w) = w .place
+abbrev pub placeFound : Option Found → ℕ
+placeFound none = 0
+placeFound (some w) = w .place
 
 abbrev pub kindIn : Option Found → ℕ
 kindIn none = 0
@@ -102,7 +102,7 @@ argumentIn (some w) = argumentNumber (w .kind)
 -- r holds the way, or that there is none
 pub record WayIs (o : Option Found) (r : WayIn) : Type 0 where
   pub line-is : LineIs (stringOf o) (r .line)
-  pub place-is : r .place ≡ placeIn o
+  pub place-is : r .place ≡ placeFound o
   pub kind-is : r .kind ≡ kindIn o
   pub argument-is : r .argument ≡ argumentIn o
 
@@ -114,7 +114,7 @@ pub record MissingWay (w : LineIn) (r : WayIn) : Type 0 where
   pub argument-is : r .argument ≡ 0
 
 -- r is what w holds and then the bracket whose byte is b, where w holds one
-pub record Pushed (b : ℕ) (w r : LineIn) : Type 0 where
+pub record PushedBracket (b : ℕ) (w r : LineIn) : Type 0 where
   pub few : r .length ≤ w .length + 1
   pub kept : Kept w r
   pub is : (c : Bracket) → b ≡ codeOf c → (o : Option (List Bracket)) → LineIs o w → LineIs (joined o (some (c ∷ []))) r

@@ -8,13 +8,13 @@ ghost use Rattle.layout.specs.LaidOut.{LaidOut};
 ghost use Rattle.layout.specs.Records.{kindOf, nodeCountOf};
 ghost use Rattle.trees.specs.Trees.{Trees};
 ghost use Rattle.trees.specs.Parsed.{RunsInside};
-ghost use Rattle.ways.specs.Held.{lineIn, wayIn, Missing, MissingWay, Pushed, Bracketed};
+ghost use Rattle.ways.specs.Held.{lineIn, wayIn, Missing, MissingWay, PushedBracket, Bracketed};
 ghost use Rattle.trees.specs.Tally.{TreeIn};
 ghost use Rattle.ways.specs.Spot.{SpotIn, PartOf, PartsOf};
 ghost use Rattle.ways.specs.Past.{OneOn, PassedBy};
 ghost use Rattle.ways.specs.Walks.{CanIs, AtomWay, Through, Into, IfJoined, OutOf, Across};
 ghost use Rattle.few.specs.Strings.{mostBrackets};
-ghost use Rattle.ways.specs.Answers.{mostTried, FollowsS, EndWayIs, AtomWayIs, Told, WayAs};
+ghost use Rattle.ways.specs.Answers.{mostTried, FollowsS, EndWayIs, AtomWayIs, WayTold, WayAs};
 use layout::Layout;
 use layout::argument_of;
 use layout::first_node_of;
@@ -89,7 +89,7 @@ fn no_way(w: Line) -> Way
 fn push(w: Line, b: usize, line: &mut [u8]) -> Line
     requires { ⌜ b < 256 ⌝ }
     requires { ⌜ w .length < mostTried ⌝ }
-    ensures { λ r. ⌜ Pushed b (lineIn w (now (line .entry))) (lineIn r (now (line .exit))) ⌝ }
+    ensures { λ r. ⌜ PushedBracket b (lineIn w (now (line .entry))) (lineIn r (now (line .exit))) ⌝ }
 {
     if !w.found {
         return w;
@@ -488,7 +488,7 @@ fn search(s: &[u8], l: Layout, q: usize, p: usize, x: Symbol, line: &mut [u8]) -
     requires { ⌜ q < l .productions ⌝ }
     requires { ⌜ nodeCountOf (now s) q ≤ 32 ⌝ }
     requires { ⌜ mostBrackets ≤ length (now line) ⌝ }
-    ensures { λ r. ⌜ Told x (now (s .entry)) q p (wayIn r (now (line .exit))) ⌝ }
+    ensures { λ r. ⌜ WayTold x (now (s .entry)) q p (wayIn r (now (line .exit))) ⌝ }
     ensures { λ _. ⌜ length (now (line .exit)) ≡ length (now (line .entry)) ⌝ }
 {
     match x {

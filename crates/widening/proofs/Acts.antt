@@ -12,7 +12,7 @@ use Rattle.programs.specs.Limits.{Visit, first, second}
 use Rattle.sheet.specs.Sheet.{Sheet}
 use Rattle.output.specs.Escape.{Piece, start, end, character}
 use Rattle.runs.specs.Visits.{Env, Saved, saved, programsOf, tagName, performed, visit, whileOn, echoed, returned, opens, revisits, closes, enters, leaves}
-use Rattle.runs.specs.Acts.{Act, node-first, node-second, start-tag, end-tag, letter-read, Store, pushed, innermost, without-node, without-element, act, acts}
+use Rattle.runs.specs.Acts.{Act, node-first, node-second, start-tag, end-tag, letter-read, Store, with-node, innermost, without-node, without-element, act, acts}
 use Rattle.runs.specs.Fits.{ProgramFitsIn}
 use Rattle.widening.proofs.Alike.{Same, Values, Both, neither, each, both-bind, Rows, no-row, row}
 use Rattle.widening.proofs.Programs.{Effects, all-alike}
@@ -50,7 +50,7 @@ echoed-alike p v w h = record {
 returned-alike : {top : ℕ} (e e′ : Bool) → e ≡ e′ → (v w : Env) → Envs top v w → Envs top (returned e v) (returned e′ w)
 returned-alike e e′ q v w h = record { values = h .values; echo = q; out = h .out; count = h .count }
 
-pushed-alike : (k k′ : Saved) → Saveds k k′ → {l l′ : List (List Saved)} → Kept l l′ → Kept (pushed k l) (pushed k′ l′)
+pushed-alike : (k k′ : Saved) → Saveds k k′ → {l l′ : List (List Saved)} → Kept l l′ → Kept (with-node k l) (with-node k′ l′)
 pushed-alike k k′ h no-row = no-row
 pushed-alike k k′ h (row r rs) = row (row h r) rs
 

@@ -11,7 +11,7 @@ use Rattle.expressions.specs.Fault.{Fault}
 use Rattle.layout.specs.Layout.{productionCount}
 use Rattle.parting.specs.Parting.{PartAt}
 use Rattle.parting.specs.Firsts.{Firsts, no-string, one-string, two-strings, firsts}
-use Rattle.parting.specs.Laws.{FaultBy, Tells}
+use Rattle.parting.specs.Laws.{FaultBy, TellsFault}
 use Rattle.parting.proofs.Parting.{part-at-one-sign}
 use Rattle.parting.proofs.Faults.{firsts-tell-faults}
 use Rattle.sheet.specs.Sheet.{Sheet, grammarOf, IsSheet}
@@ -27,7 +27,7 @@ use Rattle.witness.specs.Walks.{FirstsAre}
 use Rattle.witness.specs.Answers.{SignBetween, NoWitness, WitnessAs, no-fault, a-fault}
 
 -- fewer than two strings are no fault
-few-no-fault : (tags : ℕ → List ℕ) (e : Content) (p : ℕ) (x : Next) (r : Pair) (f : Firsts) → AreHeld f r → r .count < 2 → Tells tags e p x f → Fault tags e p x → ⊥
+few-no-fault : (tags : ℕ → List ℕ) (e : Content) (p : ℕ) (x : Next) (r : Pair) (f : Firsts) → AreHeld f r → r .count < 2 → TellsFault tags e p x f → Fault tags e p x → ⊥
 few-no-fault tags e p x r no-string h z t = t
 few-no-fault tags e p x r (one-string α) h z t = t
 few-no-fault tags e p x r (two-strings α β) h z t = absurd (omega (arith, z, h .0))
@@ -56,7 +56,7 @@ module _ {s : List ℕ} {a : Sheet} (i : IsSheet s a) (q p : ℕ) (x : Symbol) w
 
     module _ (r : Reason) (number-is : r .number ≡ 9) (first-is : r .first ≡ f .first) (second-is : r .second ≡ f .second) (sign : SignBetween (f .first) (f .second) (r .sign))
         (enough : 2 ≤ f .count) (d : Production) (m : Nth g q d) where
-      by-strings : (o : Firsts) → firsts (tagsOf g) (d .content) p (nextOf x) ≡ o → AreHeld o f → Tells (tagsOf g) (d .content) p (nextOf x) o → WitnessAs s q p x r
+      by-strings : (o : Firsts) → firsts (tagsOf g) (d .content) p (nextOf x) ≡ o → AreHeld o f → TellsFault (tagsOf g) (d .content) p (nextOf x) o → WitnessAs s q p x r
       by-strings no-string e k t = absurd (omega (arith, enough, k))
       by-strings (one-string α) e k t = absurd (omega (arith, enough, k .0))
       by-strings (two-strings α β) e k t =

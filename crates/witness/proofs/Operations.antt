@@ -10,23 +10,23 @@ use lib.Seq.{length-take-le, take-at}
 use Rattle.lent.specs.Put.{PutAs}
 use Rattle.lent.proofs.Laws.{put-all}
 use Rattle.expressions.specs.Words.{Bracket, opening, closing}
-use Rattle.parting.specs.Firsts.{Firsts, no-string, one-string, two-strings, either, each, both, turned, when, opened, closed}
+use Rattle.parting.specs.Firsts.{Firsts, no-string, one-string, two-strings, either, eachChanged, both, goesRound, when, eachOpened, eachClosed}
 use Rattle.ways.specs.Held.{codeOf, codes}
 use Rattle.ways.proofs.Holds.{length-codes}
 use Rattle.witness.specs.declared.Row.{Row}
 use Rattle.witness.specs.declared.Pair.{Pair}
-use Rattle.witness.specs.Held.{longest, StringIn, AreHeld, Holds, BracketIs, JoinedAs, WhenIs, OpenedAs, ClosedAs, EitherAs, BothAs, TurnedAs}
+use Rattle.witness.specs.Held.{longest, StringIn, AreHeld, HoldsWithin, BracketIs, JoinedAs, WhenIs, OpenedAs, ClosedAs, EitherAs, BothAs, GoesRoundAs}
 
 codes-append : (α β : List Bracket) → codes (α ++ β) ≡ codes α ++ codes β
 codes-append [] β = refl
 codes-append (c ∷ α) β = ap (λ (l : List ℕ). codeOf c ∷ l) (codes-append α β)
 
 -- whether there is an empty string
-pub when-there : (there : Bool) (r : Pair) → there ≡ true → Holds 0 0 (one-string []) r → WhenIs there r
-when-there there r t h = record { is = λ b e. subst (λ (z : Bool). Holds 0 0 (when z) r) (sym t ∙ e) h }
+pub when-there : (there : Bool) (r : Pair) → there ≡ true → HoldsWithin 0 0 (one-string []) r → WhenIs there r
+when-there there r t h = record { is = λ b e. subst (λ (z : Bool). HoldsWithin 0 0 (when z) r) (sym t ∙ e) h }
 
-pub when-not : (there : Bool) (r : Pair) → there ≡ false → Holds 0 0 no-string r → WhenIs there r
-when-not there r t h = record { is = λ b e. subst (λ (z : Bool). Holds 0 0 (when z) r) (sym t ∙ e) h }
+pub when-not : (there : Bool) (r : Pair) → there ≡ false → HoldsWithin 0 0 no-string r → WhenIs there r
+when-not there r t h = record { is = λ b e. subst (λ (z : Bool). HoldsWithin 0 0 (when z) r) (sym t ∙ e) h }
 
 -- one string and then another
 module _ (a b : Row) where
@@ -66,25 +66,25 @@ module _ (a b : Row) where
 module _ (c : Row) (bracket : Bracket) (one : c .length ≡ 1) (spells : StringIn (bracket ∷ []) c) (f r : Pair) (same : r .count ≡ f .count) (a b : ℕ)
     (room : a + 1 ≤ longest) (room′ : b + 1 ≤ longest) where
   module _ (j : JoinedAs c (f .first) (r .first)) (k : JoinedAs c (f .second) (r .second)) where
-    before-each : (φ : Firsts) → Holds a b φ f → Holds (a + 1) (b + 1) (each (λ α. bracket ∷ α) φ) r
+    before-each : (φ : Firsts) → HoldsWithin a b φ f → HoldsWithin (a + 1) (b + 1) (eachChanged (λ α. bracket ∷ α) φ) r
     before-each φ h =
         let x : c .length + f .first .length ≤ longest = omega (arith, one, h .few, room) in
         let y : c .length + f .second .length ≤ longest = omega (arith, one, h .few-more, room′) in
         record { few = omega (arith, j .long x, one, h .few); few-more = omega (arith, k .long y, one, h .few-more); held = go φ (h .held) x y }
       where
-        go : (φ : Firsts) → AreHeld φ f → c .length + f .first .length ≤ longest → c .length + f .second .length ≤ longest → AreHeld (each (λ α. bracket ∷ α) φ) r
+        go : (φ : Firsts) → AreHeld φ f → c .length + f .first .length ≤ longest → c .length + f .second .length ≤ longest → AreHeld (eachChanged (λ α. bracket ∷ α) φ) r
         go no-string h x y = same ∙ h
         go (one-string α) h x y = (same ∙ h .0, j .is x (bracket ∷ []) α spells (h .1))
         go (two-strings α β) h x y = (same ∙ h .0, j .is x (bracket ∷ []) α spells (h .1), k .is y (bracket ∷ []) β spells (h .2))
 
   module _ (j : JoinedAs (f .first) c (r .first)) (k : JoinedAs (f .second) c (r .second)) where
-    behind-each : (φ : Firsts) → Holds a b φ f → Holds (a + 1) (b + 1) (each (λ α. α ++ bracket ∷ []) φ) r
+    behind-each : (φ : Firsts) → HoldsWithin a b φ f → HoldsWithin (a + 1) (b + 1) (eachChanged (λ α. α ++ bracket ∷ []) φ) r
     behind-each φ h =
         let x : f .first .length + c .length ≤ longest = omega (arith, one, h .few, room) in
         let y : f .second .length + c .length ≤ longest = omega (arith, one, h .few-more, room′) in
         record { few = omega (arith, j .long x, one, h .few); few-more = omega (arith, k .long y, one, h .few-more); held = go φ (h .held) x y }
       where
-        go : (φ : Firsts) → AreHeld φ f → f .first .length + c .length ≤ longest → f .second .length + c .length ≤ longest → AreHeld (each (λ α. α ++ bracket ∷ []) φ) r
+        go : (φ : Firsts) → AreHeld φ f → f .first .length + c .length ≤ longest → f .second .length + c .length ≤ longest → AreHeld (eachChanged (λ α. α ++ bracket ∷ []) φ) r
         go no-string h x y = same ∙ h
         go (one-string α) h x y = (same ∙ h .0, j .is x α (bracket ∷ []) (h .1) spells)
         go (two-strings α β) h x y = (same ∙ h .0, j .is x α (bracket ∷ []) (h .1) spells, k .is y β (bracket ∷ []) (h .2) spells)
@@ -104,7 +104,7 @@ module _ (f g : Pair) where
   pub either-none : f .count ≡ 0 → EitherAs f g g
   either-none z = record { is = λ φ γ a b le h k. go φ γ a b h k }
     where
-      go : (φ γ : Firsts) (a b : ℕ) → Holds a b φ f → Holds a b γ g → Holds a b (either φ γ) g
+      go : (φ γ : Firsts) (a b : ℕ) → HoldsWithin a b φ f → HoldsWithin a b γ g → HoldsWithin a b (either φ γ) g
       go no-string γ a b h k = k
       go (one-string α) γ a b h k = absurd (omega (arith, z, h .held .0))
       go (two-strings α β) γ a b h k = absurd (omega (arith, z, h .held .0))
@@ -112,7 +112,7 @@ module _ (f g : Pair) where
   pub either-two : 1 < f .count → EitherAs f g f
   either-two z = record { is = λ φ γ a b le h k. go φ γ a b h }
     where
-      go : (φ γ : Firsts) (a b : ℕ) → Holds a b φ f → Holds a b (either φ γ) f
+      go : (φ γ : Firsts) (a b : ℕ) → HoldsWithin a b φ f → HoldsWithin a b (either φ γ) f
       go no-string γ a b h = absurd (omega (arith, z, h .held))
       go (one-string α) γ a b h = absurd (omega (arith, z, h .held .0))
       go (two-strings α β) γ a b h = h
@@ -121,7 +121,7 @@ module _ (f g : Pair) where
     pub either-first : g .count ≡ 0 → EitherAs f g f
     either-first z = record { is = λ φ γ a b le h k. go φ γ a b h k }
       where
-        go : (φ γ : Firsts) (a b : ℕ) → Holds a b φ f → Holds a b γ g → Holds a b (either φ γ) f
+        go : (φ γ : Firsts) (a b : ℕ) → HoldsWithin a b φ f → HoldsWithin a b γ g → HoldsWithin a b (either φ γ) f
         go no-string γ a b h k = absurd (some (h .held))
         go (one-string α) no-string a b h k = h
         go (one-string α) (one-string γ) a b h k = absurd (omega (arith, z, k .held .0))
@@ -131,7 +131,7 @@ module _ (f g : Pair) where
     pub either-both : (g .count ≡ 0 → ⊥) → EitherAs f g (record { count = 2; first = f .first; second = g .first })
     either-both z = record { is = λ φ γ a b le h k. go φ γ a b le h k }
       where
-        go : (φ γ : Firsts) (a b : ℕ) → a ≤ b → Holds a b φ f → Holds a b γ g → Holds a b (either φ γ) (record { count = 2; first = f .first; second = g .first })
+        go : (φ γ : Firsts) (a b : ℕ) → a ≤ b → HoldsWithin a b φ f → HoldsWithin a b γ g → HoldsWithin a b (either φ γ) (record { count = 2; first = f .first; second = g .first })
         go no-string γ a b le h k = absurd (some (h .held))
         go (one-string α) no-string a b le h k = absurd (z (k .held))
         go (one-string α) (one-string γ) a b le h k = record { few = h .few; few-more = omega (arith, le, k .few); held = (refl, h .held .1, k .held .1) }
@@ -140,11 +140,11 @@ module _ (f g : Pair) where
 
 -- a string of f and then one of g
 module _ (f g : Pair) where
-  nothing-left : (r : Pair) → Holds 0 0 no-string r → (φ γ : Firsts) (a b m : ℕ) → both φ γ ≡ no-string → Holds a m (both φ γ) r
+  nothing-left : (r : Pair) → HoldsWithin 0 0 no-string r → (φ γ : Firsts) (a b m : ℕ) → both φ γ ≡ no-string → HoldsWithin a m (both φ γ) r
   nothing-left r z φ γ a b m e =
-      subst (λ (o : Firsts). Holds a m o r) (sym e) (record { few = omega (arith, z .few); few-more = omega (arith, z .few-more); held = z .held })
+      subst (λ (o : Firsts). HoldsWithin a m o r) (sym e) (record { few = omega (arith, z .few); few-more = omega (arith, z .few-more); held = z .held })
 
-  pub both-no-first : (r : Pair) → Holds 0 0 no-string r → f .count ≡ 0 → BothAs f g r
+  pub both-no-first : (r : Pair) → HoldsWithin 0 0 no-string r → f .count ≡ 0 → BothAs f g r
   both-no-first r z n = record { is = λ φ γ a b c d m h k x y w room. nothing-left r z φ γ (a + c) b m (go φ γ (h .held)) }
     where
       go : (φ γ : Firsts) → AreHeld φ f → both φ γ ≡ no-string
@@ -152,7 +152,7 @@ module _ (f g : Pair) where
       go (one-string α) γ h = absurd (omega (arith, n, h .0))
       go (two-strings α β) γ h = absurd (omega (arith, n, h .0))
 
-  pub both-no-second : (r : Pair) → Holds 0 0 no-string r → g .count ≡ 0 → BothAs f g r
+  pub both-no-second : (r : Pair) → HoldsWithin 0 0 no-string r → g .count ≡ 0 → BothAs f g r
   both-no-second r z n = record { is = λ φ γ a b c d m h k x y w room. nothing-left r z φ γ (a + c) b m (go φ γ (k .held)) }
     where
       go : (φ γ : Firsts) → AreHeld γ g → both φ γ ≡ no-string
@@ -168,7 +168,7 @@ module _ (f g : Pair) where
     pub both-one : g .count ≡ 1 → r .count ≡ f .count → JoinedAs (f .second) (g .first) (r .second) → BothAs f g r
     both-one one same k = record { is = go }
       where
-        go : (φ γ : Firsts) (a b c d m : ℕ) → Holds a b φ f → Holds c d γ g → a + c ≤ m → a + d ≤ m → b + c ≤ m → m ≤ longest → Holds (a + c) m (both φ γ) r
+        go : (φ γ : Firsts) (a b c d m : ℕ) → HoldsWithin a b φ f → HoldsWithin c d γ g → a + c ≤ m → a + d ≤ m → b + c ≤ m → m ≤ longest → HoldsWithin (a + c) m (both φ γ) r
         go no-string γ a b c d m h l x y w room = absurd (some (h .held))
         go (one-string α) no-string a b c d m h l x y w room = absurd (some′ (l .held))
         go (two-strings α β) no-string a b c d m h l x y w room = absurd (some′ (l .held))
@@ -194,7 +194,7 @@ module _ (f g : Pair) where
     pub both-two : (g .count ≡ 1 → ⊥) → r .count ≡ 2 → JoinedAs (f .first) (g .second) (r .second) → BothAs f g r
     both-two more same k = record { is = go }
       where
-        go : (φ γ : Firsts) (a b c d m : ℕ) → Holds a b φ f → Holds c d γ g → a + c ≤ m → a + d ≤ m → b + c ≤ m → m ≤ longest → Holds (a + c) m (both φ γ) r
+        go : (φ γ : Firsts) (a b c d m : ℕ) → HoldsWithin a b φ f → HoldsWithin c d γ g → a + c ≤ m → a + d ≤ m → b + c ≤ m → m ≤ longest → HoldsWithin (a + c) m (both φ γ) r
         go no-string γ a b c d m h l x y w room = absurd (some (h .held))
         go (one-string α) no-string a b c d m h l x y w room = absurd (some′ (l .held))
         go (two-strings α β) no-string a b c d m h l x y w room = absurd (some′ (l .held))
@@ -219,21 +219,21 @@ module _ (f g : Pair) where
 
 -- turns of f, and then a string of g
 module _ (f g : Pair) where
-  wider : (c d m : ℕ) (φ : Firsts) → d ≤ m → Holds c d φ g → Holds c m φ g
+  wider : (c d m : ℕ) (φ : Firsts) → d ≤ m → HoldsWithin c d φ g → HoldsWithin c m φ g
   wider c d m φ x h = record { few = h .few; few-more = omega (arith, h .few-more, x); held = h .held }
 
-  pub turned-none : f .count ≡ 0 → TurnedAs f g g
+  pub turned-none : f .count ≡ 0 → GoesRoundAs f g g
   turned-none n = record { is = go }
     where
-      go : (φ γ : Firsts) (a b c d m : ℕ) → Holds a b φ f → Holds c d γ g → a + c ≤ m → d ≤ m → m ≤ longest → Holds c m (turned φ γ) g
+      go : (φ γ : Firsts) (a b c d m : ℕ) → HoldsWithin a b φ f → HoldsWithin c d γ g → a + c ≤ m → d ≤ m → m ≤ longest → HoldsWithin c m (goesRound φ γ) g
       go no-string γ a b c d m h k x y room = wider c d m γ y k
       go (one-string α) γ a b c d m h k x y room = absurd (omega (arith, n, h .held .0))
       go (two-strings α β) γ a b c d m h k x y room = absurd (omega (arith, n, h .held .0))
 
-  pub turned-same : (g .count ≡ 1 → ⊥) → TurnedAs f g g
+  pub turned-same : (g .count ≡ 1 → ⊥) → GoesRoundAs f g g
   turned-same n = record { is = go }
     where
-      go : (φ γ : Firsts) (a b c d m : ℕ) → Holds a b φ f → Holds c d γ g → a + c ≤ m → d ≤ m → m ≤ longest → Holds c m (turned φ γ) g
+      go : (φ γ : Firsts) (a b c d m : ℕ) → HoldsWithin a b φ f → HoldsWithin c d γ g → a + c ≤ m → d ≤ m → m ≤ longest → HoldsWithin c m (goesRound φ γ) g
       go no-string γ a b c d m h k x y room = wider c d m γ y k
       go (one-string α) no-string a b c d m h k x y room = wider c d m no-string y k
       go (one-string α) (one-string γ) a b c d m h k x y room = absurd (n (k .held .0))
@@ -243,11 +243,11 @@ module _ (f g : Pair) where
       go (two-strings α β) (two-strings γ δ) a b c d m h k x y room = wider c d m (two-strings γ δ) y k
 
   pub turned-again : (f .count ≡ 0 → ⊥) → g .count ≡ 1 → (again : Row) → JoinedAs (f .first) (g .first) again →
-      TurnedAs f g (record { count = 2; first = g .first; second = again })
+      GoesRoundAs f g (record { count = 2; first = g .first; second = again })
   turned-again some one again j = record { is = go }
     where
-      go : (φ γ : Firsts) (a b c d m : ℕ) → Holds a b φ f → Holds c d γ g → a + c ≤ m → d ≤ m → m ≤ longest →
-          Holds c m (turned φ γ) (record { count = 2; first = g .first; second = again })
+      go : (φ γ : Firsts) (a b c d m : ℕ) → HoldsWithin a b φ f → HoldsWithin c d γ g → a + c ≤ m → d ≤ m → m ≤ longest →
+          HoldsWithin c m (goesRound φ γ) (record { count = 2; first = g .first; second = again })
       go no-string γ a b c d m h k x y room = absurd (some (h .held))
       go (one-string α) no-string a b c d m h k x y room = absurd (omega (arith, one, k .held))
       go (two-strings α β) no-string a b c d m h k x y room = absurd (omega (arith, one, k .held))

@@ -8,7 +8,7 @@ use lib.ListN.{length, take, getD, length-take}
 use Rattle.expressions.specs.Expr.{Exp, nodes, Content, nothing, tree}
 use Rattle.expressions.specs.Words.{Bracket, opening, closing}
 use Rattle.expressions.proofs.Tree.{nodes-pos}
-use Rattle.parting.specs.Parting.{Sign, round-or-end, end-or-round, left-or-right, right-or-left, SignOf, PartAt}
+use Rattle.parting.specs.Parting.{PartingSign, round-or-end, end-or-round, left-or-right, right-or-left, PartingSignOf, PartAt}
 use Rattle.ways.specs.Held.{codeOf, codes}
 use Rattle.ways.proofs.Holds.{length-codes}
 use Rattle.witness.specs.declared.Row.{Row}
@@ -20,7 +20,7 @@ module _ (c d : ℕ) where
   pub sign-first : c % 2 ≡ 1 → SignAt c d (c / 2)
   sign-first odd = record { is = λ e i n γ δ p q h. go e i n γ δ h p q }
     where
-      go : (e : Exp) (i n : ℕ) (γ δ : Bracket) → Sign e i n γ δ → c ≡ codeOf γ → d ≡ codeOf δ → c / 2 ≡ n
+      go : (e : Exp) (i n : ℕ) (γ δ : Bracket) → PartingSign e i n γ δ → c ≡ codeOf γ → d ≡ codeOf δ → c / 2 ≡ n
       go e i n γ δ (round-or-end h) p q = absurd (omega (arith, odd, p))
       go e i n γ δ (end-or-round h) p q = omega (arith, p)
       go e i n γ δ (left-or-right h) p q = absurd (omega (arith, odd, p))
@@ -30,7 +30,7 @@ module _ (c d : ℕ) where
     pub sign-second : d % 2 ≡ 1 → SignAt c d (d / 2)
     sign-second odd = record { is = λ e i n γ δ p q h. go e i n γ δ h p q }
       where
-        go : (e : Exp) (i n : ℕ) (γ δ : Bracket) → Sign e i n γ δ → c ≡ codeOf γ → d ≡ codeOf δ → d / 2 ≡ n
+        go : (e : Exp) (i n : ℕ) (γ δ : Bracket) → PartingSign e i n γ δ → c ≡ codeOf γ → d ≡ codeOf δ → d / 2 ≡ n
         go e i n γ δ (round-or-end h) p q = omega (arith, q)
         go e i n γ δ (end-or-round h) p q = absurd (even (omega (arith, p)))
         go e i n γ δ (left-or-right h) p q = absurd (omega (arith, odd, q))
@@ -40,7 +40,7 @@ module _ (c d : ℕ) where
       pub sign-lower : c < d → ((n : ℕ) → c ≡ 2 * suc n → r ≡ n) → SignAt c d r
       sign-lower less k = record { is = λ e i n γ δ p q h. go e i n γ δ h p q }
         where
-          go : (e : Exp) (i n : ℕ) (γ δ : Bracket) → Sign e i n γ δ → c ≡ codeOf γ → d ≡ codeOf δ → r ≡ n
+          go : (e : Exp) (i n : ℕ) (γ δ : Bracket) → PartingSign e i n γ δ → c ≡ codeOf γ → d ≡ codeOf δ → r ≡ n
           go e i n γ δ (round-or-end h) p q = absurd (even′ (omega (arith, q)))
           go e i n γ δ (end-or-round h) p q = absurd (even (omega (arith, p)))
           go e i n γ δ (left-or-right h) p q = k n p
@@ -49,20 +49,20 @@ module _ (c d : ℕ) where
       pub sign-upper : d ≤ c → ((n : ℕ) → d ≡ 2 * suc n → r ≡ n) → SignAt c d r
       sign-upper less k = record { is = λ e i n γ δ p q h. go e i n γ δ h p q }
         where
-          go : (e : Exp) (i n : ℕ) (γ δ : Bracket) → Sign e i n γ δ → c ≡ codeOf γ → d ≡ codeOf δ → r ≡ n
+          go : (e : Exp) (i n : ℕ) (γ δ : Bracket) → PartingSign e i n γ δ → c ≡ codeOf γ → d ≡ codeOf δ → r ≡ n
           go e i n γ δ (round-or-end h) p q = absurd (even′ (omega (arith, q)))
           go e i n γ δ (end-or-round h) p q = absurd (even (omega (arith, p)))
           go e i n γ δ (left-or-right {l = l} h) p q = absurd (let z = nodes-pos l in omega (arith, less, p, q, z))
           go e i n γ δ (right-or-left h) p q = k n q
 
 -- the two brackets have different bytes
-signs-differ : (e : Exp) (i n : ℕ) (γ δ : Bracket) → Sign e i n γ δ → codeOf γ ≡ codeOf δ → ⊥
+signs-differ : (e : Exp) (i n : ℕ) (γ δ : Bracket) → PartingSign e i n γ δ → codeOf γ ≡ codeOf δ → ⊥
 signs-differ e i n γ δ (round-or-end h) p = omega (arith, p)
 signs-differ e i n γ δ (end-or-round h) p = omega (arith, p)
 signs-differ e i n γ δ (left-or-right {l = l} h) p = let z = nodes-pos l in omega (arith, p, z)
 signs-differ e i n γ δ (right-or-left {l = l} h) p = let z = nodes-pos l in omega (arith, p, z)
 
-sign-codes-differ : (e : Content) (n : ℕ) (γ δ : Bracket) → SignOf e n γ δ → codeOf γ ≡ codeOf δ → ⊥
+sign-codes-differ : (e : Content) (n : ℕ) (γ δ : Bracket) → PartingSignOf e n γ δ → codeOf γ ≡ codeOf δ → ⊥
 sign-codes-differ nothing n γ δ h p = h
 sign-codes-differ (tree e) n γ δ h p = signs-differ e 1 n γ δ h p
 
@@ -124,7 +124,7 @@ module _ (a b : List ℕ) (k : ℕ) (agreed : (i : ℕ) → i < k → getD a i 0
   pub ended-second : length b ≤ k → SignIs a b 0
   ended-second z = record { is = λ e n α β p q h. absurd (not-past e n α β p q h (let y = second-long e n α β p q h in omega (arith, z, y))) }
 
-  sign-there : (e : Content) (n r c d : ℕ) (γ δ : Bracket) → SignAt c d r → c ≡ codeOf γ → d ≡ codeOf δ → SignOf e n γ δ → r ≡ n
+  sign-there : (e : Content) (n r c d : ℕ) (γ δ : Bracket) → SignAt c d r → c ≡ codeOf γ → d ≡ codeOf δ → PartingSignOf e n γ δ → r ≡ n
   sign-there nothing n r c d γ δ s p q h = absurd h
   sign-there (tree e) n r c d γ δ s p q h = s .is e 1 n γ δ p q h
 

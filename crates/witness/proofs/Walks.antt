@@ -10,7 +10,7 @@ use borrow.Author.Tests.{eq-eqb, ne-eqb}
 use Rattle.expressions.specs.Expr.{Atom, Exp, atom, nonterminal, anychar, nodes, atoms}
 use Rattle.expressions.specs.Grammar.{Production, tagsOf, canBe}
 use Rattle.layout.specs.Records.{kindOf, argumentOf}
-use Rattle.parting.specs.Firsts.{Firsts, no-string, one-string, either, both, turned, when, opened, closed, through, into, out-of, across}
+use Rattle.parting.specs.Firsts.{Firsts, no-string, one-string, either, both, goesRound, when, eachOpened, eachClosed, firstsThrough, firstsInto, firstsOutOf, firstsAcross}
 use Rattle.trees.specs.declared.Symbol.{Symbol}
 use Rattle.trees.specs.GrammarAt.{GrammarIs}
 use Rattle.trees.specs.Symbol.{nextOf}
@@ -21,74 +21,74 @@ use Rattle.ways.specs.Spot.{At, SpotIn, PartOf, PartsOf}
 use Rattle.ways.specs.Walks.{CanIs}
 use Rattle.ways.proofs.Spots.{by-leaf, by-star, by-empty, by-cat, by-alt, part-at}
 use Rattle.witness.specs.declared.Pair.{Pair}
-use Rattle.witness.specs.Held.{longest, Holds, WhenIs, OpenedAs, ClosedAs, EitherAs, BothAs, TurnedAs}
-use Rattle.witness.specs.Walks.{Through, Into, OutOf, Across}
+use Rattle.witness.specs.Held.{longest, HoldsWithin, WhenIs, OpenedAs, ClosedAs, EitherAs, BothAs, GoesRoundAs}
+use Rattle.witness.specs.Walks.{FirstsThrough, FirstsInto, FirstsOutOf, FirstsAcross}
 
-wider : {a b : ℕ} {φ : Firsts} {r : Pair} (a′ b′ : ℕ) → a ≤ a′ → b ≤ b′ → Holds a b φ r → Holds a′ b′ φ r
+wider : {a b : ℕ} {φ : Firsts} {r : Pair} (a′ b′ : ℕ) → a ≤ a′ → b ≤ b′ → HoldsWithin a b φ r → HoldsWithin a′ b′ φ r
 wider a′ b′ x y h = record { few = omega (arith, h .few, x); few-more = omega (arith, h .few-more, y); held = h .held }
 
 module _ (s : List ℕ) (t : Spot) (k : ℕ) (kind : k ≡ kindOf s (t .node)) (spot : SpotIn s t) where
   -- from start to end
-  pub through-leaf : k < 3 → (r : Pair) → Holds 0 0 no-string r → Through s t r
+  pub through-leaf : k < 3 → (r : Pair) → HoldsWithin 0 0 no-string r → FirstsThrough s t r
   through-leaf b r z =
       record {
-        is = λ e i j at. by-leaf s t k kind (λ (u : Exp). Holds (2 * t .nodes) (2 * t .nodes) (through u i) r) b
+        is = λ e i j at. by-leaf s t k kind (λ (u : Exp). HoldsWithin (2 * t .nodes) (2 * t .nodes) (firstsThrough u i) r) b
             (λ a _. wider (2 * t .nodes) (2 * t .nodes) (omega arith) (omega arith) z) e at;
       }
 
   -- the empty node: its own brackets, and no atom
   module _ (b : 5 < k) where
-    pub through-empty : (unit shut r : Pair) → Holds 0 0 (one-string []) unit → ClosedAs (t .bracket) unit shut → OpenedAs (t .bracket) shut r → Through s t r
+    pub through-empty : (unit shut r : Pair) → HoldsWithin 0 0 (one-string []) unit → ClosedAs (t .bracket) unit shut → OpenedAs (t .bracket) shut r → FirstsThrough s t r
     through-empty unit shut r u cl op =
         record {
-          is = λ e i j at. by-empty s t k kind (λ (u : Exp). Holds (2 * t .nodes) (2 * t .nodes) (through u i) r) b
+          is = λ e i j at. by-empty s t k kind (λ (u : Exp). HoldsWithin (2 * t .nodes) (2 * t .nodes) (firstsThrough u i) r) b
               (let w = cl .is i (at .bracket-is) (one-string []) 0 0 u (omega arith) (omega arith) in
               let z = op .is i (at .bracket-is) _ (0 + 1) (0 + 1) w (omega arith) (omega arith) in
               wider (2 * t .nodes) (2 * t .nodes) (omega (arith, spot .any)) (omega (arith, spot .any)) z)
               e at;
         }
 
-    pub into-empty : (x : Symbol) (r : Pair) → Holds 0 0 no-string r → Into s t x r
+    pub into-empty : (x : Symbol) (r : Pair) → HoldsWithin 0 0 no-string r → FirstsInto s t x r
     into-empty x r z =
         record {
-          is = λ gr γ e i j at. by-empty s t k kind (λ (u : Exp). Holds (2 * t .nodes) (4 * t .nodes) (into (tagsOf gr) u i (nextOf x)) r) b
+          is = λ gr γ e i j at. by-empty s t k kind (λ (u : Exp). HoldsWithin (2 * t .nodes) (4 * t .nodes) (firstsInto (tagsOf gr) u i (nextOf x)) r) b
               (wider (2 * t .nodes) (4 * t .nodes) (omega arith) (omega arith) z) e at;
         }
 
-    pub out-empty : (p : ℕ) (r : Pair) → Holds 0 0 no-string r → OutOf s t p r
+    pub out-empty : (p : ℕ) (r : Pair) → HoldsWithin 0 0 no-string r → FirstsOutOf s t p r
     out-empty p r z =
         record {
-          is = λ e i j at. by-empty s t k kind (λ (u : Exp). Holds (2 * t .nodes) (4 * t .nodes) (out-of u i j p) r) b
+          is = λ e i j at. by-empty s t k kind (λ (u : Exp). HoldsWithin (2 * t .nodes) (4 * t .nodes) (firstsOutOf u i j p) r) b
               (wider (2 * t .nodes) (4 * t .nodes) (omega arith) (omega arith) z) e at;
         }
 
-    pub across-empty : (p : ℕ) (x : Symbol) (r : Pair) → Holds 0 0 no-string r → Across s t p x r
+    pub across-empty : (p : ℕ) (x : Symbol) (r : Pair) → HoldsWithin 0 0 no-string r → FirstsAcross s t p x r
     across-empty p x r z =
         record {
-          is = λ gr γ e i j at. by-empty s t k kind (λ (u : Exp). Holds (4 * t .nodes) (6 * t .nodes) (across (tagsOf gr) u i j p (nextOf x)) r) b
+          is = λ gr γ e i j at. by-empty s t k kind (λ (u : Exp). HoldsWithin (4 * t .nodes) (6 * t .nodes) (firstsAcross (tagsOf gr) u i j p (nextOf x)) r) b
               (wider (4 * t .nodes) (6 * t .nodes) (omega arith) (omega arith) z) e at;
         }
 
   module _ (only : Spot) (part : PartOf t only) (b : k ≡ 5) where
-    pub through-star : (f unit turns shut r : Pair) → Through s only f → Holds 0 0 (one-string []) unit → TurnedAs f unit turns →
-        ClosedAs (t .bracket) turns shut → OpenedAs (t .bracket) shut r → Through s t r
+    pub through-star : (f unit turns shut r : Pair) → FirstsThrough s only f → HoldsWithin 0 0 (one-string []) unit → GoesRoundAs f unit turns →
+        ClosedAs (t .bracket) turns shut → OpenedAs (t .bracket) shut r → FirstsThrough s t r
     through-star f unit turns shut r h u tu cl op =
         record {
-          is = λ e i j at. by-star s t k kind (λ (u : Exp). Holds (2 * t .nodes) (2 * t .nodes) (through u i) r) b
+          is = λ e i j at. by-star s t k kind (λ (u : Exp). HoldsWithin (2 * t .nodes) (2 * t .nodes) (firstsThrough u i) r) b
               (λ o y.
               let n = only .nodes in
               let x = h .is o (suc i) j (part-at s t only part o y i j (at .bracket-is) (at .atom-is)) in
-              let v = tu .is (through o (suc i)) (one-string []) (2 * n) (2 * n) 0 0 (2 * n) x u (omega arith) (omega arith) (omega (arith, part .nodes-are, spot .few)) in
+              let v = tu .is (firstsThrough o (suc i)) (one-string []) (2 * n) (2 * n) 0 0 (2 * n) x u (omega arith) (omega arith) (omega (arith, part .nodes-are, spot .few)) in
               let w = cl .is i (at .bracket-is) _ 0 (2 * n) v (omega arith) (omega (arith, part .nodes-are, spot .few)) in
               let z = op .is i (at .bracket-is) _ (0 + 1) (2 * n + 1) w (omega arith) (omega (arith, part .nodes-are, spot .few)) in
               wider (2 * t .nodes) (2 * t .nodes) (omega (arith, spot .any)) (omega (arith, spot .any, part .nodes-are)) z)
               e at;
         }
 
-    pub into-star : (x : Symbol) (f g turns r : Pair) → Through s only f → Into s only x g → TurnedAs f g turns → OpenedAs (t .bracket) turns r → Into s t x r
+    pub into-star : (x : Symbol) (f g turns r : Pair) → FirstsThrough s only f → FirstsInto s only x g → GoesRoundAs f g turns → OpenedAs (t .bracket) turns r → FirstsInto s t x r
     into-star x f g turns r h h′ tu op =
         record {
-          is = λ gr γ e i j at. by-star s t k kind (λ (u : Exp). Holds (2 * t .nodes) (4 * t .nodes) (into (tagsOf gr) u i (nextOf x)) r) b
+          is = λ gr γ e i j at. by-star s t k kind (λ (u : Exp). HoldsWithin (2 * t .nodes) (4 * t .nodes) (firstsInto (tagsOf gr) u i (nextOf x)) r) b
               (λ o y.
               let n = only .nodes in
               let here = part-at s t only part o y i j (at .bracket-is) (at .atom-is) in
@@ -99,34 +99,34 @@ module _ (s : List ℕ) (t : Spot) (k : ℕ) (kind : k ≡ kindOf s (t .node)) (
               e at;
         }
 
-    pub out-star : (p : ℕ) (f h unit turns joint r : Pair) → OutOf s only p f → Through s only h → Holds 0 0 (one-string []) unit → TurnedAs h unit turns →
-        BothAs f turns joint → ClosedAs (t .bracket) joint r → OutOf s t p r
+    pub out-star : (p : ℕ) (f h unit turns joint r : Pair) → FirstsOutOf s only p f → FirstsThrough s only h → HoldsWithin 0 0 (one-string []) unit → GoesRoundAs h unit turns →
+        BothAs f turns joint → ClosedAs (t .bracket) joint r → FirstsOutOf s t p r
     out-star p f h unit turns joint r x x′ u tu bo cl =
         record {
-          is = λ e i j at. by-star s t k kind (λ (u : Exp). Holds (2 * t .nodes) (4 * t .nodes) (out-of u i j p) r) b
+          is = λ e i j at. by-star s t k kind (λ (u : Exp). HoldsWithin (2 * t .nodes) (4 * t .nodes) (firstsOutOf u i j p) r) b
               (λ o y.
               let n = only .nodes in
               let here = part-at s t only part o y i j (at .bracket-is) (at .atom-is) in
-              let v = tu .is (through o (suc i)) (one-string []) (2 * n) (2 * n) 0 0 (2 * n) (x′ .is o (suc i) j here) u (omega arith) (omega arith)
+              let v = tu .is (firstsThrough o (suc i)) (one-string []) (2 * n) (2 * n) 0 0 (2 * n) (x′ .is o (suc i) j here) u (omega arith) (omega arith)
               (omega (arith, part .nodes-are, spot .few)) in
-              let w = bo .is (out-of o (suc i) j p) _ (2 * n) (4 * n) 0 (2 * n) (4 * n) (x .is o (suc i) j here) v (omega arith) (omega arith) (omega arith)
+              let w = bo .is (firstsOutOf o (suc i) j p) _ (2 * n) (4 * n) 0 (2 * n) (4 * n) (x .is o (suc i) j here) v (omega arith) (omega arith) (omega arith)
               (omega (arith, part .nodes-are, spot .few)) in
               let z = cl .is i (at .bracket-is) _ (2 * n + 0) (4 * n) w (omega (arith, part .nodes-are, spot .few)) (omega (arith, part .nodes-are, spot .few)) in
               wider (2 * t .nodes) (4 * t .nodes) (omega (arith, spot .any, part .nodes-are)) (omega (arith, spot .any, part .nodes-are)) z)
               e at;
         }
 
-    pub across-star : (p : ℕ) (x : Symbol) (f o h n turns joint r : Pair) → Across s only p x f → OutOf s only p o → Through s only h → Into s only x n →
-        TurnedAs h n turns → BothAs o turns joint → EitherAs f joint r → Across s t p x r
+    pub across-star : (p : ℕ) (x : Symbol) (f o h n turns joint r : Pair) → FirstsAcross s only p x f → FirstsOutOf s only p o → FirstsThrough s only h → FirstsInto s only x n →
+        GoesRoundAs h n turns → BothAs o turns joint → EitherAs f joint r → FirstsAcross s t p x r
     across-star p x f o h n turns joint r hf ho hh hn tu bo ei =
         record {
-          is = λ gr γ e i j at. by-star s t k kind (λ (u : Exp). Holds (4 * t .nodes) (6 * t .nodes) (across (tagsOf gr) u i j p (nextOf x)) r) b
+          is = λ gr γ e i j at. by-star s t k kind (λ (u : Exp). HoldsWithin (4 * t .nodes) (6 * t .nodes) (firstsAcross (tagsOf gr) u i j p (nextOf x)) r) b
               (λ d y.
               let m = only .nodes in
               let here = part-at s t only part d y i j (at .bracket-is) (at .atom-is) in
               let v = tu .is _ _ (2 * m) (2 * m) (2 * m) (4 * m) (4 * m) (hh .is d (suc i) j here) (hn .is gr γ d (suc i) j here) (omega arith) (omega arith)
               (omega (arith, part .nodes-are, spot .few)) in
-              let w = bo .is (out-of d (suc i) j p) _ (2 * m) (4 * m) (2 * m) (4 * m) (6 * m) (ho .is d (suc i) j here) v (omega arith) (omega arith) (omega arith)
+              let w = bo .is (firstsOutOf d (suc i) j p) _ (2 * m) (4 * m) (2 * m) (4 * m) (6 * m) (ho .is d (suc i) j here) v (omega arith) (omega arith) (omega arith)
               (omega (arith, part .nodes-are, spot .few)) in
               let z = ei .is _ _ (4 * m) (6 * m) (omega arith) (hf .is gr γ d (suc i) j here) (wider (4 * m) (6 * m) (omega arith) (omega arith) w) in
               wider (4 * t .nodes) (6 * t .nodes) (omega (arith, part .nodes-are)) (omega (arith, part .nodes-are)) z)
@@ -134,11 +134,11 @@ module _ (s : List ℕ) (t : Spot) (k : ℕ) (kind : k ≡ kindOf s (t .node)) (
         }
 
   module _ (two : Parts) (parts : PartsOf s t two) where
-    module _ (f g : Pair) (hf : Through s (two .first) f) (hg : Through s (two .second) g) where
-      pub through-cat : k ≡ 3 → (joint shut r : Pair) → BothAs f g joint → ClosedAs (t .bracket) joint shut → OpenedAs (t .bracket) shut r → Through s t r
+    module _ (f g : Pair) (hf : FirstsThrough s (two .first) f) (hg : FirstsThrough s (two .second) g) where
+      pub through-cat : k ≡ 3 → (joint shut r : Pair) → BothAs f g joint → ClosedAs (t .bracket) joint shut → OpenedAs (t .bracket) shut r → FirstsThrough s t r
       through-cat c joint shut r bo cl op =
           record {
-            is = λ e i j at. by-cat s t k kind (λ (u : Exp). Holds (2 * t .nodes) (2 * t .nodes) (through u i) r) c
+            is = λ e i j at. by-cat s t k kind (λ (u : Exp). HoldsWithin (2 * t .nodes) (2 * t .nodes) (firstsThrough u i) r) c
                 (λ l m x y.
                 let a = two .first .nodes in
                 let b = two .second .nodes in
@@ -153,10 +153,10 @@ module _ (s : List ℕ) (t : Spot) (k : ℕ) (kind : k ≡ kindOf s (t .node)) (
                 e at;
           }
 
-      pub through-alt : 3 ≤ k → k ≤ 4 → (k ≡ 3 → ⊥) → (any shut r : Pair) → EitherAs f g any → ClosedAs (t .bracket) any shut → OpenedAs (t .bracket) shut r → Through s t r
+      pub through-alt : 3 ≤ k → k ≤ 4 → (k ≡ 3 → ⊥) → (any shut r : Pair) → EitherAs f g any → ClosedAs (t .bracket) any shut → OpenedAs (t .bracket) shut r → FirstsThrough s t r
       through-alt low high c any shut r ei cl op =
           record {
-            is = λ e i j at. by-alt s t k kind (λ (u : Exp). Holds (2 * t .nodes) (2 * t .nodes) (through u i) r) low high c
+            is = λ e i j at. by-alt s t k kind (λ (u : Exp). HoldsWithin (2 * t .nodes) (2 * t .nodes) (firstsThrough u i) r) low high c
                 (λ l m x y.
                 let a = two .first .nodes in
                 let b = two .second .nodes in
@@ -170,11 +170,11 @@ module _ (s : List ℕ) (t : Spot) (k : ℕ) (kind : k ≡ kindOf s (t .node)) (
                 e at;
           }
 
-    module _ (x : Symbol) (f g : Pair) (hf : Into s (two .first) x f) (hg : Into s (two .second) x g) where
-      pub into-cat : k ≡ 3 → (h joint any r : Pair) → Through s (two .first) h → BothAs h g joint → EitherAs f joint any → OpenedAs (t .bracket) any r → Into s t x r
+    module _ (x : Symbol) (f g : Pair) (hf : FirstsInto s (two .first) x f) (hg : FirstsInto s (two .second) x g) where
+      pub into-cat : k ≡ 3 → (h joint any r : Pair) → FirstsThrough s (two .first) h → BothAs h g joint → EitherAs f joint any → OpenedAs (t .bracket) any r → FirstsInto s t x r
       into-cat c h joint any r hh bo ei op =
           record {
-            is = λ gr γ e i j at. by-cat s t k kind (λ (u : Exp). Holds (2 * t .nodes) (4 * t .nodes) (into (tagsOf gr) u i (nextOf x)) r) c
+            is = λ gr γ e i j at. by-cat s t k kind (λ (u : Exp). HoldsWithin (2 * t .nodes) (4 * t .nodes) (firstsInto (tagsOf gr) u i (nextOf x)) r) c
                 (λ l m y z.
                 let a = two .first .nodes in
                 let b = two .second .nodes in
@@ -190,10 +190,10 @@ module _ (s : List ℕ) (t : Spot) (k : ℕ) (kind : k ≡ kindOf s (t .node)) (
                 e at;
           }
 
-      pub into-alt : 3 ≤ k → k ≤ 4 → (k ≡ 3 → ⊥) → (any r : Pair) → EitherAs f g any → OpenedAs (t .bracket) any r → Into s t x r
+      pub into-alt : 3 ≤ k → k ≤ 4 → (k ≡ 3 → ⊥) → (any r : Pair) → EitherAs f g any → OpenedAs (t .bracket) any r → FirstsInto s t x r
       into-alt low high c any r ei op =
           record {
-            is = λ gr γ e i j at. by-alt s t k kind (λ (u : Exp). Holds (2 * t .nodes) (4 * t .nodes) (into (tagsOf gr) u i (nextOf x)) r) low high c
+            is = λ gr γ e i j at. by-alt s t k kind (λ (u : Exp). HoldsWithin (2 * t .nodes) (4 * t .nodes) (firstsInto (tagsOf gr) u i (nextOf x)) r) low high c
                 (λ l m y z.
                 let a = two .first .nodes in
                 let b = two .second .nodes in
@@ -207,11 +207,11 @@ module _ (s : List ℕ) (t : Spot) (k : ℕ) (kind : k ≡ kindOf s (t .node)) (
                 e at;
           }
 
-    module _ (p : ℕ) (f g : Pair) (hf : OutOf s (two .first) p f) (hg : OutOf s (two .second) p g) where
-      pub out-cat : k ≡ 3 → (h joint any r : Pair) → Through s (two .second) h → BothAs f h joint → EitherAs joint g any → ClosedAs (t .bracket) any r → OutOf s t p r
+    module _ (p : ℕ) (f g : Pair) (hf : FirstsOutOf s (two .first) p f) (hg : FirstsOutOf s (two .second) p g) where
+      pub out-cat : k ≡ 3 → (h joint any r : Pair) → FirstsThrough s (two .second) h → BothAs f h joint → EitherAs joint g any → ClosedAs (t .bracket) any r → FirstsOutOf s t p r
       out-cat c h joint any r hh bo ei cl =
           record {
-            is = λ e i j at. by-cat s t k kind (λ (u : Exp). Holds (2 * t .nodes) (4 * t .nodes) (out-of u i j p) r) c
+            is = λ e i j at. by-cat s t k kind (λ (u : Exp). HoldsWithin (2 * t .nodes) (4 * t .nodes) (firstsOutOf u i j p) r) c
                 (λ l m y z.
                 let a = two .first .nodes in
                 let b = two .second .nodes in
@@ -227,10 +227,10 @@ module _ (s : List ℕ) (t : Spot) (k : ℕ) (kind : k ≡ kindOf s (t .node)) (
                 e at;
           }
 
-      pub out-alt : 3 ≤ k → k ≤ 4 → (k ≡ 3 → ⊥) → (any r : Pair) → EitherAs f g any → ClosedAs (t .bracket) any r → OutOf s t p r
+      pub out-alt : 3 ≤ k → k ≤ 4 → (k ≡ 3 → ⊥) → (any r : Pair) → EitherAs f g any → ClosedAs (t .bracket) any r → FirstsOutOf s t p r
       out-alt low high c any r ei cl =
           record {
-            is = λ e i j at. by-alt s t k kind (λ (u : Exp). Holds (2 * t .nodes) (4 * t .nodes) (out-of u i j p) r) low high c
+            is = λ e i j at. by-alt s t k kind (λ (u : Exp). HoldsWithin (2 * t .nodes) (4 * t .nodes) (firstsOutOf u i j p) r) low high c
                 (λ l m y z.
                 let a = two .first .nodes in
                 let b = two .second .nodes in
@@ -244,12 +244,12 @@ module _ (s : List ℕ) (t : Spot) (k : ℕ) (kind : k ≡ kindOf s (t .node)) (
                 e at;
           }
 
-    module _ (p : ℕ) (x : Symbol) (f g : Pair) (hf : Across s (two .first) p x f) (hg : Across s (two .second) p x g) where
-      pub across-cat : k ≡ 3 → (o n joint any r : Pair) → OutOf s (two .first) p o → Into s (two .second) x n → BothAs o n joint → EitherAs f joint any →
-          EitherAs any g r → Across s t p x r
+    module _ (p : ℕ) (x : Symbol) (f g : Pair) (hf : FirstsAcross s (two .first) p x f) (hg : FirstsAcross s (two .second) p x g) where
+      pub across-cat : k ≡ 3 → (o n joint any r : Pair) → FirstsOutOf s (two .first) p o → FirstsInto s (two .second) x n → BothAs o n joint → EitherAs f joint any →
+          EitherAs any g r → FirstsAcross s t p x r
       across-cat c o n joint any r ho hn bo ei ei′ =
           record {
-            is = λ gr γ e i j at. by-cat s t k kind (λ (u : Exp). Holds (4 * t .nodes) (6 * t .nodes) (across (tagsOf gr) u i j p (nextOf x)) r) c
+            is = λ gr γ e i j at. by-cat s t k kind (λ (u : Exp). HoldsWithin (4 * t .nodes) (6 * t .nodes) (firstsAcross (tagsOf gr) u i j p (nextOf x)) r) c
                 (λ l m y z.
                 let a = two .first .nodes in
                 let b = two .second .nodes in
@@ -265,10 +265,10 @@ module _ (s : List ℕ) (t : Spot) (k : ℕ) (kind : k ≡ kindOf s (t .node)) (
                 e at;
           }
 
-      pub across-alt : 3 ≤ k → k ≤ 4 → (k ≡ 3 → ⊥) → (r : Pair) → EitherAs f g r → Across s t p x r
+      pub across-alt : 3 ≤ k → k ≤ 4 → (k ≡ 3 → ⊥) → (r : Pair) → EitherAs f g r → FirstsAcross s t p x r
       across-alt low high c r ei =
           record {
-            is = λ gr γ e i j at. by-alt s t k kind (λ (u : Exp). Holds (4 * t .nodes) (6 * t .nodes) (across (tagsOf gr) u i j p (nextOf x)) r) low high c
+            is = λ gr γ e i j at. by-alt s t k kind (λ (u : Exp). HoldsWithin (4 * t .nodes) (6 * t .nodes) (firstsAcross (tagsOf gr) u i j p (nextOf x)) r) low high c
                 (λ l m y z.
                 let a = two .first .nodes in
                 let b = two .second .nodes in
@@ -292,10 +292,10 @@ module _ (s : List ℕ) (t : Spot) (k : ℕ) (kind : k ≡ kindOf s (t .node)) (
       argument-is (nonterminal m) q = argument ∙ q .stands .1
       argument-is anychar q = argument ∙ q .stands .1
 
-      pub into-leaf : (here r : Pair) → WhenIs can here → OpenedAs (t .bracket) here r → Into s t x r
+      pub into-leaf : (here r : Pair) → WhenIs can here → OpenedAs (t .bracket) here r → FirstsInto s t x r
       into-leaf here r w op =
           record {
-            is = λ gr γ e i j at. by-leaf s t k kind (λ (u : Exp). Holds (2 * t .nodes) (4 * t .nodes) (into (tagsOf gr) u i (nextOf x)) r) b
+            is = λ gr γ e i j at. by-leaf s t k kind (λ (u : Exp). HoldsWithin (2 * t .nodes) (4 * t .nodes) (firstsInto (tagsOf gr) u i (nextOf x)) r) b
                 (λ a q.
                 let v = w .is (canBe (tagsOf gr) a (nextOf x)) (h .is gr γ a (kind-is a q) (argument-is a q)) in
                 let o = op .is i (q .bracket-is) _ 0 0 v (omega arith) (omega arith) in
@@ -303,10 +303,10 @@ module _ (s : List ℕ) (t : Spot) (k : ℕ) (kind : k ≡ kindOf s (t .node)) (
                 e at;
           }
 
-    pub out-leaf : (p : ℕ) (hit : Bool) → ((j : ℕ) → t .atom ≡ j → hit ≡ eqb p j) → (here r : Pair) → WhenIs hit here → ClosedAs (t .bracket) here r → OutOf s t p r
+    pub out-leaf : (p : ℕ) (hit : Bool) → ((j : ℕ) → t .atom ≡ j → hit ≡ eqb p j) → (here r : Pair) → WhenIs hit here → ClosedAs (t .bracket) here r → FirstsOutOf s t p r
     out-leaf p hit same here r w cl =
         record {
-          is = λ e i j at. by-leaf s t k kind (λ (u : Exp). Holds (2 * t .nodes) (4 * t .nodes) (out-of u i j p) r) b
+          is = λ e i j at. by-leaf s t k kind (λ (u : Exp). HoldsWithin (2 * t .nodes) (4 * t .nodes) (firstsOutOf u i j p) r) b
               (λ a q.
               let v = w .is (eqb p j) (same j (q .atom-is)) in
               let o = cl .is i (q .bracket-is) _ 0 0 v (omega arith) (omega arith) in
@@ -314,9 +314,9 @@ module _ (s : List ℕ) (t : Spot) (k : ℕ) (kind : k ≡ kindOf s (t .node)) (
               e at;
         }
 
-    pub across-leaf : (p : ℕ) (x : Symbol) (r : Pair) → Holds 0 0 no-string r → Across s t p x r
+    pub across-leaf : (p : ℕ) (x : Symbol) (r : Pair) → HoldsWithin 0 0 no-string r → FirstsAcross s t p x r
     across-leaf p x r z =
         record {
-          is = λ gr γ e i j at. by-leaf s t k kind (λ (u : Exp). Holds (4 * t .nodes) (6 * t .nodes) (across (tagsOf gr) u i j p (nextOf x)) r) b
+          is = λ gr γ e i j at. by-leaf s t k kind (λ (u : Exp). HoldsWithin (4 * t .nodes) (6 * t .nodes) (firstsAcross (tagsOf gr) u i j p (nextOf x)) r) b
               (λ a _. wider (4 * t .nodes) (6 * t .nodes) (omega arith) (omega arith) z) e at;
         }

@@ -7,7 +7,7 @@ use Rattle.expressions.specs.Expr.{Exp, Content}
 use Rattle.expressions.specs.Words.{Bracket}
 use Rattle.expressions.specs.Grammar.{Production, Nth, tagsOf}
 use Rattle.expressions.specs.Fault.{Fault}
-use Rattle.parting.specs.Parting.{Sign, PartAt}
+use Rattle.parting.specs.Parting.{PartingSign, PartAt}
 use Rattle.parting.specs.Firsts.{two-strings, firsts}
 use Rattle.parting.specs.Laws.{FaultBy}
 use Rattle.sheet.specs.Defect.{DefectIs}
@@ -21,7 +21,7 @@ use Rattle.witness.specs.Held.{StringIn}
 
 -- the sign at which strings with these brackets' bytes next part
 pub record SignAt (c d r : ℕ) : Type 0 where
-  pub is : (e : Exp) (i n : ℕ) (γ δ : Bracket) → c ≡ codeOf γ → d ≡ codeOf δ → Sign e i n γ δ → r ≡ n
+  pub is : (e : Exp) (i n : ℕ) (γ δ : Bracket) → c ≡ codeOf γ → d ≡ codeOf δ → PartingSign e i n γ δ → r ≡ n
 
 pub record SignIs (a b : List ℕ) (r : ℕ) : Type 0 where
   pub is : (e : Content) (n : ℕ) (α β : List Bracket) → a ≡ codes α → b ≡ codes β → PartAt e n α β → r ≡ n

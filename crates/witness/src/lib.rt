@@ -8,8 +8,8 @@ ghost use Rattle.trees.specs.Trees.{Trees};
 ghost use Rattle.trees.specs.Parsed.{RunsInside};
 ghost use Rattle.ways.specs.Spot.{SpotIn};
 ghost use Rattle.parting.specs.Firsts.{no-string, one-string};
-ghost use Rattle.witness.specs.Held.{Holds, BracketIs, JoinedAs, WhenIs, OpenedAs, ClosedAs, EitherAs, BothAs, TurnedAs};
-ghost use Rattle.witness.specs.Walks.{Through, Into, OutOf, Across, ToEnd, ToAtom, FirstsAre};
+ghost use Rattle.witness.specs.Held.{HoldsWithin, BracketIs, JoinedAs, WhenIs, OpenedAs, ClosedAs, EitherAs, BothAs, GoesRoundAs};
+ghost use Rattle.witness.specs.Walks.{FirstsThrough, FirstsInto, FirstsOutOf, FirstsAcross, ToEnd, ToAtom, FirstsAre};
 ghost use Rattle.witness.specs.Answers.{SignAt, SignIs, SignBetween, NoWitness, WitnessAs};
 use layout::Layout;
 use layout::argument_of;
@@ -50,7 +50,7 @@ fn empty_row() -> Row
 }
 
 fn nothing() -> Pair
-    ensures { λ r. ⌜ Holds 0 0 no-string r ⌝ }
+    ensures { λ r. ⌜ HoldsWithin 0 0 no-string r ⌝ }
 {
     let row = empty_row();
     Pair {
@@ -62,7 +62,7 @@ fn nothing() -> Pair
 
 // The empty string alone.
 fn just_empty() -> Pair
-    ensures { λ r. ⌜ Holds 0 0 (one-string []) r ⌝ }
+    ensures { λ r. ⌜ HoldsWithin 0 0 (one-string []) r ⌝ }
 {
     let row = empty_row();
     Pair {
@@ -202,7 +202,7 @@ fn both(f: Pair, g: Pair) -> Pair
 
 // Any number of turns of f, and then a string of g: no turn, or one more.
 fn turned(f: Pair, g: Pair) -> Pair
-    ensures { λ r. ⌜ TurnedAs f g r ⌝ }
+    ensures { λ r. ⌜ GoesRoundAs f g r ⌝ }
 {
     if f.count == 0 {
         return g;
@@ -224,7 +224,7 @@ fn turned(f: Pair, g: Pair) -> Pair
 fn through(s: &[u8], l: Layout, t: Spot) -> Pair
     requires { ⌜ LaidOut (now s) l ⌝ }
     requires { ⌜ SpotIn (now s) t ⌝ }
-    ensures { λ r. ⌜ Through (now (s .entry)) t r ⌝ }
+    ensures { λ r. ⌜ FirstsThrough (now (s .entry)) t r ⌝ }
 {
     let kind = kind_of(s, l, t.node);
     let i = t.bracket;
@@ -263,7 +263,7 @@ fn through(s: &[u8], l: Layout, t: Spot) -> Pair
 fn into(s: &[u8], l: Layout, t: Spot, x: Symbol) -> Pair
     requires { ⌜ LaidOut (now s) l ⌝ }
     requires { ⌜ SpotIn (now s) t ⌝ }
-    ensures { λ r. ⌜ Into (now (s .entry)) t x r ⌝ }
+    ensures { λ r. ⌜ FirstsInto (now (s .entry)) t x r ⌝ }
 {
     let kind = kind_of(s, l, t.node);
     let i = t.bracket;
@@ -302,7 +302,7 @@ fn into(s: &[u8], l: Layout, t: Spot, x: Symbol) -> Pair
 fn out_of(s: &[u8], l: Layout, t: Spot, p: usize) -> Pair
     requires { ⌜ LaidOut (now s) l ⌝ }
     requires { ⌜ SpotIn (now s) t ⌝ }
-    ensures { λ r. ⌜ OutOf (now (s .entry)) t p r ⌝ }
+    ensures { λ r. ⌜ FirstsOutOf (now (s .entry)) t p r ⌝ }
 {
     let kind = kind_of(s, l, t.node);
     let i = t.bracket;
@@ -341,7 +341,7 @@ fn out_of(s: &[u8], l: Layout, t: Spot, p: usize) -> Pair
 fn across(s: &[u8], l: Layout, t: Spot, p: usize, x: Symbol) -> Pair
     requires { ⌜ LaidOut (now s) l ⌝ }
     requires { ⌜ SpotIn (now s) t ⌝ }
-    ensures { λ r. ⌜ Across (now (s .entry)) t p x r ⌝ }
+    ensures { λ r. ⌜ FirstsAcross (now (s .entry)) t p x r ⌝ }
 {
     let kind = kind_of(s, l, t.node);
     if kind > 5 {

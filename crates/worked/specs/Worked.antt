@@ -80,8 +80,8 @@ article = 97 ∷ 114 ∷ 116 ∷ 105 ∷ 99 ∷ 108 ∷ 101 ∷ []
 abbrev pub unused : List ℕ
 unused = 0xFF ∷ 0xFF ∷ []
 
-abbrev pub word : ℕ → List ℕ
-word n = n ∷ 0 ∷ []
+abbrev pub smallWord : ℕ → List ℕ
+smallWord n = n ∷ 0 ∷ []
 
 -- nonterminal and tag are n; the run of nodes, and both fields
 abbrev pub productionBytes : ℕ → ℕ → ℕ → List ℕ → List ℕ → List ℕ
@@ -93,7 +93,7 @@ nodeBytes kind argument = kind ∷ argument ∷ (unused ++ unused)
 -- offsets and counts of tags, productions, nodes, programs and strings; the start, 0; the mark
 abbrev pub trailerBytes : ℕ → ℕ → ℕ → ℕ → ℕ → ℕ → ℕ → ℕ → List ℕ
 trailerBytes tags productions-at productions nodes-at nodes programs-at programs strings-at =
-    word 0 ++ word tags ++ word productions-at ++ word productions ++ word nodes-at ++ word nodes ++ word programs-at ++ word programs ++ word strings-at ++ word 0 ++ word 0
+    smallWord 0 ++ smallWord tags ++ smallWord productions-at ++ smallWord productions ++ smallWord nodes-at ++ smallWord nodes ++ smallWord programs-at ++ smallWord programs ++ smallWord strings-at ++ smallWord 0 ++ smallWord 0
     ++ 0x58 ∷ 0x53 ∷ []
 
 -- <name/>, and <name></name>
@@ -119,10 +119,10 @@ sheet28 =
 abbrev pub bytes28 : List ℕ
 bytes28 =
     tagRecord bib ++ tagRecord book ++ tagRecord title ++ tagRecord author ++ tagRecord year
-    ++ productionBytes 0 0 2 (word 0) unused ++ productionBytes 1 2 8 unused unused ++ productionBytes 2 10 2 unused unused ++ productionBytes 3 12 2 unused unused
+    ++ productionBytes 0 0 2 (smallWord 0) unused ++ productionBytes 1 2 8 unused unused ++ productionBytes 2 10 2 unused unused ++ productionBytes 3 12 2 unused unused
     ++ productionBytes 4 14 2 unused unused
     ++ nodeBytes 5 0 ++ nodeBytes 1 1
-    ++ nodeBytes 3 0 ++ nodeBytes 1 2 ++ nodeBytes 3 0 ++ nodeBytes 1 3 ++ nodeBytes 3 0 ++ (5 ∷ 0 ∷ (word 2 ++ unused)) ++ nodeBytes 1 3 ++ nodeBytes 1 4
+    ++ nodeBytes 3 0 ++ nodeBytes 1 2 ++ nodeBytes 3 0 ++ nodeBytes 1 3 ++ nodeBytes 3 0 ++ (5 ∷ 0 ∷ (smallWord 2 ++ unused)) ++ nodeBytes 1 3 ++ nodeBytes 1 4
     ++ nodeBytes 5 0 ++ nodeBytes 2 0 ++ nodeBytes 5 0 ++ nodeBytes 2 0 ++ nodeBytes 5 0 ++ nodeBytes 2 0
     ++ (8 ∷ 0 ∷ 9 ∷ 0 ∷ []) ++ trailerBytes 5 80 5 140 16 236 4 240
 
@@ -162,7 +162,7 @@ rejecting27 = sheet27-with rejecting-book27
 abbrev pub bytes27-with : List ℕ → ℕ → List ℕ
 bytes27-with of-book n =
     tagRecord bib ++ tagRecord book ++ tagRecord article
-    ++ productionBytes 0 0 4 (word 0) (word 3) ++ productionBytes 1 4 0 (word 14) unused ++ productionBytes 2 4 0 (word 6) unused
+    ++ productionBytes 0 0 4 (smallWord 0) (smallWord 3) ++ productionBytes 1 4 0 (smallWord 14) unused ++ productionBytes 2 4 0 (smallWord 6) unused
     ++ nodeBytes 5 0 ++ nodeBytes 4 0 ++ nodeBytes 1 1 ++ nodeBytes 1 2
     ++ (5 ∷ 0 ∷ 0 ∷ []) ++ (6 ∷ 0 ∷ 0 ∷ []) ++ (5 ∷ 2 ∷ 6 ∷ 2 ∷ 1 ∷ 0 ∷ 1 ∷ 0 ∷ []) ++ of-book
     ++ trailerBytes 3 48 3 84 4 108 (14 + n) (122 + n)

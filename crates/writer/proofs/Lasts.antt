@@ -5,25 +5,25 @@ use mathlib.Core.List.{List, [], _∷_, _++_}
 use Prim.Native.Nat.{ℕ, suc, _+_, _-_, _≤_, _<_}
 use native.Mathlib.Omega.{arith}
 use lib.ListN.{length, length-append}
-use Rattle.notation.specs.Tokens.{Token, nonterminal, value, attribute, name, start-tag, end-tag, empty-tag, string, word, sign, all-in-quotes, bytesOf}
-use Rattle.lexemes.specs.Kinds.{wordNumber, kindOf, numberOf, TokenFits}
+use Rattle.notation.specs.Tokens.{TextToken, nonterminal, value, attribute, name, start-tag, end-tag, empty-tag, string, word, sign, all-in-quotes, tokenBytes}
+use Rattle.lexemes.specs.Kinds.{wordNumber, tokenKind, tokenNumber, TokenFits}
 use Rattle.shelves.proofs.Outcomes.{word-kind, mark-kind, sign-kind}
-use Rattle.writing.specs.TooMany.{lastOf}
+use Rattle.writing.specs.TooMany.{lastByteOf}
 use Rattle.writer.specs.Walks.{LastIs}
 
-data LastView (t : Token) : Type 0 where
-  of-name : kindOf t ≡ 5 → lastOf t ≡ numberOf t - 1 → LastView t
-  of-string : kindOf t ≡ 9 → lastOf t ≡ length (bytesOf t) - 1 → LastView t
-  of-end : kindOf t ≡ 7 → lastOf t ≡ numberOf t + 1 → numberOf t ≤ 15 → LastView t
-  of-start : kindOf t ≡ 6 → lastOf t ≡ numberOf t → LastView t
-  of-empty : kindOf t ≡ 8 → lastOf t ≡ numberOf t → LastView t
-  of-other : (kindOf t < 5) ⊎ (10 ≤ kindOf t) → lastOf t ≡ 0 → LastView t
+data LastView (t : TextToken) : Type 0 where
+  of-name : tokenKind t ≡ 5 → lastByteOf t ≡ tokenNumber t - 1 → LastView t
+  of-string : tokenKind t ≡ 9 → lastByteOf t ≡ length (tokenBytes t) - 1 → LastView t
+  of-end : tokenKind t ≡ 7 → lastByteOf t ≡ tokenNumber t + 1 → tokenNumber t ≤ 15 → LastView t
+  of-start : tokenKind t ≡ 6 → lastByteOf t ≡ tokenNumber t → LastView t
+  of-empty : tokenKind t ≡ 8 → lastByteOf t ≡ tokenNumber t → LastView t
+  of-other : (tokenKind t < 5) ⊎ (10 ≤ tokenKind t) → lastByteOf t ≡ 0 → LastView t
 
-word-high : (t : Token) (n : ℕ) → ((10 ≤ n) × (n < 23)) ⊎ (n ≡ 34) → 10 ≤ n
+word-high : (t : TextToken) (n : ℕ) → ((10 ≤ n) × (n < 23)) ⊎ (n ≡ 34) → 10 ≤ n
 word-high t n (inl a) = a .0
 word-high t n (inr e) = omega (arith, e)
 
-view : (t : Token) → TokenFits t → LastView t
+view : (t : TextToken) → TokenFits t → LastView t
 view (nonterminal n) h = of-other (inl (omega arith)) refl
 view (value v) h = of-other (inl (omega arith)) refl
 view (attribute m a) h = of-other (inl (mark-kind m)) refl
@@ -35,7 +35,7 @@ view (string cs) h = of-string refl (omega (arith, length-append (all-in-quotes 
 view (word w) h = of-other (inr (word-high (word w) (wordNumber w) (word-kind w))) refl
 view (sign g) h = of-other (inr (let z = sign-kind g in omega (arith, z))) refl
 
-pub last-small : (t : Token) → TokenFits t → lastOf t ≤ length (bytesOf t)
+pub last-small : (t : TextToken) → TokenFits t → lastByteOf t ≤ length (tokenBytes t)
 last-small (nonterminal n) h = omega arith
 last-small (value v) h = omega arith
 last-small (attribute m a) h = omega arith
@@ -49,13 +49,13 @@ last-small (sign g) h = omega arith
 
 module _ (kind number long : ℕ) where
   -- a number that a view settles, whichever it is
-  by-view : (r : ℕ) → ((t : Token) → kind ≡ kindOf t → number ≡ numberOf t → long ≡ length (bytesOf t) → LastView t → r ≡ lastOf t) → LastIs kind number long r
+  by-view : (r : ℕ) → ((t : TextToken) → kind ≡ tokenKind t → number ≡ tokenNumber t → long ≡ length (tokenBytes t) → LastView t → r ≡ lastByteOf t) → LastIs kind number long r
   by-view r f = record { is = λ t h k n l. f t k n l (view t h) }
 
   pub last-5-none : kind ≡ 5 → number ≡ 0 → LastIs kind number long 0
   last-5-none a b = by-view 0 on
     where
-      on : (t : Token) → kind ≡ kindOf t → number ≡ numberOf t → long ≡ length (bytesOf t) → LastView t → 0 ≡ lastOf t
+      on : (t : TextToken) → kind ≡ tokenKind t → number ≡ tokenNumber t → long ≡ length (tokenBytes t) → LastView t → 0 ≡ lastByteOf t
       on t k n l (of-name e f) = omega (arith, f, n, b)
       on t k n l (of-string e f) = absurd (omega (arith, e, k, a))
       on t k n l (of-end e f g) = absurd (omega (arith, e, k, a))
@@ -66,7 +66,7 @@ module _ (kind number long : ℕ) where
   pub last-5 : kind ≡ 5 → (number ≡ 0 → ⊥) → LastIs kind number long (number - 1)
   last-5 a b = by-view (number - 1) on
     where
-      on : (t : Token) → kind ≡ kindOf t → number ≡ numberOf t → long ≡ length (bytesOf t) → LastView t → number - 1 ≡ lastOf t
+      on : (t : TextToken) → kind ≡ tokenKind t → number ≡ tokenNumber t → long ≡ length (tokenBytes t) → LastView t → number - 1 ≡ lastByteOf t
       on t k n l (of-name e f) = omega (arith, f, n)
       on t k n l (of-string e f) = absurd (omega (arith, e, k, a))
       on t k n l (of-end e f g) = absurd (omega (arith, e, k, a))
@@ -78,7 +78,7 @@ module _ (kind number long : ℕ) where
   pub last-9-none : kind ≡ 9 → long ≡ 0 → LastIs kind number long 0
   last-9-none a b = by-view 0 on
     where
-      on : (t : Token) → kind ≡ kindOf t → number ≡ numberOf t → long ≡ length (bytesOf t) → LastView t → 0 ≡ lastOf t
+      on : (t : TextToken) → kind ≡ tokenKind t → number ≡ tokenNumber t → long ≡ length (tokenBytes t) → LastView t → 0 ≡ lastByteOf t
       on t k n l (of-name e f) = absurd (omega (arith, e, k, a))
       on t k n l (of-string e f) = omega (arith, f, l, b)
       on t k n l (of-end e f g) = absurd (omega (arith, e, k, a))
@@ -89,7 +89,7 @@ module _ (kind number long : ℕ) where
   pub last-9 : kind ≡ 9 → (long ≡ 0 → ⊥) → LastIs kind number long (long - 1)
   last-9 a b = by-view (long - 1) on
     where
-      on : (t : Token) → kind ≡ kindOf t → number ≡ numberOf t → long ≡ length (bytesOf t) → LastView t → long - 1 ≡ lastOf t
+      on : (t : TextToken) → kind ≡ tokenKind t → number ≡ tokenNumber t → long ≡ length (tokenBytes t) → LastView t → long - 1 ≡ lastByteOf t
       on t k n l (of-name e f) = absurd (omega (arith, e, k, a))
       on t k n l (of-string e f) = omega (arith, f, l)
       on t k n l (of-end e f g) = absurd (omega (arith, e, k, a))
@@ -101,7 +101,7 @@ module _ (kind number long : ℕ) where
   pub last-7 : kind ≡ 7 → number < 16 → LastIs kind number long (number + 1)
   last-7 a b = by-view (number + 1) on
     where
-      on : (t : Token) → kind ≡ kindOf t → number ≡ numberOf t → long ≡ length (bytesOf t) → LastView t → number + 1 ≡ lastOf t
+      on : (t : TextToken) → kind ≡ tokenKind t → number ≡ tokenNumber t → long ≡ length (tokenBytes t) → LastView t → number + 1 ≡ lastByteOf t
       on t k n l (of-name e f) = absurd (omega (arith, e, k, a))
       on t k n l (of-string e f) = absurd (omega (arith, e, k, a))
       on t k n l (of-end e f g) = omega (arith, f, n)
@@ -113,7 +113,7 @@ module _ (kind number long : ℕ) where
   pub last-7-long : kind ≡ 7 → 16 ≤ number → LastIs kind number long 0
   last-7-long a b = by-view 0 on
     where
-      on : (t : Token) → kind ≡ kindOf t → number ≡ numberOf t → long ≡ length (bytesOf t) → LastView t → 0 ≡ lastOf t
+      on : (t : TextToken) → kind ≡ tokenKind t → number ≡ tokenNumber t → long ≡ length (tokenBytes t) → LastView t → 0 ≡ lastByteOf t
       on t k n l (of-name e f) = absurd (omega (arith, e, k, a))
       on t k n l (of-string e f) = absurd (omega (arith, e, k, a))
       on t k n l (of-end e f g) = absurd (omega (arith, g, n, b))
@@ -124,7 +124,7 @@ module _ (kind number long : ℕ) where
   whole-number : (m : ℕ) → kind ≡ m → (m ≡ 6) ⊎ (m ≡ 8) → LastIs kind number long number
   whole-number m a c = by-view number (λ t k n l v. on t k n l v c)
     where
-      on : (t : Token) → kind ≡ kindOf t → number ≡ numberOf t → long ≡ length (bytesOf t) → LastView t → (m ≡ 6) ⊎ (m ≡ 8) → number ≡ lastOf t
+      on : (t : TextToken) → kind ≡ tokenKind t → number ≡ tokenNumber t → long ≡ length (tokenBytes t) → LastView t → (m ≡ 6) ⊎ (m ≡ 8) → number ≡ lastByteOf t
       on t k n l (of-name e f) (inl d) = absurd (omega (arith, e, k, a, d))
       on t k n l (of-name e f) (inr d) = absurd (omega (arith, e, k, a, d))
       on t k n l (of-string e f) (inl d) = absurd (omega (arith, e, k, a, d))
@@ -147,7 +147,7 @@ module _ (kind number long : ℕ) where
   pub last-other : (kind ≡ 5 → ⊥) → (kind ≡ 9 → ⊥) → (kind ≡ 7 → ⊥) → (kind ≡ 6 → ⊥) → (kind ≡ 8 → ⊥) → LastIs kind number long 0
   last-other a b c d i = by-view 0 on
     where
-      on : (t : Token) → kind ≡ kindOf t → number ≡ numberOf t → long ≡ length (bytesOf t) → LastView t → 0 ≡ lastOf t
+      on : (t : TextToken) → kind ≡ tokenKind t → number ≡ tokenNumber t → long ≡ length (tokenBytes t) → LastView t → 0 ≡ lastByteOf t
       on t k n l (of-name e f) = absurd (a (k ∙ e))
       on t k n l (of-string e f) = absurd (b (k ∙ e))
       on t k n l (of-end e f g) = absurd (c (k ∙ e))

@@ -8,13 +8,13 @@ use native.Mathlib.Omega.{arith}
 use lib.ListN.{length, take, drop, length-drop}
 use lib.Seq.{drop-drop, drop-append-seam}
 use Rattle.notation.specs.Rules.{Rules}
-use Rattle.notation.specs.Tokens.{Token, bytesOf}
-use Rattle.encoding.specs.Mentions.{tagsIn, stringsIn, programsIn}
+use Rattle.notation.specs.Tokens.{TextToken, tokenBytes}
+use Rattle.encoding.specs.Mentions.{tagsMentioned, stringsMentioned, programsMentioned}
 use Rattle.encoding.specs.Distinct.{distinct}
 use Rattle.encoding.specs.Encoded.{bytesOfEach}
 use Rattle.reading.specs.Rules.{Progress, beginning}
 use Rattle.lexing.proofs.Spellings.{part, part-is}
-use Rattle.lexemes.specs.Kinds.{kindOf, numberOf, TokenFits}
+use Rattle.lexemes.specs.Kinds.{tokenKind, tokenNumber, TokenFits}
 use Rattle.verdicts.specs.Judged.{writes, refused-at, Judged, ended}
 use Rattle.verdicts.proofs.Judging.{judged-right}
 use Rattle.stores.specs.Rows.{RowsIn}
@@ -22,18 +22,18 @@ use Rattle.stores.proofs.Mentioning.{empty-store}
 use Rattle.reading.proofs.Telling.{none≢some}
 use Rattle.desks.specs.Spots.{spot}
 use Rattle.mentions.specs.SoFar.{soFar}
-use Rattle.ledgers.specs.Trodden.{Trodden, TokenAt, Leads}
-use Rattle.ledgers.specs.Space.{Space}
+use Rattle.ledgers.specs.Trodden.{Trodden, TokenAt, LeadsToRules}
+use Rattle.ledgers.specs.Space.{SpaceFor}
 use Rattle.ledgers.proofs.Telling.{trodden-first, trodden-on, trodden-tidy, leads-back, tells-rules, tells-40, tells-41}
 use Rattle.rulings.specs.declared.Reader.{Reader}
 use Rattle.sights.specs.declared.Ruling.{Ruling}
 use Rattle.rulings.specs.Readers.{Holds, Firm, StartIs}
 use Rattle.sights.specs.declared.Glance.{Glance}
-use Rattle.sights.specs.Glances.{Met, Seen, meets, writes-rules, refuses, GlanceIs, Somewhere, Told, rest-writes, rest-refused, RestIs}
+use Rattle.sights.specs.Glances.{Met, Seen, meets, writes-rules, refuses, GlanceIs, Somewhere, RestTold, rest-writes, rest-refused, RestIs}
 use Rattle.sights.proofs.Rest.{met-of}
-use Rattle.writing.specs.TooMany.{lastOf}
+use Rattle.writing.specs.TooMany.{lastByteOf}
 use Rattle.writing.specs.Written.{WrittenAs}
-use Rattle.strokes.specs.Strokes.{blank}
+use Rattle.strokes.specs.Strokes.{noInk}
 use Rattle.inks.specs.declared.Ink.{Ink}
 use Rattle.inks.specs.Held.{Trim, InkIs}
 use Rattle.beds.specs.declared.Bed.{Bed}
@@ -44,14 +44,14 @@ use Rattle.shelves.proofs.Rows.{rows-fit}
 use Rattle.slips.specs.declared.Slip.{Slip}
 use Rattle.pasts.specs.declared.Past.{Past}
 use Rattle.advance.specs.declared.Desk.{Desk}
-use Rattle.advance.specs.Advance.{Firmly, Kept, Next, Advanced}
+use Rattle.advance.specs.Advance.{Firmly, DeskHolds, BehindToken, Advanced}
 use Rattle.sealing.specs.declared.Outcome.{Outcome}
-use Rattle.closings.specs.Closings.{Whole, SomeWhole, FinishIs}
+use Rattle.closings.specs.Closings.{AtTheEnd, SomeWhole, FinishIs}
 use Rattle.writer.specs.declared.Walk.{Walk}
-use Rattle.writer.specs.Walks.{Places, FreshIs, LastIs, Under, Stopped, WalkIs, walks, stopped, Strode}
+use Rattle.writer.specs.Walks.{Places, FreshDesk, LastIs, Under, WalkStopped, WalkIs, walks, stopped, WalkedOn}
 use Rattle.writer.proofs.Lasts.{last-small}
 
-pub fresh-as : (ink : Ink) (bed : Bed) → InkIs blank ink → FreshIs (record {
+pub fresh-as : (ink : Ink) (bed : Bed) → InkIs noInk ink → FreshDesk (record {
   slip = record { start = 0; nonterm = 0; tag = 0; front = 0xFFFF; back = 0xFFFF };
   past = record { productions = 0; before = 0; nodes = 0 };
   shelved = record { full = false; place = 0; tags = 0; strings = 0; programs = 0 };
@@ -79,15 +79,15 @@ module _ (tb te sb se pb pe productions nodes : List ℕ) where
   Here text from reader g d = Under text from reader g d tb te sb se pb pe productions nodes
 
   -- there is space for what is stored
-  pub space-of : (r : Rules) (s : Progress) (d : Desk) → Firmly d tb te sb se pb pe productions nodes → Kept r s d tb te sb se pb pe productions nodes → Space r (soFar s)
+  pub space-of : (r : Rules) (s : Progress) (d : Desk) → Firmly d tb te sb se pb pe productions nodes → DeskHolds r s d tb te sb se pb pe productions nodes → SpaceFor r (soFar s)
   space-of r s d f k = record {
-    few-tags = omega (arith, rows-fit tb te (d .shelved .tags) (distinct (tagsIn (soFar s))) (k .stores .tags-held) .0, f .rowed .tag-places);
-    short-programs = omega (arith, rows-fit pb pe (d .shelved .programs) (distinct (bytesOfEach r (programsIn (soFar s)))) (k .stores .programs-held) .1, f .rowed .program-room);
-    short-strings = omega (arith, rows-fit sb se (d .shelved .strings) (distinct (stringsIn (soFar s))) (k .stores .strings-held) .1, f .rowed .string-room);
+    few-tags = omega (arith, rows-fit tb te (d .shelved .tags) (distinct (tagsMentioned (soFar s))) (k .stores .tags-held) .0, f .rowed .tag-places);
+    short-programs = omega (arith, rows-fit pb pe (d .shelved .programs) (distinct (bytesOfEach r (programsMentioned (soFar s)))) (k .stores .programs-held) .1, f .rowed .program-room);
+    short-strings = omega (arith, rows-fit sb se (d .shelved .strings) (distinct (stringsMentioned (soFar s))) (k .stores .strings-held) .1, f .rowed .string-room);
   }
 
   -- before the first token
-  pub firmly-first : (d : Desk) → Places tb te sb se pb pe productions nodes → FreshIs d → Firmly d tb te sb se pb pe productions nodes
+  pub firmly-first : (d : Desk) → Places tb te sb se pb pe productions nodes → FreshDesk d → Firmly d tb te sb se pb pe productions nodes
   firmly-first d p f = record {
     rowed = record {
       tag-room = p .tag-room;
@@ -105,7 +105,7 @@ module _ (tb te sb se pb pe productions nodes : List ℕ) where
     node-room = p .node-room;
   }
 
-  kept-first : (r : Rules) (d : Desk) → FreshIs d → Kept r beginning d tb te sb se pb pe productions nodes
+  kept-first : (r : Rules) (d : Desk) → FreshDesk d → DeskHolds r beginning d tb te sb se pb pe productions nodes
   kept-first r d f = record {
     going = f .going;
     stores = record {
@@ -133,7 +133,7 @@ module _ (tb te sb se pb pe productions nodes : List ℕ) where
     };
   }
 
-  pub walk-first : (text : List ℕ) (r : Reader) (d : Desk) (g : Glance) → Places tb te sb se pb pe productions nodes → StartIs r → FreshIs d → GlanceIs text r g
+  pub walk-first : (text : List ℕ) (r : Reader) (d : Desk) (g : Glance) → Places tb te sb se pb pe productions nodes → StartIs r → FreshDesk d → GlanceIs text r g
       → WalkIs text (record { going = g .going; full = false; from = 0; byte = 0; desk = d; reader = r; glance = g }) tb te sb se pb pe productions nodes
   walk-first text r d g p h f i = walks refl refl (record {
     high = omega (arith, i .high);
@@ -157,14 +157,14 @@ module _ (text : List ℕ) (from : ℕ) (reader : Reader) (g : Glance) (d : Desk
   pub onward : suc from ≤ from + g .at + g .long
   onward = omega (arith, met .onward)
 
-  token-is : part text (from + g .at) ≡ bytesOf (met .token) ++ met .stands .rest
+  token-is : part text (from + g .at) ≡ tokenBytes (met .token) ++ met .stands .rest
   token-is =
       part-is text (from + g .at) ∙ sym (drop-drop (g .at) from text) ∙ ap₂ (λ (n : ℕ) (x : List ℕ). drop n x) (met .stands .at-is) (met .stands .are)
-      ∙ drop-append-seam (met .stands .gap) (bytesOf (met .token) ++ met .stands .rest)
+      ∙ drop-append-seam (met .stands .gap) (tokenBytes (met .token) ++ met .stands .rest)
 
   module _ (tb′ te′ sb′ se′ pb′ pe′ productions′ nodes′ : List ℕ) (a : Desk)
       (f : Advanced d reader (g .reader) (part text (from + g .at)) (g .kind) (g .number) tb te sb se pb pe productions nodes tb′ te′ sb′ se′ pb′ pe′ productions′ nodes′ a) where
-    next-of : (r : Rules) → Leads (met .next) r → Next r (met .next) a tb′ te′ sb′ se′ pb′ pe′ productions′ nodes′
+    next-of : (r : Rules) → LeadsToRules (met .next) r → BehindToken r (met .next) a tb′ te′ sb′ se′ pb′ pe′ productions′ nodes′
     next-of r l =
         f .is r (u .state) (met .next) (met .token) (met .stands .rest) (u .holds) (met .holds) (met .stands .goes) (met .stands .fits) (met .kind-is) (met .number-is) token-is
         (trodden-tidy text from (u .state) (u .trodden)) l (u .kept r (leads-back (u .state) (met .next) (met .token) r (met .stands .goes .taken) l))
@@ -216,10 +216,10 @@ module _ (text : List ℕ) (from : ℕ) (reader : Reader) (g : Glance) (d : Desk
 
 -- where the walk has ended
 module _ (text area : List ℕ) (w : Walk) (tb te sb se pb pe productions nodes : List ℕ) (h : WalkIs text w tb te sb se pb pe productions nodes) where
-  pub stop-of : w .full ≡ true → Stopped text (w .from) (w .byte) (w .reader)
+  pub stop-of : w .full ≡ true → WalkStopped text (w .from) (w .byte) (w .reader)
   stop-of e = on h
     where
-      on : WalkIs text w tb te sb se pb pe productions nodes → Stopped text (w .from) (w .byte) (w .reader)
+      on : WalkIs text w tb te sb se pb pe productions nodes → WalkStopped text (w .from) (w .byte) (w .reader)
       on (walks f g u) = absurd (true≢false (sym e ∙ f))
       on (stopped f g s) = s
 
@@ -234,10 +234,10 @@ module _ (text area : List ℕ) (w : Walk) (tb te sb se pb pe productions nodes 
   somewhere e = let s = stop-of e in (s .firm, record { state = s .next; holds = s .holds })
 
   -- 41, or 40 further on
-  rest-told : (s : Stopped text (w .from) (w .byte) (w .reader)) (a : Ruling) → RestIs (drop (w .from) text) (w .reader) a → Told (s .next) (drop (w .from) text) a
+  rest-told : (s : WalkStopped text (w .from) (w .byte) (w .reader)) (a : Ruling) → RestIs (drop (w .from) text) (w .reader) a → RestTold (s .next) (drop (w .from) text) a
   rest-told s a r = r .told (s .next) (s .holds)
 
-  told-41 : (s : Stopped text (w .from) (w .byte) (w .reader)) → Told (s .next) (drop (w .from) text) Ruling.Rules → WrittenAs text area 41 (w .byte) area
+  told-41 : (s : WalkStopped text (w .from) (w .byte) (w .reader)) → RestTold (s .next) (drop (w .from) text) Ruling.Rules → WrittenAs text area 41 (w .byte) area
   told-41 s (rest-writes v j) =
       let j′ = subst (λ (n : ℕ). Judged (s .next) (drop n text) (writes v)) (s .from-is) j in
       let t = trodden-on text (s .begun) (s .at) (s .long) (s .state) (s .next) (s .token) (s .trodden) (s .stands) in
@@ -245,7 +245,7 @@ module _ (text area : List ℕ) (w : Walk) (tb te sb se pb pe productions nodes 
       subst (λ (n : ℕ). WrittenAs text area 41 n area) (sym (s .byte-is))
       (tells-41 text area (s .begun) (s .at) (s .long) (s .state) (s .next) (s .token) v (s .trodden) (s .stands) j′ (s .space v (leads-back (s .state) (s .next) (s .token) v (s .stands .goes .taken) l)) (s .no-space v l))
 
-  told-40 : (s : Stopped text (w .from) (w .byte) (w .reader)) (k : ℕ) → Told (s .next) (drop (w .from) text) (Ruling.Refused k) → WrittenAs text area 40 (w .from + k) area
+  told-40 : (s : WalkStopped text (w .from) (w .byte) (w .reader)) (k : ℕ) → RestTold (s .next) (drop (w .from) text) (Ruling.Refused k) → WrittenAs text area 40 (w .from + k) area
   told-40 s k (rest-refused j) =
       let t = trodden-on text (s .begun) (s .at) (s .long) (s .state) (s .next) (s .token) (s .trodden) (s .stands) in
       let t′ = subst (λ (n : ℕ). Trodden text n (s .next)) (sym (s .from-is)) t in
@@ -275,7 +275,7 @@ module _ (text area : List ℕ) (w : Walk) (tb te sb se pb pe productions nodes 
   settled-40 y e v = let u = end-of e in refused (u .0) (sym (u .1) ∙ y) v (seen-of (u .0))
 
   abbrev WholeAt : Rules → Progress → Type 0
-  WholeAt r s = Whole text r s (w .desk .slip) (w .desk .shelved) (w .desk .past) tb te productions nodes sb se pb pe
+  WholeAt r s = AtTheEnd text r s (w .desk .slip) (w .desk .shelved) (w .desk .past) tb te productions nodes sb se pb pe
 
   whole-at : (u : Under text (w .from) (w .reader) (w .glance) (w .desk) tb te sb se pb pe productions nodes) → w .glance .going ≡ false → w .glance .written ≡ true → Seen (u .state) (drop (w .from) text) (w .glance)
       → (r : Rules) × WholeAt r (u .state)
@@ -327,7 +327,7 @@ module _ (text area : List ℕ) (w : Walk) (tb te sb se pb pe productions nodes 
       let s = stop-of e in
       on s (rest-told s (Ruling.Refused k) (subst (RestIs (drop (w .from) text) (w .reader)) b (subst (λ (x : List ℕ). RestIs x (w .reader) a) (part-is text (w .from)) r)))
     where
-      on : (s : Stopped text (w .from) (w .byte) (w .reader)) → Told (s .next) (drop (w .from) text) (Ruling.Refused k) → w .from + k ≤ length text
+      on : (s : WalkStopped text (w .from) (w .byte) (w .reader)) → RestTold (s .next) (drop (w .from) text) (Ruling.Refused k) → w .from + k ≤ length text
       on s (rest-refused j) =
           let t = trodden-on text (s .begun) (s .at) (s .long) (s .state) (s .next) (s .token) (s .trodden) (s .stands) in
           let t′ = subst (λ (n : ℕ). Trodden text n (s .next)) (sym (s .from-is)) t in
@@ -361,7 +361,7 @@ module _ (text : List ℕ) (w : Walk) (tb te sb se pb pe productions nodes : Lis
   module _ (tb′ te′ sb′ se′ pb′ pe′ productions′ nodes′ : List ℕ) (a : Desk)
       (f : Advanced (w .desk) (w .reader) (w .glance .reader) (part text (w .from + w .glance .at)) (w .glance .kind) (w .glance .number) tb te sb se pb pe productions nodes tb′ te′ sb′ se′ pb′ pe′ productions′ nodes′ a) where
     pub strode-on : (g : Glance) → a .shelved .full ≡ false → GlanceIs (part text (w .from + w .glance .at + w .glance .long)) (w .glance .reader) g
-        → Strode text w tb′ te′ sb′ se′ pb′ pe′ productions′ nodes′ (record { going = g .going; full = false; from = w .from + w .glance .at + w .glance .long; byte = 0; desk = a; reader = w .glance .reader; glance = g })
+        → WalkedOn text w tb′ te′ sb′ se′ pb′ pe′ productions′ nodes′ (record { going = g .going; full = false; from = w .from + w .glance .at + w .glance .long; byte = 0; desk = a; reader = w .glance .reader; glance = g })
     strode-on g e i = record {
       onward = onward text (w .from) (w .reader) (w .glance) (w .desk) tb te sb se pb pe productions nodes here going;
       inside = omega (arith, reach);
@@ -370,7 +370,7 @@ module _ (text : List ℕ) (w : Walk) (tb te sb se pb pe productions nodes : Lis
     }
 
     pub strode-stop : (last : ℕ) → a .shelved .full ≡ true → LastIs (w .glance .kind) (w .glance .number) (w .glance .long) last
-        → Strode text w tb′ te′ sb′ se′ pb′ pe′ productions′ nodes′ (record { going = false; full = true; from = w .from + w .glance .at + w .glance .long; byte = w .from + w .glance .at + last; desk = a; reader = w .glance .reader; glance = w .glance })
+        → WalkedOn text w tb′ te′ sb′ se′ pb′ pe′ productions′ nodes′ (record { going = false; full = true; from = w .from + w .glance .at + w .glance .long; byte = w .from + w .glance .at + last; desk = a; reader = w .glance .reader; glance = w .glance })
     strode-stop last e l = record {
       onward = onward text (w .from) (w .reader) (w .glance) (w .desk) tb te sb se pb pe productions nodes here going;
       inside = omega (arith, reach);

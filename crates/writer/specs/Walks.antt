@@ -5,20 +5,20 @@ use mathlib.Core.List.{List}
 use Prim.Native.Nat.{ℕ, suc, _+_, _≤_}
 use lib.ListN.{length, drop}
 use Rattle.notation.specs.Rules.{Rules}
-use Rattle.notation.specs.Tokens.{Token, bytesOf}
+use Rattle.notation.specs.Tokens.{TextToken, tokenBytes}
 use Rattle.reading.specs.Rules.{Progress}
-use Rattle.lexemes.specs.Kinds.{kindOf, numberOf, TokenFits}
+use Rattle.lexemes.specs.Kinds.{tokenKind, tokenNumber, TokenFits}
 use Rattle.mentions.specs.SoFar.{soFar}
-use Rattle.ledgers.specs.Trodden.{Trodden, TokenAt, Leads}
-use Rattle.ledgers.specs.Space.{Space}
+use Rattle.ledgers.specs.Trodden.{Trodden, TokenAt, LeadsToRules}
+use Rattle.ledgers.specs.Space.{SpaceFor}
 use Rattle.rulings.specs.declared.Reader.{Reader}
 use Rattle.rulings.specs.Readers.{Holds, Firm}
 use Rattle.sights.specs.declared.Glance.{Glance}
 use Rattle.sights.specs.Glances.{GlanceIs}
-use Rattle.writing.specs.TooMany.{lastOf}
+use Rattle.writing.specs.TooMany.{lastByteOf}
 use Rattle.inks.specs.Held.{Trim}
 use Rattle.advance.specs.declared.Desk.{Desk}
-use Rattle.advance.specs.Advance.{Firmly, Kept}
+use Rattle.advance.specs.Advance.{Firmly, DeskHolds}
 use Rattle.writer.specs.declared.Walk.{Walk}
 
 -- memory with as many places as a sheet can have
@@ -33,7 +33,7 @@ pub record Places (tb te sb se pb pe productions nodes : List ℕ) : Type 0 wher
   pub node-room : length nodes ≡ 1536
 
 -- nothing is kept yet
-pub record FreshIs (d : Desk) : Type 0 where
+pub record FreshDesk (d : Desk) : Type 0 where
   pub trim : Trim (d .ink)
   pub going : d .shelved .full ≡ false
   pub no-tags : d .shelved .tags ≡ 0
@@ -49,7 +49,7 @@ pub record FreshIs (d : Desk) : Type 0 where
   pub no-nodes : d .past .nodes ≡ 0
 
 pub record LastIs (kind number long r : ℕ) : Type 0 where
-  pub is : (t : Token) → TokenFits t → kind ≡ kindOf t → number ≡ numberOf t → long ≡ length (bytesOf t) → r ≡ lastOf t
+  pub is : (t : TextToken) → TokenFits t → kind ≡ tokenKind t → number ≡ tokenNumber t → long ≡ length (tokenBytes t) → r ≡ lastByteOf t
 
 -- behind some tokens: the next one, or the end, is in sight
 pub record Under (text : List ℕ) (from : ℕ) (reader : Reader) (g : Glance) (d : Desk) (tb te sb se pb pe productions nodes : List ℕ) : Type 0 where
@@ -59,10 +59,10 @@ pub record Under (text : List ℕ) (from : ℕ) (reader : Reader) (g : Glance) (
   pub trodden : Trodden text from state
   pub holds : Holds state reader
   pub glance : GlanceIs (drop from text) reader g
-  pub kept : (r : Rules) → Leads state r → Kept r state d tb te sb se pb pe productions nodes
+  pub kept : (r : Rules) → LeadsToRules state r → DeskHolds r state d tb te sb se pb pe productions nodes
 
 -- behind a token for which a store had no room
-pub record Stopped (text : List ℕ) (from byte : ℕ) (reader : Reader) : Type 0 where
+pub record WalkStopped (text : List ℕ) (from byte : ℕ) (reader : Reader) : Type 0 where
   pub high : from ≤ length text
   pub firm : Firm reader
   pub begun : ℕ
@@ -70,21 +70,21 @@ pub record Stopped (text : List ℕ) (from byte : ℕ) (reader : Reader) : Type 
   pub long : ℕ
   pub state : Progress
   pub next : Progress
-  pub token : Token
+  pub token : TextToken
   pub from-is : from ≡ begun + (at + long)
-  pub byte-is : byte ≡ begun + at + lastOf token
+  pub byte-is : byte ≡ begun + at + lastByteOf token
   pub trodden : Trodden text begun state
   pub stands : TokenAt state (drop begun text) at long token next
   pub holds : Holds next reader
-  pub space : (r : Rules) → Leads state r → Space r (soFar state)
-  pub no-space : (r : Rules) → Leads next r → Space r (soFar next) → ⊥
+  pub space : (r : Rules) → LeadsToRules state r → SpaceFor r (soFar state)
+  pub no-space : (r : Rules) → LeadsToRules next r → SpaceFor r (soFar next) → ⊥
 
 pub data WalkIs (text : List ℕ) (w : Walk) (tb te sb se pb pe productions nodes : List ℕ) : Type 0 where
   walks : w .full ≡ false → w .going ≡ w .glance .going → Under text (w .from) (w .reader) (w .glance) (w .desk) tb te sb se pb pe productions nodes → WalkIs text w tb te sb se pb pe productions nodes
-  stopped : w .full ≡ true → w .going ≡ false → Stopped text (w .from) (w .byte) (w .reader) → WalkIs text w tb te sb se pb pe productions nodes
+  stopped : w .full ≡ true → w .going ≡ false → WalkStopped text (w .from) (w .byte) (w .reader) → WalkIs text w tb te sb se pb pe productions nodes
 
 -- one token further, and at least one byte
-pub record Strode (text : List ℕ) (w : Walk) (tb te sb se pb pe productions nodes : List ℕ) (r : Walk) : Type 0 where
+pub record WalkedOn (text : List ℕ) (w : Walk) (tb te sb se pb pe productions nodes : List ℕ) (r : Walk) : Type 0 where
   pub onward : suc (w .from) ≤ r .from
   pub inside : r .from ≤ length text
   pub places : Places tb te sb se pb pe productions nodes

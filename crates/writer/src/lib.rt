@@ -2,7 +2,7 @@
 ghost use mathlib.Core.Path.{_≡_};
 ghost use mathlib.Core.Bool.{true, false};
 ghost use Rattle.writing.specs.Written.{WrittenAs};
-ghost use Rattle.writer.specs.Walks.{Places, FreshIs, LastIs, WalkIs, Strode};
+ghost use Rattle.writer.specs.Walks.{Places, FreshDesk, LastIs, WalkIs, WalkedOn};
 
 // A number, and the count that goes with it.
 pub struct Written {
@@ -24,7 +24,7 @@ struct Walk {
 
 // Before the first token.
 fn fresh() -> advance::Desk
-    ensures { λ r. ⌜ FreshIs r ⌝ }
+    ensures { λ r. ⌜ FreshDesk r ⌝ }
 {
     let ink = inks::Ink::fresh();
     let bed = beds::Bed::fresh();
@@ -101,7 +101,7 @@ fn stride(
     nodes: &mut [u8],
 ) -> Walk
     requires { ⌜ (w .going ≡ true) × WalkIs (now text) w (now tags) (now tagends) (now strings) (now stringends) (now programs) (now programends) (now productions) (now nodes) ⌝ }
-    ensures { λ r. ⌜ Strode (now (text .entry)) w (now (tags .exit)) (now (tagends .exit)) (now (strings .exit)) (now (stringends .exit)) (now (programs .exit)) (now (programends .exit)) (now (productions .exit)) (now (nodes .exit)) r ⌝ }
+    ensures { λ r. ⌜ WalkedOn (now (text .entry)) w (now (tags .exit)) (now (tagends .exit)) (now (strings .exit)) (now (stringends .exit)) (now (programs .exit)) (now (programends .exit)) (now (productions .exit)) (now (nodes .exit)) r ⌝ }
 {
     let d = w.desk;
     let r = w.reader;

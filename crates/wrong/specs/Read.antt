@@ -8,12 +8,12 @@ use Rattle.layout.specs.Layout.{byteAt, wordAt, trailerWord, Size}
 use Rattle.layout.specs.Records.{productionAt}
 
 -- a byte as a number; 0 where there is none
-pub record ByteIs (s : List ℕ) (i r : ℕ) : Type 0 where
+pub record ByteAsRead (s : List ℕ) (i r : ℕ) : Type 0 where
   pub small : r < 256
   pub same : r ≡ byteAt s i
 
 -- two bytes as a number
-pub record WordIs (s : List ℕ) (i r : ℕ) : Type 0 where
+pub record WordAsRead (s : List ℕ) (i r : ℕ) : Type 0 where
   pub small : r < 65536
   pub same : r ≡ wordAt s i
 
@@ -23,7 +23,7 @@ pub record TrailerAt (s : List ℕ) (r : ℕ) : Type 0 where
   pub same : Size s → r ≡ length s - 24
 
 -- the trailer's number k, from 0
-pub record FieldIs (s : List ℕ) (k r : ℕ) : Type 0 where
+pub record FieldAsRead (s : List ℕ) (k r : ℕ) : Type 0 where
   pub small : r < 65536
   pub same : Size s → r ≡ trailerWord s k
 

@@ -9,7 +9,7 @@ mod trailer;
 ghost use mathlib.Core.Path.{_≡_};
 ghost use Prim.Native.Nat.{_<_};
 ghost use Rattle.layout.specs.Layout.{byteAt};
-ghost use Rattle.wrong.specs.Read.{ByteIs, WordIs};
+ghost use Rattle.wrong.specs.Read.{ByteAsRead, WordAsRead};
 pub use nodes::is_produced;
 pub use trailer::field_of;
 use words::say;
@@ -27,7 +27,7 @@ pub fn byte(s: &[u8], i: usize) -> u8
 
 // A byte as a number.
 pub fn small(s: &[u8], i: usize) -> usize
-    ensures { λ r. ⌜ ByteIs (now (s .entry)) i r ⌝ }
+    ensures { λ r. ⌜ ByteAsRead (now (s .entry)) i r ⌝ }
 {
     byte(s, i) as usize
 }
@@ -35,7 +35,7 @@ pub fn small(s: &[u8], i: usize) -> usize
 // Two bytes as a number, the lower first.
 pub fn word(s: &[u8], i: usize) -> usize
     requires { ⌜ i < 2000000 ⌝ }
-    ensures { λ r. ⌜ WordIs (now (s .entry)) i r ⌝ }
+    ensures { λ r. ⌜ WordAsRead (now (s .entry)) i r ⌝ }
 {
     small(s, i) + 256 * small(s, i + 1)
 }

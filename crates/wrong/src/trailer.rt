@@ -1,6 +1,6 @@
 // The trailer: its twelve numbers, and the first that does not fit.
 ghost use Prim.Native.Nat.{_<_};
-ghost use Rattle.wrong.specs.Read.{FieldIs, TrailerAt};
+ghost use Rattle.wrong.specs.Read.{FieldAsRead, TrailerAt};
 use crate::LONGEST;
 use crate::say_then;
 use crate::word;
@@ -36,7 +36,7 @@ fn start(s: &[u8]) -> usize
 // length, start, mark.
 pub fn field_of(s: &[u8], k: usize) -> usize
     requires { ⌜ k < 12 ⌝ }
-    ensures { λ r. ⌜ FieldIs (now (s .entry)) k r ⌝ }
+    ensures { λ r. ⌜ FieldAsRead (now (s .entry)) k r ⌝ }
 {
     word(s, start(s) + 2 * k)
 }

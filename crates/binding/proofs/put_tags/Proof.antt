@@ -6,7 +6,7 @@ use native.Mathlib.Omega.{arith}
 use lib.ListN.{length, getD}
 use borrow.Author.Needs.{needs}
 use Rattle.stores.specs.Rows.{RowsIn}
-use Rattle.binding.specs.Bound.{AllShort}
+use Rattle.binding.specs.Bound.{ShortNames}
 use Rattle.binding.proofs.Tags.{TagsLeft, NextName, all-left, next-name, name-put, tags-put, sixteen-more, short-part, same-room}
 use Rattle.binding.proofs.put_tags.Statement.{statement}
 use Rattle.binding.proofs.put_tags.Tie as tie
@@ -17,7 +17,7 @@ use Rattle.records.proofs.put_tag.Reads as put-tag-reads
 abbrev Inv-loop : tie.InvT-loop
 Inv-loop bytes ends count memory₀ at i₀ from₀ n₀ memory i from n =
     (i ≤ count)
-    × ((n ≡ at + 16 * i) × ((length memory ≡ length memory₀) × ((l : List (List ℕ)) → RowsIn bytes ends count l → AllShort l → TagsLeft bytes ends count memory₀ at l i from n memory)))
+    × ((n ≡ at + 16 * i) × ((length memory ≡ length memory₀) × ((l : List (List ℕ)) → RowsIn bytes ends count l → ShortNames l → TagsLeft bytes ends count memory₀ at l i from n memory)))
 
 abbrev μ-loop : tie.MeasureT-loop
 μ-loop bytes ends count memory₀ at i₀ from₀ n₀ memory i from n = count - i

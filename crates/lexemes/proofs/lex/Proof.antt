@@ -6,7 +6,7 @@ use Prim.Native.Nat.{_-_, _≤_}
 use lib.ListN.{getD}
 use Rattle.lexing.specs.declared.Tried.{Tried}
 use Rattle.lexing.specs.Front.{Stuck}
-use Rattle.lexemes.specs.Kinds.{kinds, OfKind, Only}
+use Rattle.lexemes.specs.Kinds.{kinds, OfKind, MayIf}
 use Rattle.lexemes.proofs.Found.{Below, kinds-none, kinds-more, kind-found, kinds-done, tried-as}
 use borrow.Author.Needs.{needs}
 use Rattle.lexemes.proofs.lex.Statement.{statement}
@@ -40,7 +40,7 @@ enum-known-n c = search needs
 
 -- src/lib.rt:98:45
 returns : tie.Need-returns Inv-loop μ-loop
-returns c = kind-found (c .before .before .before .before .before .before .before .args .t2) (c .before .before .before .before .before .before .before .args .x .now) (c .before .before .before .before .before .loop .k) _ _ (tried-as (Only (getD (c .before .before .before .before .before .before .before .args .t2) (c .before .before .before .before .before .loop .k) false) (OfKind (c .before .before .before .before .before .loop .k))) (c .before .before .before .before .before .before .before .args .x .now) (c .before .before .before .of-kind .result) (Tried.Whole _ _) (c .before .n .given .1) (c .before .before .before .of-kind .ensures))
+returns c = kind-found (c .before .before .before .before .before .before .before .args .t2) (c .before .before .before .before .before .before .before .args .x .now) (c .before .before .before .before .before .loop .k) _ _ (tried-as (MayIf (getD (c .before .before .before .before .before .before .before .args .t2) (c .before .before .before .before .before .loop .k) false) (OfKind (c .before .before .before .before .before .loop .k))) (c .before .before .before .before .before .before .before .args .x .now) (c .before .before .before .of-kind .result) (Tried.Whole _ _) (c .before .n .given .1) (c .before .before .before .of-kind .ensures))
 
 -- src/lib.rt:99:34
 enum-known-j : tie.Need-enum-known-j Inv-loop μ-loop
@@ -60,7 +60,7 @@ loop-less c = omega arith
 
 -- src/lib.rt:96:5
 loop-again : tie.Need-loop-again Inv-loop μ-loop
-loop-again c = (omega arith, subst (Stuck (Below (c .before .before .before .before .before .before .before .before .args .t2) _) (c .before .before .before .before .before .before .before .before .args .x .now)) (sym (c .larger .ensures)) (kinds-more (c .before .before .before .before .before .before .before .before .args .t2) (c .before .before .before .before .before .before .before .before .args .x .now) (c .before .before .before .before .before .before .loop .k) (c .before .before .before .before .before .before .loop .best) _ (c .before .before .before .before .before .before .loop .inv .1) (tried-as (Only (getD (c .before .before .before .before .before .before .before .before .args .t2) (c .before .before .before .before .before .before .loop .k) false) (OfKind (c .before .before .before .before .before .before .loop .k))) (c .before .before .before .before .before .before .before .before .args .x .now) (c .before .before .before .before .of-kind .result) (Tried.Stuck _) (c .before .before .j .given .1) (c .before .before .before .before .of-kind .ensures))))
+loop-again c = (omega arith, subst (Stuck (Below (c .before .before .before .before .before .before .before .before .args .t2) _) (c .before .before .before .before .before .before .before .before .args .x .now)) (sym (c .larger .ensures)) (kinds-more (c .before .before .before .before .before .before .before .before .args .t2) (c .before .before .before .before .before .before .before .before .args .x .now) (c .before .before .before .before .before .before .loop .k) (c .before .before .before .before .before .before .loop .best) _ (c .before .before .before .before .before .before .loop .inv .1) (tried-as (MayIf (getD (c .before .before .before .before .before .before .before .before .args .t2) (c .before .before .before .before .before .before .loop .k) false) (OfKind (c .before .before .before .before .before .before .loop .k))) (c .before .before .before .before .before .before .before .before .args .x .now) (c .before .before .before .before .of-kind .result) (Tried.Stuck _) (c .before .before .j .given .1) (c .before .before .before .before .of-kind .ensures))))
 
 -- src/lib.rt:91:1
 returns-2 : tie.Need-returns-2 Inv-loop μ-loop

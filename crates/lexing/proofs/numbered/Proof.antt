@@ -6,7 +6,7 @@ use mathlib.Core.List.{_++_}
 use Prim.Native.Nat.{_-_, _≤_, max}
 use Rattle.notation.specs.Tokens.{decimal}
 use Rattle.lexing.specs.declared.Tried.{Tried}
-use Rattle.lexing.specs.Reads.{stopsAt, Halts, OneSpelling, Numbered}
+use Rattle.lexing.specs.Reads.{stopsAt, Halts, OneSpelling, NumberBehind}
 use Rattle.lexing.proofs.Sorts.{numbers-none, numbers-more, number-found, numbers-done, read-as}
 use borrow.Author.Needs.{needs}
 use Rattle.lexing.proofs.numbered.Statement.{statement}
@@ -17,7 +17,7 @@ use Rattle.lexing.proofs.larger.Reads as larger-reads
 use Rattle.lexing.proofs.one_number.Reads as one-number-reads
 
 abbrev Inv-loop : tie.InvT-loop
-Inv-loop x a count best₀ n₀ best n = (n ≤ count) × Halts (Numbered a n) (stopsAt true) x best
+Inv-loop x a count best₀ n₀ best n = (n ≤ count) × Halts (NumberBehind a n) (stopsAt true) x best
 
 abbrev μ-loop : tie.MeasureT-loop
 μ-loop x a count best₀ n₀ best n = count - n
@@ -62,7 +62,7 @@ loop-again : tie.Need-loop-again Inv-loop μ-loop
 loop-again c =
     let a = c .before .before .before .before .before .before .before .before .before .args in (
       omega arith,
-      subst (Halts (Numbered (a .a .now) _) (stopsAt true) (a .x .now)) (sym (c .larger .ensures)) (numbers-more (a .a .now) (a .x .now) (c .before .before .before .before .before .before .loop .n) (c .before .before .before .before .before .before .loop .best) _ (c .before .before .before .before .before .before .loop .inv .1)
+      subst (Halts (NumberBehind (a .a .now) _) (stopsAt true) (a .x .now)) (sym (c .larger .ensures)) (numbers-more (a .a .now) (a .x .now) (c .before .before .before .before .before .before .loop .n) (c .before .before .before .before .before .before .loop .best) _ (c .before .before .before .before .before .before .loop .inv .1)
           (read-as (OneSpelling (a .a .now ++ decimal (c .before .before .before .before .before .before .loop .n)) (c .before .before .before .before .before .before .loop .n)) (stopsAt true) (a .x .now) (c .before .before .before .before .one-number .result) (Tried.Stuck _) (c .before .before .k .given .1) (c .before .before .before .before .one-number .ensures))),
     )
 

@@ -3,7 +3,7 @@ use mathlib.Core.Path.{refl, sym, subst}
 use mathlib.Core.Logic.{⊎-elim}
 use Prim.Native.Nat.{_-_}
 use native.Mathlib.Omega.{arith}
-use Rattle.programs.specs.Parsed.{visit}
+use Rattle.programs.specs.Parsed.{whichVisit}
 use Rattle.lexemes.specs.Kinds.{kinds}
 use Rattle.scripts.specs.Scripts.{Standing}
 use Rattle.rows.specs.Rows.{Marked}
@@ -18,7 +18,7 @@ use Rattle.scripts.proofs.Script.ends.Reads as ends-reads
 use Rattle.scripts.proofs.Script.step.Reads as step-reads
 
 abbrev Inv-loop : tie.InvT-loop
-Inv-loop s second stage may₀ k₀ may k = Standing s × Filled (Marked (visit second) s) may k
+Inv-loop s second stage may₀ k₀ may k = Standing s × Filled (Marked (whichVisit second) s) may k
 
 abbrev μ-loop : tie.MeasureT-loop
 μ-loop s second stage may₀ k₀ may k = kinds - k
@@ -46,8 +46,8 @@ loop-again c = (
   c .before .before .before .loop .inv .0,
   one-filled _ _ _ _ (c .before .before .before .loop .inv .1) (omega (arith, c .before .before .loop-test .taken))
       (⊎-elim
-      (λ w. subst (Marked (visit (c .before .before .before .before .args .second)) (c .before .before .before .before .args .s) (c .before .before .before .loop .k)) (sym (w .2)) (tried (visit (c .before .before .before .before .args .second)) (c .before .before .before .before .args .s) (c .before .before .before .loop .k) (w .1 .result) (w .1 .ensures)))
-      (λ w. subst (Marked (visit (c .before .before .before .before .args .second)) (c .before .before .before .before .args .s) (c .before .before .before .loop .k)) (sym (w .1)) (untried (visit (c .before .before .before .before .args .second)) (c .before .before .before .before .args .s) (c .before .before .before .loop .k) (c .before .could .result) (c .before .could .ensures) (w .0 .left)))
+      (λ w. subst (Marked (whichVisit (c .before .before .before .before .args .second)) (c .before .before .before .before .args .s) (c .before .before .before .loop .k)) (sym (w .2)) (tried (whichVisit (c .before .before .before .before .args .second)) (c .before .before .before .before .args .s) (c .before .before .before .loop .k) (w .1 .result) (w .1 .ensures)))
+      (λ w. subst (Marked (whichVisit (c .before .before .before .before .args .second)) (c .before .before .before .before .args .s) (c .before .before .before .loop .k)) (sym (w .1)) (untried (whichVisit (c .before .before .before .before .args .second)) (c .before .before .before .before .args .s) (c .before .before .before .loop .k) (c .before .could .result) (c .before .could .ensures) (w .0 .left)))
       (c .if1 .came)),
 )
 

@@ -4,7 +4,7 @@ use mathlib.Core.Logic.{⊎-elim}
 use Prim.Native.Nat.{_-_}
 use native.Mathlib.Omega.{arith}
 use Rattle.lexemes.specs.Kinds.{kinds}
-use Rattle.drafts.specs.Drafted.{Sound}
+use Rattle.drafts.specs.Drafted.{SoundDraft}
 use Rattle.rows.proofs.Rows.{Filled, nothing-filled, one-filled, MarkIn, unmoved, moved, text-row}
 use borrow.Author.Needs.{needs}
 use Rattle.rows.proofs.in_text.Statement.{statement}
@@ -15,7 +15,7 @@ use Rattle.drafts.proofs.step.Reads as step-reads
 use Rattle.rows.proofs.goes.Reads as goes-reads
 
 abbrev Inv-loop : tie.InvT-loop
-Inv-loop d p may₀ k₀ may k = Sound d × Filled (MarkIn d) may k
+Inv-loop d p may₀ k₀ may k = SoundDraft d × Filled (MarkIn d) may k
 
 abbrev μ-loop : tie.MeasureT-loop
 μ-loop d p may₀ k₀ may k = kinds - k

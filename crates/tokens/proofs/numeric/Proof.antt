@@ -1,4 +1,4 @@
--- What opens the reference chooses the base (`Opened`).
+-- What opens the reference chooses the base (`OpensNumeric`).
 use native.Mathlib.Omega.{arith}
 use Rattle.tokens.proofs.Numerals
 use borrow.Author.Needs.{needs}

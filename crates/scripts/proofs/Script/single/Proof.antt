@@ -1,6 +1,6 @@
 -- Each answer by the law that it names. Assumes nothing.
 use mathlib.Core.Path.{_≡_, refl, sym, _∙_, ap}
-use Rattle.programs.specs.Parsed.{visit}
+use Rattle.programs.specs.Parsed.{whichVisit}
 use Rattle.scripts.proofs.Answers.{single-operand, single-not, single-open, single-none}
 use Rattle.scripts.specs.Scripts.{layersIn, marginsIn}
 use borrow.Author.Needs.{needs}
@@ -15,16 +15,16 @@ use Rattle.scripts.proofs.Script.refused.Reads as refused-reads
 use Rattle.scripts.proofs.Script.staged.Reads as staged-reads
 
 returns : tie.Need-returns
-returns c = c .staged .ensures ∙ single-operand (visit (c .before .before .before .args .second)) (layersIn (c .before .before .before .args .self)) (marginsIn (c .before .before .before .args .self)) (c .before .before .before .args .kind) (sym (c .before .before .is-operand .ensures) ∙ c .before .if1 .taken)
+returns c = c .staged .ensures ∙ single-operand (whichVisit (c .before .before .before .args .second)) (layersIn (c .before .before .before .args .self)) (marginsIn (c .before .before .before .args .self)) (c .before .before .before .args .kind) (sym (c .before .before .is-operand .ensures) ∙ c .before .if1 .taken)
 
 returns-2 : tie.Need-returns-2
-returns-2 c = c .not .ensures ∙ single-not (visit (c .before .before .before .before .args .second)) (layersIn (c .before .before .before .before .args .self)) (marginsIn (c .before .before .before .before .args .self)) (c .before .before .before .before .args .kind) (sym (c .before .before .before .is-operand .ensures) ∙ c .before .before .if1 .left) (c .before .if2 .taken)
+returns-2 c = c .not .ensures ∙ single-not (whichVisit (c .before .before .before .before .args .second)) (layersIn (c .before .before .before .before .args .self)) (marginsIn (c .before .before .before .before .args .self)) (c .before .before .before .before .args .kind) (sym (c .before .before .before .is-operand .ensures) ∙ c .before .before .if1 .left) (c .before .if2 .taken)
 
 returns-3 : tie.Need-returns-3
-returns-3 c = c .parenthesis .ensures ∙ single-open (visit (c .before .before .before .before .before .args .second)) (layersIn (c .before .before .before .before .before .args .self)) (marginsIn (c .before .before .before .before .before .args .self)) (c .before .before .before .before .before .args .kind) (sym (c .before .before .before .before .is-operand .ensures) ∙ c .before .before .before .if1 .left) (c .before .before .if2 .left) (c .before .if3 .taken)
+returns-3 c = c .parenthesis .ensures ∙ single-open (whichVisit (c .before .before .before .before .before .args .second)) (layersIn (c .before .before .before .before .before .args .self)) (marginsIn (c .before .before .before .before .before .args .self)) (c .before .before .before .before .before .args .kind) (sym (c .before .before .before .before .is-operand .ensures) ∙ c .before .before .before .if1 .left) (c .before .before .if2 .left) (c .before .if3 .taken)
 
 returns-4 : tie.Need-returns-4
-returns-4 c = c .refused .ensures ∙ single-none (visit (c .before .before .before .before .before .args .second)) (layersIn (c .before .before .before .before .before .args .self)) (marginsIn (c .before .before .before .before .before .args .self)) (c .before .before .before .before .before .args .kind) (sym (c .before .before .before .before .is-operand .ensures) ∙ c .before .before .before .if1 .left) (c .before .before .if2 .left) (c .before .if3 .left)
+returns-4 c = c .refused .ensures ∙ single-none (whichVisit (c .before .before .before .before .before .args .second)) (layersIn (c .before .before .before .before .before .args .self)) (marginsIn (c .before .before .before .before .before .args .self)) (c .before .before .before .before .before .args .kind) (sym (c .before .before .before .before .is-operand .ensures) ∙ c .before .before .before .if1 .left) (c .before .before .if2 .left) (c .before .if3 .left)
 
 pub single-spec : {M : Type 1} → statement M
 single-spec =

@@ -11,7 +11,7 @@ use Rattle.state.specs.declared.State.{State}
 use Rattle.live.specs.Live.{full}
 use Rattle.live.proofs.Stacks.{full-same}
 use Rattle.steps.specs.declared.Stepped.{Stepped}
-use Rattle.steps.specs.Seen.{Whole, whole}
+use Rattle.steps.specs.Seen.{SteppedSeen, whole}
 use Rattle.steps.proofs.Takings.{ready-still, as-dry, take-refused, take-counted, take-full, take-copied, take-done}
 use borrow.Author.Needs.{needs}
 use Rattle.steps.proofs.Run.take.Statement.{statement}
