@@ -770,6 +770,20 @@ def what_was_refused_is_marked_in_its_line():
 
 
 @test
+def the_line_before_a_place_is_marked_where_something_is_left_out():
+    for before in range(44, 54):
+        for first in [b"", b"<schedule>\n", b"<schedule>\r\n", b"<schedule>\r"]:
+            start = b"<programme><start>" if first else b"<schedule><programme><start>"
+            line = start + b"x" * (before - len(start) - 8) + b"</start>"
+            shown = line.decode() if before <= 48 else ".. " + line.decode()[-48:]
+            expect(f"{before} bytes behind {first!r}", marked(told(first + line + b"<titel/>", 23)) == (shown + "<titel/>", len(shown)))
+        for first in ["", "n1 ::= s()\n", "n1 ::= s()\r\n", "n1 ::= s()\r"]:
+            line = "n0 ::= r(" + " " * (before - 9)
+            shown = line if before <= 48 else ".. " + line[-48:]
+            expect(f"{before} bytes of rules behind {first!r}", marked(checked(first + line + "!", 40).encode()) == (shown + "!", len(shown)))
+
+
+@test
 def a_line_of_rules_is_shown_up_to_its_end():
     for end in ["\n", "\r\n", "\r"]:
         out = checked(end.join(["n0 ::= r(!)", "n1 ::= s()", ""]), 40)

@@ -1,12 +1,14 @@
--- Laws of the last bytes: what stands so far from their end, a tail that is filled from its end on, and more bytes after others.
+-- Laws of the last bytes: what stands so far from their end, a tail that is filled from its end on, more bytes after others, and what they tell of a line.
 -- Assumes nothing.
 use Prim.Native.Nat.{ℕ, suc, _+_, _-_, _≤_, _<_, min}
 use native.Mathlib.Omega.{arith}
 use mathlib.Core.Path.{_≡_, refl, sym, ap, subst, _∙_}
 use mathlib.Core.List.{List, [], _∷_, _++_, append-assoc}
 use lib.ListN.{length, getD, drop, set, replicate, length-append, length-set, length-replicate, length-drop, drop-of-length-le, List·getD-append}
-use lib.Seq.{drop-cons, drop-drop, drop-append-le, drop-set-lt, getD-append-add, getD-set-same}
-use Rattle.behind.specs.Tails.{mostKept, lastBytes, fromEnd, noTail, tailAfter, TailIs}
+use lib.Seq.{drop-cons, drop-drop, drop-append-le, drop-append-add, drop-set-lt, getD-append-add, getD-set-same}
+use Rattle.places.specs.Shown.{lastBytes, ShownIs}
+use Rattle.places.proofs.ShownLaws.{last-of-last, last-bytes-tell}
+use Rattle.behind.specs.Tails.{mostKept, fromEnd, noTail, tailAfter, TailIs, bytesKept, KeptTell}
 use Rattle.behind.specs.declared.Tail.{Tail}
 
 -- the j-th byte from the end is one of the bytes v, or of those before them
@@ -83,3 +85,17 @@ tail-after u v t is =
       length = omega (arith, is .length, length-append u v);
       bytes = ap (λ l. lastBytes mostKept (l ++ v)) (is .bytes) ∙ last-last mostKept (zeros ++ u) v (omega (arith, length-append zeros u, length-replicate {A = ℕ} mostKept 0)) ∙ ap (λ l. lastBytes mostKept l) (append-assoc zeros u v);
     }
+
+-- the bytes that are kept are the last that were passed
+kept-last : (s : List ℕ) (t : Tail) → TailIs s t → bytesKept t ≡ lastBytes mostKept s
+kept-last s t is =
+    let zeros : List ℕ = replicate mostKept 0 in
+    let n = min (length s) mostKept in
+    let both : length (zeros ++ s) ≡ length zeros + length s = length-append zeros s in
+    let before : length (zeros ++ s) - n ≡ length zeros + (length s - n) = omega arith in
+    let few : length s - n ≡ length s - mostKept = omega arith in
+    ap (λ k. lastBytes k (t .bytes)) (is .length) ∙ ap (λ l. lastBytes n l) (is .bytes) ∙ last-of-last n mostKept (zeros ++ s) (omega arith)
+    ∙ ap (λ k. drop k (zeros ++ s)) before ∙ drop-append-add zeros s (length s - n) ∙ ap (λ k. drop k s) few
+
+pub kept-tell : KeptTell
+kept-tell s v t more is shown = last-bytes-tell s v more (subst (λ l. ShownIs l v more) (kept-last s t is) shown)

@@ -1,11 +1,12 @@
 -- The lines on which the open elements began, and the line behind some bytes, which are whole tokens. Definitions.
 -- Assumes nothing.
 use mathlib.Core.Path.{_≡_}
-use mathlib.Core.Bool.{cond, _&&_, _||_}
+use mathlib.Core.Bool.{Bool, cond, _&&_, _||_}
 use mathlib.Core.List.{List, [], _∷_}
 use Prim.Native.Nat.{ℕ, suc, _+_, _-_, _%_, _^_, _≤_}
 use lib.ListN.{length, drop, set, replicate}
 use lib.Dec.{eqb, ltb}
+use Rattle.runs.specs.Machine.{most}
 use Rattle.places.specs.Lines.{endsLine}
 use Rattle.behind.specs.Tags.{kindOpening, kindClosing, tagKind}
 use Rattle.behind.specs.declared.TagAt.{TagAt}
@@ -16,9 +17,9 @@ use Rattle.behind.specs.declared.Passed.{Passed}
 abbrev pub openOn : ℕ → List ℕ → Lines
 openOn depth lines = record { depth = depth; lines = lines }
 
--- no element is open; there is room for 32
+-- no element is open; there is room for as many as may be
 abbrev pub noLines : Lines
-noLines = openOn 0 (replicate 32 0)
+noLines = openOn 0 (replicate most 0)
 
 -- past a tag of a kind that starts on a line: the innermost line is taken away, or this one put on top while there is room
 unfoldable pub linesPast : Lines → ℕ → ℕ → Lines
@@ -31,9 +32,13 @@ pub record Noted (depth : ℕ) (old : List ℕ) (kind line r : ℕ) (new : List 
   pub long : length new ≡ length old
   pub lines : openOn r new ≡ linesPast (openOn depth old) kind line
 
--- the line behind the byte b on a line, behind which the bytes s come. No file is so long that the number would begin again from 0
+-- a line, or the next one where it ends. No file is so long that the number would begin again from 0
+abbrev pub lineOn : Bool → ℕ → ℕ
+lineOn ends line = cond ends ((line + 1) % 2 ^ 64) line
+
+-- the line behind the byte b on a line, behind which the bytes s come
 abbrev pub lineBehind : ℕ → ℕ → List ℕ → ℕ
-lineBehind line b s = cond (endsLine b s) ((line + 1) % 2 ^ 64) line
+lineBehind line b s = lineOn (endsLine b s) line
 
 -- the line behind some bytes that start on a line, and the lines of the elements that are open there: each byte may start a tag
 unfoldable pub linesPassing : Lines → List ℕ → ℕ → Passed

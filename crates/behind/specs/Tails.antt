@@ -1,18 +1,16 @@
 -- The last bytes that were passed, as they are kept. Definitions.
 -- Assumes nothing.
 use mathlib.Core.Path.{_≡_}
+use mathlib.Core.Bool.{Bool}
 use mathlib.Core.List.{List, _++_}
 use Prim.Native.Nat.{ℕ, _+_, _-_, min}
-use lib.ListN.{length, getD, drop, replicate}
+use lib.ListN.{length, getD, replicate}
+use Rattle.places.specs.Shown.{mostShown, lastBytes, ShownIs}
 use Rattle.behind.specs.declared.Tail.{Tail}
 
--- so many are kept
+-- so many are kept: one more than are shown of a line, so that they tell whether the line has more
 abbrev pub mostKept : ℕ
-mostKept = 48
-
--- the last n of some bytes
-abbrev pub lastBytes : ℕ → List ℕ → List ℕ
-lastBytes n s = drop (length s - n) s
+mostKept = mostShown + 1
 
 -- the j-th of some bytes from their end, counted from 0
 abbrev pub fromEnd : List ℕ → ℕ → ℕ
@@ -30,3 +28,11 @@ tailAfter t v = record { length = min (t .length + length v) mostKept; bytes = l
 pub record TailIs (s : List ℕ) (t : Tail) : Type 0 where
   pub length : t .length ≡ min (length s) mostKept
   pub bytes : t .bytes ≡ lastBytes mostKept (replicate mostKept 0 ++ s)
+
+-- those of them that were passed
+abbrev pub bytesKept : Tail → List ℕ
+bytesKept t = lastBytes (t .length) (t .bytes)
+
+-- of the line before the place they show what all that was passed shows, and whether something of it is left out
+abbrev pub KeptTell : Type 0
+KeptTell = (s v : List ℕ) (t : Tail) (more : Bool) → TailIs s t → ShownIs (bytesKept t) v more → ShownIs s v more

@@ -3,7 +3,7 @@ ghost use mathlib.Core.Path.{_≡_};
 ghost use mathlib.Core.List.{_++_};
 ghost use Prim.Native.Nat.{_≤_, _<_, min};
 ghost use lib.ListN.{length, drop};
-ghost use Rattle.behind.specs.Tails.{fromEnd, noTail, tailAfter};
+ghost use Rattle.behind.specs.Tails.{mostKept, fromEnd, noTail, tailAfter};
 ghost use Rattle.behind.specs.Tags.{isEmptyTag, isEndTag, tagKind};
 ghost use Rattle.behind.specs.Lines.{noLines, Noted, NextTag, linesPassing, rootLine};
 ghost use Rattle.behind.specs.Behinds.{nothingBehind, behindAfter, behindRooted};
@@ -20,13 +20,14 @@ pub struct Tail {
 
 // A number of bytes, or as many as are kept where that is less.
 fn at_most_kept(n: usize) -> usize
-    ensures { λ r. ⌜ r ≡ min n 48 ⌝ }
+    ensures { λ r. ⌜ r ≡ min n mostKept ⌝ }
 {
     if n < Tail::MOST { n } else { Tail::MOST }
 }
 
 impl Tail {
-    pub const MOST: usize = 48;
+    // One more than are shown of a line: it tells whether something of the line is left out.
+    pub const MOST: usize = 49;
 
     fn none() -> Tail
         ensures { λ r. ⌜ r ≡ noTail ⌝ }
@@ -39,7 +40,7 @@ impl Tail {
 
     // The j-th byte from the end of what was passed, this and then some bytes more.
     fn from_end(self, passed: &[u8], j: usize) -> u8
-        requires { ⌜ j < 48 ⌝ }
+        requires { ⌜ j < mostKept ⌝ }
         ensures { λ r. ⌜ r ≡ fromEnd (self .bytes ++ now (passed .entry)) j ⌝ }
     {
         let n = passed.len();

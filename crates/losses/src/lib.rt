@@ -3,20 +3,28 @@
 mod first_words;
 mod rereading;
 
+ghost use mathlib.Core.Path.{_≡_};
 ghost use Prim.Native.Nat.{_≤_, _<_};
 ghost use lib.ListN.{length};
+ghost use Rattle.losses.specs.Reports.{endOfLast};
 use first_words::say_first_words;
 use places::say_count;
 use rereading::Walk;
 use rereading::pass;
 use rereading::pass_stretch;
 use rereading::put_mark;
+use state::bytes::number_at;
 use std::num::wrapping_add_u64;
 use std::num::wrapping_sub_u64;
 use words::say;
 
 // An entry of a report: the first byte, the last byte and the number, each in 8 bytes, the lowest first.
 pub const ENTRY: usize = 24;
+
+// Where in an entry its last byte is named, and its number.
+const LAST: usize = 8;
+
+const NUMBER: usize = 16;
 
 // A stretch that was dropped: how many bytes come before it, how many it has, and the number that refused it.
 pub struct Stretch {
@@ -28,37 +36,26 @@ pub struct Stretch {
 // The longest tag, of which a record's start tag is one.
 const TAG: usize = 32;
 
-// The number in the 8 bytes of a part of the report; a byte that is not there counts as 0.
-fn number_at(report: &[u8], at: usize) -> u64 {
-    let mut n: u64 = 0;
-    let mut i = 0;
-    while i < 8 {
-        let b = wrong::byte(report, std::num::wrapping_add_usize(at, 7 - i));
-        n = (n % 72057594037927936) * 256 + b as u64;
-        i += 1;
-    }
-    n
-}
-
 // The first entry of some.
 fn stretch_in(report: &[u8]) -> Stretch {
     let first = number_at(report, 0);
-    let last = number_at(report, 8);
+    let last = number_at(report, LAST);
     Stretch {
         first: first,
         size: wrapping_add_u64(wrapping_sub_u64(last, first), 1),
-        number: number_at(report, 16),
+        number: number_at(report, NUMBER),
     }
 }
 
 // How many bytes come before the end of the last stretch; none where nothing was dropped.
-pub fn end_of_last(report: &[u8]) -> u64 {
+pub fn end_of_last(report: &[u8]) -> u64
+    ensures { λ r. ⌜ r ≡ endOfLast (now (report .entry)) ⌝ }
+{
     if report.len() < ENTRY {
         return 0;
     }
-    let at = report.len() - ENTRY;
-    let s = stretch_in(&report[at..]);
-    wrapping_add_u64(s.first, s.size)
+    let at = report.len() - ENTRY + LAST;
+    wrapping_add_u64(number_at(report, at), 1)
 }
 
 // What refused a record, in short.

@@ -1,8 +1,11 @@
 // A schedule read again: its lines are counted, and the records' start tags.
 ghost use mathlib.Core.Path.{_≡_};
+ghost use mathlib.Core.List.{[], _∷_};
 ghost use Prim.Native.Nat.{_≤_, _<_};
 ghost use lib.ListN.{length};
 ghost use Rattle.io.specs.Counts.{Counts};
+ghost use Rattle.behind.specs.Lines.{lineOn};
+ghost use Rattle.losses.specs.Walks.{nextLine, HasRead, ReadsOn};
 use std::num::wrapping_add_u64;
 
 // Where the second reading is: how many bytes were passed, the line, the line of the last byte that is no white space, whether the last byte was a carriage
@@ -38,7 +41,9 @@ fn ends_name(b: u8) -> bool {
 }
 
 // A number, or the next one.
-fn plus(n: u64, one: bool) -> u64 {
+fn plus(n: u64, one: bool) -> u64
+    ensures { λ r. ⌜ r ≡ lineOn one n ⌝ }
+{
     if one {
         return wrapping_add_u64(n, 1);
     }
@@ -47,7 +52,9 @@ fn plus(n: u64, one: bool) -> u64 {
 
 impl Walk {
     // Before the first byte.
-    pub fn start() -> Walk {
+    pub fn start() -> Walk
+        ensures { λ r. ⌜ HasRead [] r ⌝ }
+    {
         Walk {
             offset: 0,
             line: 1,
@@ -60,12 +67,16 @@ impl Walk {
     }
 
     // The line of the next byte, which is no line feed. A line ends with LF, CR LF or CR.
-    pub fn next_line(self) -> u64 {
+    pub fn next_line(self) -> u64
+        ensures { λ r. ⌜ r ≡ nextLine self ⌝ }
+    {
         plus(self.line, self.returned)
     }
 
     // Past one byte.
-    fn past(self, b: u8, mark: &[u8]) -> Walk {
+    fn past(self, b: u8, mark: &[u8]) -> Walk
+        ensures { λ r. ⌜ ReadsOn self (b ∷ []) r ⌝ }
+    {
         let feeds = b == LINE_FEED;
         let here = plus(self.line, self.returned & !feeds);
         let whole = self.matched == mark.len();
@@ -96,7 +107,9 @@ impl Walk {
     }
 }
 
-fn through(bytes: &[u8], mark: &[u8], from: Walk) -> Walk {
+fn through(bytes: &[u8], mark: &[u8], from: Walk) -> Walk
+    ensures { λ r. ⌜ ReadsOn from (now (bytes .entry)) r ⌝ }
+{
     let mut w = from;
     let mut i = 0;
     while i < bytes.len() {

@@ -20,11 +20,11 @@ use words::say;
 // The most bytes that are shown of what was refused: as many as a token may have.
 const SHOWN: usize = 32;
 
-// The last bytes before a place, of which there are so many at the memory's end.
+// The line before a place, by the last bytes before it, of which there are so many at the memory's end.
 fn say_tail(memory: &[u8], length: usize) -> usize {
     let kept = files::within(length, memory);
     let from = memory.len() - kept;
-    say_line_before(&memory[from..], kept < memory.len())
+    say_line_before(&memory[from..])
 }
 
 // The line up to the place, the first bytes of what is left of the schedule, and a mark where they start.

@@ -139,7 +139,7 @@ unfolding lastLine
 last-none [] h = refl
 last-none (b ∷ s) h = rw (eq-eqb (lineEnds (b ∷ s)) 0 h)
 
-last-behind : (b : ℕ) (s : List ℕ) → 1 ≤ lineEnds (b ∷ s) → lastLine (b ∷ s) ≡ lastLine s
+pub last-behind : (b : ℕ) (s : List ℕ) → 1 ≤ lineEnds (b ∷ s) → lastLine (b ∷ s) ≡ lastLine s
 unfolding lastLine
 last-behind b s h = rw (ne-eqb (lineEnds (b ∷ s)) 0 (λ e. omega arith))
 

@@ -4,6 +4,7 @@ ghost use mathlib.Core.List.{[]};
 ghost use Prim.Native.Nat.{suc, _-_, _≤_, _<_};
 ghost use lib.ListN.{length, getD, drop};
 ghost use Rattle.places.specs.Lines.{goesOn, endsLine, lineEnds, LastLineAt, charactersIn, GoesOnTo, LineGoesTo, inLine, UncutIs, PlaceIs, Passes};
+ghost use Rattle.places.specs.Shown.{ShownFrom};
 use libc::STDOUT_FILENO;
 use std::num::wrapping_add_u64;
 use std::num::wrapping_add_usize;
@@ -140,19 +141,48 @@ fn rest_of_character(bytes: &[u8]) -> usize
     i
 }
 
-// The last bytes before a place, as far as they are of its line; what comes before them in the line is left out. Answers in how many columns.
-fn tell_line_before(fd: i32, bytes: &[u8], is_all: bool) -> usize {
-    let from = last_line(bytes);
-    if (from > 0) | is_all {
-        return explain::show(fd, &bytes[from..]);
-    }
-    let whole = rest_of_character(bytes);
-    tell(fd, b".. ");
-    wrapping_add_usize(explain::show(fd, &bytes[whole..]), 3)
+// The most bytes that are shown of a line before a place, and behind it.
+const BEFORE: usize = 48;
+
+const BEHIND: usize = 32;
+
+// From which of the bytes before a place on its line is shown, and whether bytes of the line before those are left out.
+struct Shown {
+    from: usize,
+    more: bool,
 }
 
-pub fn say_line_before(bytes: &[u8], is_all: bool) -> usize {
-    tell_line_before(STDOUT_FILENO, bytes, is_all)
+// What is shown of the line before a place, by all the bytes before it, or by the last of them, one more than are shown.
+fn shown_before(bytes: &[u8]) -> Shown
+    ensures { λ r. ⌜ ShownFrom (now (bytes .entry)) r ⌝ }
+{
+    let start = last_line(bytes);
+    if bytes.len() - start <= BEFORE {
+        return Shown {
+            from: start,
+            more: false,
+        };
+    }
+    let from = bytes.len() - BEFORE;
+    Shown {
+        from: from + rest_of_character(&bytes[from..]),
+        more: true,
+    }
+}
+
+// The line before a place, as far as it is shown; two dots in front say that something of it is left out. Answers in how many columns.
+fn tell_line_before(fd: i32, bytes: &[u8]) -> usize {
+    let shown = shown_before(bytes);
+    let from = shown.from;
+    if shown.more {
+        tell(fd, b".. ");
+        return wrapping_add_usize(explain::show(fd, &bytes[from..]), 3);
+    }
+    explain::show(fd, &bytes[from..])
+}
+
+pub fn say_line_before(bytes: &[u8]) -> usize {
+    tell_line_before(STDOUT_FILENO, bytes)
 }
 
 // So many spaces.
@@ -173,11 +203,6 @@ fn tell_mark(fd: i32, column: usize) {
 pub fn say_mark(column: usize) {
     tell_mark(STDOUT_FILENO, column);
 }
-
-// The most bytes that are shown of a line of a text before a place, and behind it.
-const BEFORE: usize = 48;
-
-const BEHIND: usize = 32;
 
 // A number, or the one before it.
 fn before(i: usize) -> usize
@@ -233,20 +258,12 @@ fn tell_rest_of_line(fd: i32, bytes: &[u8]) {
     explain::show(fd, &shown[0..n]);
 }
 
-// Where what is shown before a place begins.
-fn shown_from(at: usize) -> usize
-    ensures { λ r. ⌜ r ≤ at ⌝ }
-{
-    if at < BEFORE { 0 } else { at - BEFORE }
-}
-
 // The line of a text that a place stands in, and a mark under the place; both behind so many spaces.
 fn tell_line(fd: i32, text: &[u8], at: usize, margin: usize)
     requires { ⌜ at ≤ length (now text) ⌝ }
 {
-    let from = shown_from(at);
     tell_spaces(fd, margin);
-    let column = tell_line_before(fd, &text[from..at], from == 0);
+    let column = tell_line_before(fd, &text[0..at]);
     tell_rest_of_line(fd, &text[at..]);
     tell(fd, b"\n");
     tell_spaces(fd, margin);

@@ -1,6 +1,7 @@
 // A schedule from one descriptor converted to another without the records that are damaged, part by part, in memory that is lent.
 ghost use Rattle.io.specs.Counts.{Counts};
 use behind::Behind;
+use behind::Tail;
 use callers::Caller;
 use rescued::SalvageCounts;
 use salvages::salvage_bytes;
@@ -73,7 +74,7 @@ fn line_behind(behind: Behind, passed: &[u8], line: u64) -> u64 {
     let tail = behind.tail;
     let last = tail.bytes;
     let now = wrapping_add_u64(line, places::line_ends(passed));
-    if (last[47] == places::CARRIAGE_RETURN) & (wrong::byte(passed, 0) == b'\n') {
+    if (last[Tail::MOST - 1] == places::CARRIAGE_RETURN) & (wrong::byte(passed, 0) == b'\n') {
         return wrapping_sub_u64(now, 1);
     }
     now

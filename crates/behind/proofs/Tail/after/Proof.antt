@@ -5,7 +5,8 @@ use Prim.Native.Nat.{_≤_, _-_}
 use native.Mathlib.Omega.{arith}
 use lib.ListN.{length, drop, replicate, length-append}
 use borrow.Author.Needs.{needs}
-use Rattle.behind.specs.Tails.{mostKept, lastBytes}
+use Rattle.places.specs.Shown.{lastBytes}
+use Rattle.behind.specs.Tails.{mostKept}
 use Rattle.behind.proofs.TailLaws.{filled-none, filled-on, filled-all}
 use Rattle.behind.proofs.Tail.after.Statement.{statement}
 use Rattle.behind.proofs.Tail.after.Tie as tie
