@@ -1,13 +1,13 @@
 #!/usr/bin/env python3
-"""Content models from a DTD (§6): a second reader of declarations, and the cases that the program `partners` is run on.
+"""Content models from a DTD (§6): a second reader of declarations, and the cases of the part `partners` of the program `trials`.
 
-    python3 tests/partners.py            writes crates/partners/data/cases.txt, data/CASES.md and crates/partners/stdout
+    python3 tests/partners.py            writes data/partners.txt, data/partners.md and the part `partners` of stdout, in crates/trials
     python3 tests/partners.py --check    says whether they are what it would write
 
 Made from the change requests and docs/DECISIONS.md, section 10, and not from the definitions. Whole texts only are read here, by regular expressions that take one pair of parentheses
 after the other out of a model. Whether the front of a text goes on is found by trying what could be put behind it, and the byte of a refusal by halving.
 
-One case to a line of cases.txt: the bytes of the lent memory as a hexadecimal number, a space, the text in hex digits.
+One case to a line of partners.txt: the bytes of the lent memory as a hexadecimal number, a space, the text in hex digits.
 """
 import itertools
 import re
@@ -461,13 +461,13 @@ def drawn():
         case('drawn', ''.join(element(drawn_content(below), 'abcdefgh'[below(8)]) + ('', '\n')[below(2)] for _ in range(1 + below(6))))
 
 
-SAID = """# The cases of cases.txt
+SAID = """# The cases of partners.txt
 
 Written by `tests/partners.py`, as is the expected output. A line is: case, number, count, what it is."""
 
 
 def files():
-    """The three files: where each goes, and its text."""
+    """The cases, what is said of them, and what they must answer."""
     for group in (worked, limits, sheets_full, marks, mixtures, spaces, words, damaged, rooms, drawn):
         group()
     cases = ''.join('%x %s\n' % (room, given.hex()) for room, given, *_ in CASES)
@@ -477,11 +477,11 @@ def files():
             said += ['', '## ' + HEADINGS[i], '']
         lines.append('%d: %d %d %s kept\n' % (i + 1, number, count, rules.mark(written)))
         said.append('- %d: %d %d, %s' % (i + 1, number, count, what))
-    return {'data/cases.txt': cases, 'data/CASES.md': '\n'.join(said) + '\n', 'stdout': ''.join(lines)}
+    return cases, '\n'.join(said) + '\n', ''.join(lines)
 
 
 def main():
-    return sheets.write_files('partners', files(), [number for _, _, number, *_ in CASES])
+    return sheets.write_files('partners', *files(), [number for _, _, number, *_ in CASES])
 
 
 if __name__ == '__main__':

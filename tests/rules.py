@@ -1,13 +1,12 @@
 #!/usr/bin/env python3
-"""Rules typed as text: a second writer and a second printer, and the cases that the program `texts` is run on.
+"""Rules typed as text: a second writer and a second printer, and the cases of the part `texts` of the program `trials`.
 
-    python3 tests/rules.py            writes crates/texts/data/cases.txt, data/CASES.md and crates/texts/stdout
+    python3 tests/rules.py            writes data/texts.txt, data/texts.md and the part `texts` of stdout, in crates/trials
     python3 tests/rules.py --check    says whether they are what it would write
 
 Made from the change requests and docs/DECISIONS.md, section 9. A recursive descent over the bytes: each function is told which tokens may follow what it reads, so the byte of a
 refusal is the first at which no allowed token goes on.
 """
-import os
 import struct
 import sys
 
@@ -850,7 +849,7 @@ def printed():
     case('p', 'a text of 14 bytes into 13', sheets.smallest().bytes(), room=13, number=43, count=14)
 
 
-SAID = """# The cases of cases.txt
+SAID = """# The cases of texts.txt
 
 Written by `tests/rules.py`, as is the expected output. A line is: case, w (written) or p (printed), number, count, what it is."""
 
@@ -864,7 +863,7 @@ def mark(written):
 
 
 def files():
-    """The three files: where each goes, and its text."""
+    """The cases, what is said of them, and what they must answer."""
     for group in (worked, limits, damaged, strings, printed):
         group()
     cases = ''.join('%x %x %s\n' % (command == 'p', room, given.hex()) for command, room, given, *_ in CASES)
@@ -874,11 +873,11 @@ def files():
             said += ['', '## ' + HEADINGS[i], '']
         lines.append('%d: %d %d %s kept\n' % (i + 1, number, count, mark(written)))
         said.append('- %d: %s %d %d, %s' % (i + 1, command, number, count, what))
-    return {'data/cases.txt': cases, 'data/CASES.md': '\n'.join(said) + '\n', 'stdout': ''.join(lines)}
+    return cases, '\n'.join(said) + '\n', ''.join(lines)
 
 
 def main():
-    return sheets.write_files('texts', files(), [number for _, _, _, number, *_ in CASES])
+    return sheets.write_files('texts', *files(), [number for _, _, _, number, *_ in CASES])
 
 
 if __name__ == '__main__':

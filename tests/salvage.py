@@ -1,10 +1,10 @@
 #!/usr/bin/env python3
-"""The salvage run: a second runner, made from the change requests and docs/DECISIONS.md, section 12, on top of tests/streams.py, and cases of it.
+"""The salvage run: a second runner, made from the change requests and docs/DECISIONS.md, section 12, on top of tests/streams.py, and the cases of the part `days` of the program `trials`.
 
-    python3 tests/salvage.py            writes crates/days/data/cases.txt, data/CASES.md and crates/days/stdout
+    python3 tests/salvage.py            writes data/days.txt, data/days.md and the part `days` of stdout, in crates/trials
     python3 tests/salvage.py --check    says whether they are what it would write
 
-A line of cases.txt is a letter, a space, and what the letter asks for; numbers and bytes are in hexadecimal:
+A line of days.txt is a letter, a space, and what the letter asks for; numbers and bytes are in hexadecimal:
 
     s BYTES     the sheet from here on
     z LENGTH    the state is a fresh one's bytes, cut to this length or filled up with zeros
@@ -441,15 +441,15 @@ def damaged():
 
 
 def files():
-    """The three files: where each goes, and its text."""
+    """The calls, what is said of them, and what they must answer."""
     for group in (worked, shapes, parts, rooms, ends, states, damaged):
         group()
-    said = '# The calls of cases.txt\n\nWritten by `tests/salvage.py`, as is the expected output. A line is: call, number, what it is.\n'
-    return {'data/cases.txt': '\n'.join(LINES) + '\n', 'data/CASES.md': said + '\n'.join(SAID) + '\n', 'stdout': ''.join(OUTPUT)}
+    said = '# The calls of days.txt\n\nWritten by `tests/salvage.py`, as is the expected output. A line is: call, number, what it is.\n'
+    return '\n'.join(LINES) + '\n', said + '\n'.join(SAID) + '\n', ''.join(OUTPUT)
 
 
 def main():
-    return sheets.write_files('days', files(), NUMBERS)
+    return sheets.write_files('days', *files(), NUMBERS)
 
 
 if __name__ == '__main__':

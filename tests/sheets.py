@@ -1,13 +1,14 @@
 #!/usr/bin/env python3
-"""Rule sheets: a second checker, written from the paper alone, and the cases that the program `sheets` is run on.
+"""Rule sheets: a second checker, written from the paper alone, and the cases of the part `sheets` of the program `trials`.
 
-    python3 tests/sheets.py            writes crates/sheets/data/cases.txt, data/CASES.md and crates/sheets/stdout
+    python3 tests/sheets.py            writes data/sheets.txt, data/sheets.md and the part `sheets` of stdout, in crates/trials
     python3 tests/sheets.py --check    says whether they are what it would write
 
-One case to a line of cases.txt: the bytes of the lent list as a hexadecimal number, a space, the sheet in hex digits. The program fills
+One case to a line of sheets.txt: the bytes of the lent list as a hexadecimal number, a space, the sheet in hex digits. The program fills
 the lent list with AA, has the sheet checked, and writes one line a case: its number from 1, ": ", the answer's number, a space,
 the fault count, each entry written (a space and its 8 hex digits), and " kept" if every byte past them is still AA.
 """
+import collections
 import os
 import re
 import struct
@@ -886,7 +887,7 @@ def drawn():
 
 # ---------------------------------------------------------------------------------------------------------------------
 
-SAID = '''# The cases of cases.txt
+SAID = '''# The cases of sheets.txt
 
 Written by `tests/sheets.py`, as is the expected output. A line is: case, number, fault count, what it is.
 
@@ -896,7 +897,7 @@ others, but may hold statements of both visits; three productions alike are one 
 
 
 def files():
-    """The three files: where each goes, and its text."""
+    """The cases, what is said of them, and what they must answer."""
     for group in (worked, rule_s, rule_t, rooms, sizes, trailers, tags, productions, trees, programs, nonterminals, order, drawn):
         group()
     cases = ''.join('%x %s\n' % (room, sheet.hex()) for room, sheet, *_ in CASES)
@@ -906,27 +907,47 @@ def files():
             said += ['', '## ' + HEADINGS[i], '']
         lines.append('%d: %d %d%s kept\n' % (i + 1, number, count, ''.join(' ' + entry.hex() for entry in written)))
         said.append('- %d: %d %d, %s' % (i + 1, number, count, what))
-    return {'data/cases.txt': cases, 'data/CASES.md': '\n'.join(said) + '\n', 'stdout': ''.join(lines)}
+    return cases, '\n'.join(said) + '\n', ''.join(lines)
 
 
-def write_files(crate, texts, numbers):
-    """Writes a program's files, or with --check says whether they are these."""
-    folder = os.path.join(os.path.dirname(os.path.abspath(__file__)), '..', 'crates', crate)
+PARTS = ('sheets', 'streams', 'texts', 'partners', 'days')  # of the program `trials`, in its order
+
+
+def read_file(path):
+    """A file's text to the byte, with no byte for one that is not there."""
+    if not os.path.exists(path):
+        return ''
+    with open(path, encoding='utf-8', newline='') as file:
+        return file.read()
+
+
+def with_part(stdout, part, answers):
+    """The program's whole output with one part of it replaced; before each part stands a line with its name."""
+    pieces = re.split('^(%s)\n' % '|'.join(PARTS), stdout, flags=re.MULTILINE)
+    texts = dict(zip(pieces[1::2], pieces[2::2])) | {part: answers}
+    return ''.join('%s\n%s' % (name, texts.get(name, '')) for name in PARTS)
+
+
+def write_files(part, cases, said, answers, numbers):
+    """Writes the files of a part of the program `trials`, or with --check says whether they are these. The numbers are those that are answered: each, or how often each is."""
+    crate = os.path.join(os.path.dirname(os.path.abspath(__file__)), '..', 'crates', 'trials')
+    expected = os.path.join(crate, 'stdout')
+    texts = {os.path.join(crate, 'data', part + '.txt'): cases, os.path.join(crate, 'data', part + '.md'): said, expected: with_part(read_file(expected), part, answers)}
     same = True
-    for name, text in texts.items():
-        path = os.path.join(folder, name)
+    for path, text in texts.items():
         if '--check' in sys.argv:
-            same = same and os.path.exists(path) and open(path, encoding='utf-8').read() == text
+            same = same and read_file(path) == text
         else:
             os.makedirs(os.path.dirname(path), exist_ok=True)
-            with open(path, 'w', encoding='utf-8', newline='\n') as file:
+            with open(path, 'w', encoding='utf-8', newline='') as file:
                 file.write(text)
-    print('%d cases; by number: %s' % (len(numbers), ', '.join('%d: %d' % (n, numbers.count(n)) for n in sorted(set(numbers)))))
+    counts = collections.Counter(numbers)
+    print('%d cases; by number: %s' % (sum(counts.values()), ', '.join('%d: %d' % (n, counts[n]) for n in sorted(counts))))
     return 0 if same else 1
 
 
 def main():
-    return write_files('sheets', files(), [number for _, _, number, *_ in CASES])
+    return write_files('sheets', *files(), [number for _, _, number, *_ in CASES])
 
 
 if __name__ == '__main__':

@@ -1,10 +1,10 @@
 #!/usr/bin/env python3
-"""Streams: a second runner, written from document 01 and the change requests alone, and the cases that the program `streams` is run on.
+"""Streams: a second runner, written from document 01 and the change requests alone, and the cases of the part `streams` of the program `trials`.
 
-    python3 tests/streams.py            writes crates/streams/data/cases.txt, data/CASES.md and crates/streams/stdout
+    python3 tests/streams.py            writes data/streams.txt, data/streams.md and the part `streams` of stdout, in crates/trials
     python3 tests/streams.py --check    says whether they are what it would write
 
-A line of cases.txt is a letter, a space, and what the letter asks for; numbers and bytes are in hexadecimal:
+A line of streams.txt is a letter, a space, and what the letter asks for; numbers and bytes are in hexadecimal:
 
     s BYTES     the sheet from here on
     t BYTES     the stream from here on
@@ -1313,35 +1313,24 @@ def grouped():
 
 # ---------------------------------------------------------------------------------------------------------------------
 
-ABOUT = '''# The calls of cases.txt
+ABOUT = '''# The calls of streams.txt
 
 Written by `tests/streams.py`, as is the expected output. Calls are numbered from 1 over the whole file. A line is: the call, or the first
 and the last, the number answered (by the last), what it is.'''
 
 
 def files():
-    """The three files: where each goes, and its text."""
+    """The calls, what is said of them, and what they must answer."""
     for group in (worked, slips, limits, order, blanks, lines, parts, rooms, ends, closed, states, damaged, drawn, grouped):
         group()
     assert all(COUNTS.get(n, 0) >= 2 for n in [*range(10), 16, 17, *range(20, 31)])
     OUTPUT.append('%d calls in all\n' % GROUP[1])
     assert max(map(len, LINES)) < 65536
-    return {'data/cases.txt': '\n'.join(LINES) + '\n', 'data/CASES.md': ABOUT + '\n' + '\n'.join(SAID) + '\n', 'stdout': ''.join(OUTPUT)}
+    return '\n'.join(LINES) + '\n', ABOUT + '\n' + '\n'.join(SAID) + '\n', ''.join(OUTPUT)
 
 
 def main():
-    crate = os.path.join(os.path.dirname(os.path.abspath(__file__)), '..', 'crates', 'streams')
-    same = True
-    for name, text in files().items():
-        path = os.path.join(crate, name)
-        if '--check' in sys.argv:
-            same = same and os.path.exists(path) and open(path, encoding='utf-8').read() == text
-        else:
-            os.makedirs(os.path.dirname(path), exist_ok=True)
-            with open(path, 'w', encoding='utf-8', newline='\n') as file:
-                file.write(text)
-    print('%d calls; by number: %s' % (GROUP[1], ', '.join('%d: %d' % (n, COUNTS[n]) for n in sorted(COUNTS))))
-    return 0 if same else 1
+    return sheets.write_files('streams', *files(), COUNTS)
 
 
 if __name__ == '__main__':
