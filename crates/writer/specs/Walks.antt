@@ -89,3 +89,8 @@ pub record WalkedOn (text : List ℕ) (w : Walk) (tb te sb se pb pe productions 
   pub inside : r .from ≤ length text
   pub places : Places tb te sb se pb pe productions nodes
   pub walk : WalkIs text r tb te sb se pb pe productions nodes
+
+-- before the first token, whatever the memory holds
+pub record Begun (text : List ℕ) (w : Walk) : Type 0 where
+  pub none-read : w .from ≡ 0
+  pub walk : (tb te sb se pb pe productions nodes : List ℕ) → Places tb te sb se pb pe productions nodes → WalkIs text w tb te sb se pb pe productions nodes

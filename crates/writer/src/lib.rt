@@ -2,7 +2,7 @@
 ghost use mathlib.Core.Path.{_≡_};
 ghost use mathlib.Core.Bool.{true, false};
 ghost use Rattle.writing.specs.Written.{WrittenAs};
-ghost use Rattle.writer.specs.Walks.{Places, FreshDesk, LastIs, WalkIs, WalkedOn};
+ghost use Rattle.writer.specs.Walks.{Places, FreshDesk, LastIs, WalkIs, WalkedOn, Begun};
 
 // A number, and the count that goes with it.
 pub struct Written {
@@ -216,26 +216,14 @@ fn settle(
     }
 }
 
-// All tokens, with memory for what is kept.
-fn over(
-    text: &[u8],
-    area: &mut [u8],
-    tags: &mut [u8],
-    tagends: &mut [usize],
-    strings: &mut [u8],
-    stringends: &mut [usize],
-    programs: &mut [u8],
-    programends: &mut [usize],
-    productions: &mut [u8],
-    nodes: &mut [u8],
-) -> Written
-    requires { ⌜ Places (now tags) (now tagends) (now strings) (now stringends) (now programs) (now programends) (now productions) (now nodes) ⌝ }
-    ensures { λ o. ⌜ WrittenAs (now (text .entry)) (now (area .entry)) (o .number) (o .count) (now (area .exit)) ⌝ }
+// Before the first token, with what stands there in sight.
+fn begin(text: &[u8]) -> Walk
+    ensures { λ w. ⌜ Begun (now (text .entry)) w ⌝ }
 {
     let first = rulings::start();
     let d = fresh();
     let g = sights::look(text, first);
-    let mut w = Walk {
+    Walk {
         going: g.going,
         full: false,
         from: 0,
@@ -243,37 +231,10 @@ fn over(
         desk: d,
         reader: first,
         glance: g,
-    };
-    while w.going {
-        w = stride(
-            text,
-            w,
-            tags,
-            tagends,
-            strings,
-            stringends,
-            programs,
-            programends,
-            productions,
-            nodes,
-        );
     }
-    settle(
-        text,
-        area,
-        w,
-        tags,
-        tagends,
-        strings,
-        stringends,
-        programs,
-        programends,
-        productions,
-        nodes,
-    )
 }
 
-// The rules that a text writes, as a sheet in the lent area.
+// The rules that a text writes, as a sheet in the lent area: token by token to the end, or to a store that is full.
 pub fn write(text: &[u8], sheet: &mut [u8]) -> Written
     ensures { λ o. ⌜ WrittenAs (now (text .entry)) (now (sheet .entry)) (o .number) (o .count) (now (sheet .exit)) ⌝ }
 {
@@ -285,16 +246,32 @@ pub fn write(text: &[u8], sheet: &mut [u8]) -> Written
     let mut programends = [0; 16385];
     let mut productions = [0; 768];
     let mut nodes = [0; 1536];
-    over(
+    let mut w = begin(text);
+    while w.going {
+        w = stride(
+            text,
+            w,
+            &mut tags,
+            &mut tagends,
+            &mut strings,
+            &mut stringends,
+            &mut programs,
+            &mut programends,
+            &mut productions,
+            &mut nodes,
+        );
+    }
+    settle(
         text,
         sheet,
-        &mut tags,
-        &mut tagends,
-        &mut strings,
-        &mut stringends,
-        &mut programs,
-        &mut programends,
+        w,
+        &tags,
+        &tagends,
+        &strings,
+        &stringends,
+        &programs,
+        &programends,
         &mut productions,
-        &mut nodes,
+        &nodes,
     )
 }
