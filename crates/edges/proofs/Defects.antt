@@ -17,6 +17,7 @@ use Rattle.edges.specs.Edges.{nameB, oneProduction, no-such-tag, last-ta
 use Rattle.edges.proofs.Fits.{EdgeFits}
 use Rattle.edges.proofs.Counted.{no-sections, blank-tag}
 use Rattle.edges.proofs.OneRule.{letter-at, no-fields, no-node, empty-is, value-is, no-value, start-over, no-start, atom-grounded, atom-not-grounded}
+use Rattle.edges.proofs.Deep.{deepest-is, too-deep}
 
 -- two tags are a, whatever the production's tag is
 module _ (t : ℕ) where
@@ -60,7 +61,7 @@ last-tag-is : DefectIs last-tag 0
 last-tag-is = well-formed (laid-is-sheet last-tag of-b [] [] laid .well-formed)
 
 -- the rows from 5 on
-more-fit : Each EdgeFits (drop 13 of-sheets)
+more-fit : Each EdgeFits (drop 17 of-sheets)
 more-fit = (
   empty-is,
   (
@@ -68,10 +69,16 @@ more-fit = (
     (
       no-node _ _ (λ e. omega arith) (λ c l m e. omega (arith, l, e)),
       (
-        value-is _ (omega arith),
+        deepest-is,
         (
-          no-value _ (omega arith),
-          (no-start _ (omega arith) (omega arith), (no-start _ (omega arith) (omega arith), (atom-grounded, (atom-not-grounded _ (omega arith) (omega arith), (atom-not-grounded _ (omega arith) (omega arith), (twice-named 2, tt)))))),
+          too-deep,
+          (
+            value-is _ (omega arith),
+            (
+              no-value _ (omega arith),
+              (no-start _ (omega arith) (omega arith), (no-start _ (omega arith) (omega arith), (atom-grounded, (atom-not-grounded _ (omega arith) (omega arith), (atom-not-grounded _ (omega arith) (omega arith), (twice-named 2, tt)))))),
+            ),
+          ),
         ),
       ),
     ),
@@ -83,12 +90,24 @@ few-fit : Each EdgeFits (drop 4 of-sheets)
 few-fit = (
   no-sections _ refl refl (λ h. omega (arith, h .marked)),
   (
-    no-sections _ refl refl (λ h. omega (arith, h .some-tags)),
+    no-sections _ refl refl (λ h. omega (arith, h .trailer-at)),
     (
-      no-sections _ refl refl (λ h. omega (arith, h .few-tags)),
+      no-sections _ refl refl (λ h. omega (arith, h .some-tags)),
       (
-        blank-tag _ (its-size _ refl) (its-sections _ refl) refl,
-        (blank-tag _ (its-size _ refl) (its-sections _ refl) refl, (twice-named 0, (tag-is-none, (last-tag-is, (start-over _ (omega arith), more-fit))))),
+        no-sections _ refl refl (λ h. omega (arith, h .few-tags)),
+        (
+          no-sections _ refl refl (λ h. omega (arith, h .some-productions)),
+          (
+            no-sections _ refl refl (λ h. omega (arith, h .few-productions)),
+            (
+              no-sections _ refl refl (λ h. omega (arith, h .few-nodes)),
+              (
+                blank-tag _ (its-size _ refl) (its-sections _ refl) refl,
+                (blank-tag _ (its-size _ refl) (its-sections _ refl) refl, (twice-named 0, (tag-is-none, (last-tag-is, (start-over _ (omega arith), more-fit))))),
+              ),
+            ),
+          ),
+        ),
       ),
     ),
   ),

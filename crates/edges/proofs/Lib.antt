@@ -1,6 +1,7 @@
 pub mod Fits
 pub mod Counted
 pub mod OneRule
+pub mod Deep
 pub mod Defects
 pub mod Faults
 pub mod Tokens

@@ -31,17 +31,17 @@ pub no-fields : FieldsAre [] 0xFFFF 0xFFFF no-programs
 no-fields = record { first-is = no-program refl; second-is = no-program refl }
 
 -- what holds of 0 holds of each number below 1
-only : (P : ℕ → Type 0) → P 0 → (q : ℕ) → q < 1 → P q
+pub only : (P : ℕ → Type 0) → P 0 → (q : ℕ) → q < 1 → P q
 only P p q h = let e : 0 ≡ q = omega (arith, h) in subst P e p
 
 module _ (s : List ℕ) where
-  one-tag : tagCount s ≡ 1 → tagBytes s 0 ≡ tagRecord nameA → Tags s
+  pub one-tag : tagCount s ≡ 1 → tagBytes s 0 ≡ tagRecord nameA → Tags s
   one-tag e b = record {
     named = λ t h. only (λ (u : ℕ). (n : List ℕ) × TagAt s u n) (nameA, letter-at s 0 97 refl b) t (omega (arith, e, h));
     different = λ t u n h k x y. omega (arith, e, h, k);
   }
 
-  one-production : productionCount s ≡ 1 → ProductionFits s 0 → nodesBefore s (productionCount s) ≡ nodeCount s → start s ≤ 63 → Productions s
+  pub one-production : productionCount s ≡ 1 → ProductionFits s 0 → nodesBefore s (productionCount s) ≡ nodeCount s → start s ≤ 63 → Productions s
   one-production e p n l = record { each = λ q h. only (ProductionFits s) p q (omega (arith, e, h)); every-node = n; start-fits = l }
 
   -- its nonterminal is the only one with a production

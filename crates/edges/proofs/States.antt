@@ -40,10 +40,11 @@ no-closing l n (inr closed-by-end) = omega arith
 no-closing l n (inr (closed-by-refusal k h)) = omega arith
 no-closing l n (inr closed-by-count) = omega arith
 
--- the first of values that fit does; 0 where there is none
-first-fits : (vs : List ℕ) → Every Value vs → getD vs 0 0 ≤ 63
-first-fits [] none = omega arith
-first-fits (v ∷ vs) (more h r) = h
+-- each of values that fit does; 0 where there is none
+at-fits : (vs : List ℕ) (i : ℕ) → Every Value vs → getD vs i 0 ≤ 63
+at-fits [] i none = omega arith
+at-fits (v ∷ vs) zero (more h r) = h
+at-fits (v ∷ vs) (suc i) (more h r) = at-fits vs i r
 
 pub states-fit : Each EdgeFits of-states
 states-fit = (
@@ -55,10 +56,13 @@ states-fit = (
       (
         (λ a z e f. omega (arith, e, f .count), refl),
         (
-          (λ a z e f. omega (arith, e, first-fits (z .values) (f .values)), refl),
+          (λ a z e f. omega (arith, e, at-fits (z .values) 0 (f .values)), refl),
           (
-            (λ e. omega arith, refl),
-            ((λ e. omega arith, refl), tt),
+            (λ a z e f. omega (arith, e, at-fits (z .values) 7 (f .values)), refl),
+            (
+              (λ e. omega arith, refl),
+              ((λ e. omega arith, refl), tt),
+            ),
           ),
         ),
       ),

@@ -1,22 +1,23 @@
 -- Fronts at their bounds: a token as it is spelled, a number that no token has, and a token of 33 bytes.
 -- Assumes nothing.
 use mathlib.Core.Path.{_≡_, refl}
-use mathlib.Core.Bool.{false}
+use mathlib.Core.Bool.{true, false}
 use mathlib.Core.Logic.{inl, inr}
 use mathlib.Core.List.{List, [], _∷_, _++_}
 use Prim.Native.Nat.{ℕ, zero, suc, _≤_}
 use native.Mathlib.Omega.{arith}
 use lib.ListN.{length, getD, take, drop, replicate}
-use Rattle.text.specs.Chars.{Char, Begins}
+use Rattle.text.specs.Chars.{Char, Begins, utf8}
 use Rattle.text.specs.Names.{nameByte, All}
 use Rattle.text.specs.Numerals.{Base, decimal, hex, digitValue, Digits, valueOf}
 use Rattle.text.proofs.Shapes.{cons≢[]}
 use Rattle.tokens.specs.declared.Event.{Event}
 use Rattle.tokens.specs.declared.Event.the-variants.{Character}
 use Rattle.tokens.specs.declared.Answer.the-variants.{Bad, Long}
-use Rattle.tokens.specs.Tokens.{start, crlf, cr, Tok, tag, numeric, line, Good, bytes, front, Means}
+use Rattle.tokens.specs.Tokens.{start, crlf, cr, Tok, tag, numeric, line, char, Good, bytes, front, Means}
 use Rattle.tokens.proofs.Theory.{begins-only, no-line}
-use Rattle.tokens.proofs.Reading.{begins-length}
+use Rattle.tokens.proofs.Reading.{begins-length, char-bad}
+use Rattle.text.proofs.Decoding.{bad-lead, bad3-surrogate}
 use Rattle.tokens.proofs.Numerals.{counted-none, opened-decimal, opened-hex, number-other, number-past}
 use Rattle.runs.specs.Examples.{Each}
 use Rattle.edges.specs.Edges.{no-digit, over-last, over-32-bits, tag-of-33-bytes, of-fronts}
@@ -29,6 +30,28 @@ letters (suc n) = (refl, letters n)
 -- a character from the space on
 from-space : {c : ℕ} → 0x20 ≤ c → c ≤ 0xD7FF → Char c
 from-space l h = inr (inr (inr (inl (l, h))))
+
+-- FF begins no character, and neither does a surrogate
+lead-bad : Means (front (0xFF ∷ []) 0) 0 Bad
+lead-bad = char-bad (0xFF ∷ []) 0 (omega arith) (λ e. omega arith) (λ e. omega arith) (λ e. omega arith) (λ e. omega arith) (bad-lead 0xFF [] (omega arith) (inr (omega arith)))
+
+surrogate-bad : Means (front (0xED ∷ 0xBF ∷ []) 0) 0 Bad
+surrogate-bad =
+    char-bad (0xED ∷ 0xBF ∷ []) 0 (omega arith) (λ e. omega arith) (λ e. omega arith) (λ e. omega arith) (λ e. omega arith)
+    (bad3-surrogate 0xED 0xBF [] (omega arith) (omega arith) (omega arith) (omega arith) (omega arith))
+
+-- EE 80 80 is E000
+first-behind : FirstToken (0xEE ∷ 0x80 ∷ 0x80 ∷ []) (Character 0xE000 true) 3
+unfolding utf8
+first-behind = record {
+  token = char 0xE000;
+  rest = [];
+  good = (inr (inr (inr (inr (inl (omega arith, omega arith))))), (λ e. omega arith), (λ e. omega arith), (λ e. omega arith), (λ e. omega arith));
+  are-bytes = refl;
+  followed = tt;
+  event = refl;
+  taken = refl;
+}
 
 -- : is no digit
 colon-bad : Means (front no-digit 0) 0 Bad
@@ -79,14 +102,23 @@ fronts-fit = (
           (
             by-number hex (49 ∷ 48 ∷ 70 ∷ 70 ∷ 70 ∷ 70 ∷ []) (refl, (refl, (refl, (refl, (refl, (refl, tt)))))) (inr (inr (inr (inr (inr (omega arith, omega arith)))))) refl refl refl,
             (
-              (Bad, colon-bad, λ more. refl),
+              first-behind,
               (
-                (Bad, over-bad, λ more. refl),
+                (Bad, lead-bad, λ more. refl),
                 (
-                  (Bad, wrapped-bad, λ more. refl),
+                  (Bad, surrogate-bad, λ more. refl),
                   (
-                    record { token = tag start (replicate 30 97) []; rest = []; good = ((refl, letters 29), tt); are-bytes = refl; followed = tt; event = refl; taken = refl },
-                    ((Long, long-tag, λ more. refl), tt),
+                    (Bad, colon-bad, λ more. refl),
+                    (
+                      (Bad, over-bad, λ more. refl),
+                      (
+                        (Bad, wrapped-bad, λ more. refl),
+                        (
+                          record { token = tag start (replicate 30 97) []; rest = []; good = ((refl, letters 29), tt); are-bytes = refl; followed = tt; event = refl; taken = refl },
+                          ((Long, long-tag, λ more. refl), tt),
+                        ),
+                      ),
+                    ),
                   ),
                 ),
               ),

@@ -1,10 +1,10 @@
--- The table of the numbers of documents 01 and 02 at their bounds, in the order of the numbers.
+-- A table of numbers of documents 01 and 02 at their bounds, in the order of the numbers: those of a sheet, of its faults, of a stream's fronts, of states and of a salvage run's sheets. Not every number has a row.
 -- Assumes nothing.
 use mathlib.Core.Path.{_≡_}
 use mathlib.Core.Bool.{Bool, true, false}
 use mathlib.Core.List.{List, [], _∷_, _++_}
 use mathlib.Core.Option.{some}
-use Prim.Native.Nat.{ℕ, _+_, _*_, _^_, _/_, _%_}
+use Prim.Native.Nat.{ℕ, zero, suc, _+_, _-_, _*_, _^_, _/_, _%_}
 use lib.ListN.{length, getD, replicate}
 use Rattle.tokens.specs.declared.Event.{Event}
 use Rattle.tokens.specs.declared.Event.the-variants.{Start, Character}
@@ -112,9 +112,21 @@ startsAt n = oneRule [] 0 unused [] 0 (smallWord n ++ 0x58 ∷ 0x53 ∷ [])
 abbrev pub markedBy : List ℕ → List ℕ
 markedBy mark = oneRule [] 0 unused [] 0 (smallWord 0 ++ mark)
 
+-- with a byte between the last section and the trailer, or with none
+abbrev pub withGap : List ℕ → List ℕ
+withGap gap = oneRule [] 0 unused gap 0 (smallWord 0 ++ 0x58 ∷ 0x53 ∷ [])
+
 -- with one node, of a kind and an argument
 abbrev pub oneNode : ℕ → ℕ → List ℕ
 oneNode kind argument = oneRule (nodeBytes kind argument) 1 unused [] 0 (smallWord 0 ++ 0x58 ∷ 0x53 ∷ [])
+
+-- with an expression n deep: stars, one in another, and the production's own nonterminal in the innermost
+abbrev pub starsOver : ℕ → List ℕ
+starsOver zero = nodeBytes 1 0
+starsOver (suc n) = nodeBytes 5 0 ++ starsOver n
+
+abbrev pub deep : ℕ → List ℕ
+deep n = oneRule (starsOver (n - 1)) n unused [] 0 (smallWord 0 ++ 0x58 ∷ 0x53 ∷ [])
 
 -- with the program "attribute 0 becomes v"
 abbrev pub becomes : ℕ → List ℕ
@@ -124,11 +136,12 @@ becomes v = oneRule [] 0 (smallWord 0) (1 ∷ 0 ∷ v ∷ 0 ∷ []) 4 (smallWord
 abbrev pub twoBytes : ℕ → List ℕ
 twoBytes n = (n % 256) ∷ (n / 256) ∷ []
 
--- n tags, all of zeros, and one production, of tag 0
-abbrev pub blankTags : ℕ → List ℕ
-blankTags n =
-    replicate (16 * n) 0 ++ productionBytes 0 0 0 unused unused ++ smallWord 0 ++ twoBytes n ++ twoBytes (16 * n) ++ smallWord 1 ++ twoBytes (16 * n + 12) ++ smallWord 0 ++ twoBytes (16 * n + 12) ++ smallWord 0
-    ++ twoBytes (16 * n + 12) ++ smallWord 0 ++ smallWord 0 ++ 0x58 ∷ 0x53 ∷ []
+-- n tags, p productions and k nodes, all of zeros
+abbrev pub blanks : ℕ → ℕ → ℕ → List ℕ
+blanks n p k =
+    let nodes-at : ℕ = 16 * n + 12 * p in
+    let end : ℕ = nodes-at + 6 * k in
+    replicate end 0 ++ smallWord 0 ++ twoBytes n ++ twoBytes (16 * n) ++ twoBytes p ++ twoBytes nodes-at ++ twoBytes k ++ twoBytes end ++ smallWord 0 ++ twoBytes end ++ smallWord 0 ++ smallWord 0 ++ 0x58 ∷ 0x53 ∷ []
 
 -- a*.a: tags r, a; production 0 is r with it, production 1 is a, empty; then more productions, n with those two
 abbrev pub starThenA : List ℕ → ℕ → List ℕ
@@ -190,13 +203,17 @@ of-sheets =
     ∷ length-fits 24
     ∷ length-fits 27928
     ∷ of-length 27929 1
-    -- 2: the mark is 58 53; tags are 1 to 64
+    -- 2: the mark is 58 53; the trailer follows at once; tags and productions are 1 to 64, nodes at most 256
     ∷ has-number (markedBy (0x53 ∷ 0x58 ∷ [])) 2
-    ∷ has-number (blankTags 0) 2
-    ∷ has-number (blankTags 65) 2
-    -- 3: tags have names (1 and 64 of zeros have none), and are all different
-    ∷ has-number (blankTags 1) 3
-    ∷ has-number (blankTags 64) 3
+    ∷ has-number (withGap (0 ∷ [])) 2
+    ∷ has-number (blanks 0 1 0) 2
+    ∷ has-number (blanks 65 1 0) 2
+    ∷ has-number (blanks 1 0 0) 2
+    ∷ has-number (blanks 1 65 0) 2
+    ∷ has-number (blanks 1 1 257) 2
+    -- 3: tags have names (those of zeros have none), and are all different
+    ∷ has-number (blanks 1 1 0) 3
+    ∷ has-number (blanks 64 64 256) 3
     ∷ has-number (oneProduction (tagRecord nameA ++ tagRecord nameA) 2 0) 3
     -- 4: a production's tag number is that of a tag, so below their count; the last one is
     ∷ has-number no-such-tag 4
@@ -207,6 +224,9 @@ of-sheets =
     ∷ has-number (oneNode 6 0) 0
     ∷ has-number (oneNode 7 0) 5
     ∷ has-number (oneNode 1 64) 5
+    -- and an expression is at most 12 deep
+    ∷ has-number (deep 12) 0
+    ∷ has-number (deep 13) 5
     -- 6: values are 0 to 63
     ∷ has-number (becomes 63) 0
     ∷ has-number (becomes 64) 6
@@ -227,8 +247,8 @@ of-faults =
     has-verdict three-faults 8
     ∷ has-verdict two-faults 9
     -- 10: faults, but the lent list has under four bytes for each of them; the count is right and nothing is written
-    ∷ checks two-faults (replicate 7 0) (replicate 7 0) 10 2
-    ∷ checks two-faults (replicate 8 0) (fault 0 0 1 ++ fault 0 1 1) 9 2
+    ∷ checks two-faults (replicate 7 0xAA) (replicate 7 0xAA) 10 2
+    ∷ checks two-faults (replicate 9 0xAA) (fault 0 0 1 ++ fault 0 1 1 ++ 0xAA ∷ []) 9 2
     ∷ []
 
 -- 20 and 21: the stream's tokens
@@ -242,7 +262,11 @@ of-fronts =
     ∷ reads-token (reference (120 ∷ 52 ∷ 48 ∷ [])) (Character 64 false) 6
     ∷ reads-token (reference (53 ∷ 56 ∷ [])) (Character 58 false) 5
     ∷ reads-token (reference (120 ∷ 49 ∷ 48 ∷ 70 ∷ 70 ∷ 70 ∷ 70 ∷ [])) (Character 0x10FFFF false) 10
-    -- 20: the byte behind 9 is no digit; a number is over the last character, and is not taken for another
+    -- the character E000, behind the surrogates
+    ∷ reads-token (0xEE ∷ 0x80 ∷ 0x80 ∷ []) (Character 0xE000 true) 3
+    -- 20: FF begins no character, and ED BF, a surrogate, none either; the byte behind 9 is no digit; a number is over the last character, and is not taken for another
+    ∷ refuses-front (0xFF ∷ []) 20
+    ∷ refuses-front (0xED ∷ 0xBF ∷ []) 20
     ∷ refuses-front no-digit 20
     ∷ refuses-front over-last 20
     ∷ refuses-front over-32-bits 20
@@ -259,8 +283,9 @@ of-states =
     ∷ state-with (λ z. z .depth) 33 29
     ∷ state-with (λ z. z .closed) 31 29
     ∷ state-with (λ z. z .count) (2 ^ 62 + 1) 29
-    -- a value over 63, of the first attribute
+    -- a value over 63, of the first attribute and of the eighth
     ∷ state-with (λ z. getD (z .values) 0 0) 64 29
+    ∷ state-with (λ z. getD (z .values) 7 0) 64 29
     -- a state is 3,867 bytes
     ∷ state-of-length 3866 29
     ∷ state-of-length 3868 29

@@ -1,5 +1,5 @@
--- The examples hold: the sheets pass, for their computed fault lists are empty; the machine comes to what each run says, and so, by the theorems on
--- the machine, do the trees. All runs are computed at once, as one list.
+-- Runs that are computed hold: their sheets pass, for the computed fault lists are empty; the machine comes to what each run says, and so, by the theorems on
+-- the machine, do the trees. All runs of a list are computed at once.
 -- Assumes nothing.
 use mathlib.Core.Path.{_≡_, refl, _∙_, ap}
 use mathlib.Core.List.{List, [], _∷_}
@@ -18,7 +18,7 @@ use Rattle.runs.specs.Acts.{Store}
 use Rattle.runs.specs.Machine.{Control, before, inside, after, Configuration, fresh-configuration, Outcome, finished, stopped, run}
 use Rattle.runs.specs.Taken.{Passed, closed-with, Stopped}
 use Rattle.runs.specs.Spells.{Token, TokenOutcome, through, stops, runTokens}
-use Rattle.runs.specs.Examples.{Run, accepts, halts, refuses, RunHolds, Each, examples}
+use Rattle.runs.specs.Examples.{Run, accepts, halts, refuses, RunHolds, Each}
 use Rattle.runs.proofs.Answers.{stopped-iff}
 use Rattle.runs.proofs.Spells.{spelled-iff}
 
@@ -148,9 +148,3 @@ module _ {A : Type 0} (P Q : A → Type 0) (f g : A → Summary) (holds : (x : A
   pub each : (xs : List A) → Each P xs → all f xs ≡ all g xs → Each Q xs
   each [] h e = tt
   each (x ∷ xs) h e = (holds x (h .0) (head-same _ _ _ _ e), each xs (h .1) (tail-same _ _ _ _ e))
-
-all-fit : Each Fits examples
-all-fit = search arith depth 40 fits 5000
-
-pub examples-hold : Each RunHolds examples
-examples-hold = each Fits RunHolds computed given run-holds examples all-fit refl

@@ -1,22 +1,22 @@
--- Runs and what they come to, and examples of them on small sheets.
+-- Runs and what they come to; small sheets from their parts.
 -- Assumes nothing.
 use mathlib.Core.Path.{_≡_}
-use mathlib.Core.Bool.{true, false}
+use mathlib.Core.Bool.{false}
 use mathlib.Core.List.{List, [], _∷_, _++_}
 use mathlib.Core.Option.{none, some}
-use Prim.Native.Nat.{ℕ, zero, suc, _-_}
+use Prim.Native.Nat.{ℕ, _-_}
 use lib.ListN.{length, replicate}
-use Rattle.expressions.specs.Expr.{Exp, atom, cat, star, nonterminal, anychar, Content, nothing, tree, nodesOf}
-use Rattle.programs.specs.Program.{constant, current, recalled, Condition, equal, negated, both, either, Statement, become, copy, recall, print-start, print-text, echo, branch, Program, done, step}
+use Rattle.expressions.specs.Expr.{Exp, atom, nonterminal, Content, tree, nodesOf}
+use Rattle.programs.specs.Program.{constant, current, Condition, equal, Statement, Program, done, step}
 use Rattle.sheet.specs.Fields.{Visits}
 use Rattle.sheet.specs.Sheet.{Rule, Sheet}
-use Rattle.output.specs.Escape.{Piece, start, end, character}
+use Rattle.output.specs.Escape.{Piece}
 use Rattle.runs.specs.Visits.{Env, attributes, no-programs}
-use Rattle.runs.specs.Events.{Event, starts, ends, letter}
+use Rattle.runs.specs.Events.{Event}
 use Rattle.runs.specs.Acts.{Store}
 use Rattle.runs.specs.Machine.{Configuration, fresh-configuration}
 use Rattle.runs.specs.Taken.{Passed, Stopped}
-use Rattle.runs.specs.Spells.{Token, start-token, end-token, empty-token, literal, Spelled, stops, runTokens}
+use Rattle.runs.specs.Spells.{Token, Spelled, stops, runTokens}
 
 -- a run: a sheet, and tokens that are accepted with the values, echo, output and count that they come to; or tokens of which one is refused, with the
 -- number, the output before it, and the tokens from it on; or the same of events
@@ -66,15 +66,6 @@ book = 98 ∷ 111 ∷ 111 ∷ 107 ∷ []
 abbrev pub nameA : List ℕ
 nameA = 97 ∷ []
 
-abbrev pub open-tag : ℕ → Token
-open-tag t = start-token (some t)
-
-abbrev pub close-tag : ℕ → Token
-close-tag t = end-token (some t)
-
-abbrev pub empty-tag : ℕ → Token
-empty-tag t = empty-token (some t)
-
 -- the first attributes are vs, the others 0
 abbrev pub ended : List ℕ → List Piece → ℕ → Env
 ended vs o n = record { values = vs ++ replicate (attributes - length vs) 0; echo = false; out = o; count = n }
@@ -83,62 +74,6 @@ ended vs o n = record { values = vs ++ replicate (attributes - length vs) 0; ech
 abbrev pub current-is : ℕ → Condition
 current-is v = equal (current 0) (constant v)
 
--- a second visit gets the values from just after the node's first visit: the root's first visit makes attribute 0 one and its child's makes it two; the
--- root's second visit prints its start tag where it recalls one while neither one nor three is current, and keeps in attribute 1 what it recalls
-abbrev pub recalling : Sheet
-recalling =
-    sheet-of (nameA ∷ book ∷ [])
-    (rule 0 (tree (child-of 1))
-    (two-visits (become 0 1 ∷ [])
-    (branch (both (equal (recalled 0) (constant 1)) (negated (either (current-is 1) (current-is 3)))) (program (print-start 0 ∷ [])) done ∷ recall 1 0 ∷ []))
-    ∷ rule 1 nothing (first-only (become 0 2 ∷ copy 2 0 ∷ [])) ∷ [])
-
--- text, then books: echo is on in the root's first visit, and off in that of book*, node 4
-abbrev pub echoing : Sheet
-echoing =
-    sheet-of (nameA ∷ book ∷ [])
-    (rule-with 0 (tree (cat (star (atom anychar)) (star (child-of 1)))) (first-only (echo true ∷ []))
-    (no-programs ∷ no-programs ∷ no-programs ∷ first-only (echo false ∷ []) ∷ no-programs ∷ [])
-    ∷ rule 1 nothing no-programs ∷ [])
-
 -- n0 ::= a(n0): a sheet may pass and have no tree
 abbrev pub endless : Sheet
 endless = sheet-of (nameA ∷ []) (rule 0 (tree (child-of 0)) no-programs ∷ [])
-
--- books, each of which is empty
-abbrev pub books : Sheet
-books = sheet-of (nameA ∷ book ∷ []) (rule 0 (tree (star (child-of 1))) (first-only (echo true ∷ [])) ∷ rule 1 nothing no-programs ∷ [])
-
-abbrev pub starts-of-a : ℕ → List Event
-starts-of-a zero = []
-starts-of-a (suc k) = starts (some 0) ∷ starts-of-a k
-
--- printed text: the characters A and ≤ from a string
-abbrev pub printing : Sheet
-printing = record {
-  names = nameA ∷ [];
-  rules = rule 0 nothing (first-only (print-text 1 4 ∷ [])) ∷ [];
-  strings = 0 ∷ 65 ∷ 0xE2 ∷ 0x89 ∷ 0xA4 ∷ [];
-  start-nonterminal = 0;
-}
-
-abbrev pub examples : List Run
-examples =
-    -- white space around the root and inside it is no event
-    accepts recalling (literal 32 ∷ open-tag 0 ∷ literal 9 ∷ empty-tag 1 ∷ close-tag 0 ∷ literal 10 ∷ []) (ended (2 ∷ 1 ∷ 2 ∷ []) (start nameA ∷ []) 6)
-    -- also in an element that only happens to be empty; in one whose production has no nodes it is refused
-    ∷ accepts books (open-tag 0 ∷ literal 32 ∷ close-tag 0 ∷ []) (ended [] (start nameA ∷ end nameA ∷ []) 4)
-    ∷ halts books (open-tag 0 ∷ open-tag 1 ∷ literal 32 ∷ close-tag 1 ∷ []) 23 (start nameA ∷ start book ∷ []) (literal 32 ∷ close-tag 1 ∷ [])
-    -- beside text it is a character
-    ∷ accepts echoing (open-tag 0 ∷ literal 32 ∷ empty-tag 1 ∷ close-tag 0 ∷ []) (ended [] (start nameA ∷ character 32 ∷ end nameA ∷ []) 14)
-    ∷ accepts printing (empty-tag 0 ∷ []) (ended [] (character 65 ∷ character 0x2264 ∷ []) 2)
-    -- the 33rd open element
-    ∷ refuses endless (starts-of-a 33) 24 [] (starts (some 0) ∷ [])
-    -- an element that cannot end yet
-    ∷ refuses recalling (starts (some 0) ∷ ends (some 0) ∷ []) 23 [] (ends (some 0) ∷ [])
-    -- another's end tag, and a tag that the sheet lacks
-    ∷ refuses recalling (starts (some 0) ∷ ends (some 1) ∷ []) 22 [] (ends (some 1) ∷ [])
-    ∷ refuses recalling (starts (some 0) ∷ starts none ∷ []) 23 [] (starts none ∷ [])
-    -- a character after the root
-    ∷ refuses printing (starts (some 0) ∷ ends (some 0) ∷ letter 97 ∷ []) 26 (character 65 ∷ character 0x2264 ∷ []) (letter 97 ∷ [])
-    ∷ []

@@ -1,4 +1,4 @@
-// Reports on the example sheets in data/, and on the texts there with the sheets that they are written as, as `wickpollen check` does; then converts the example
+// Reports on the example sheets in data/, and on the texts there with sheets of the same rules, as `wickpollen check` does; then converts the example
 // schedules, each over yesterday's listing, as `wickpollen convert` does, and shows the listing afterwards.
 use words::say;
 

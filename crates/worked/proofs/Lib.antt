@@ -4,3 +4,4 @@ pub mod Sheet28
 pub mod Sheet27
 pub mod Streams
 pub mod Table
+pub mod Small
