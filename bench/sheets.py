@@ -2,7 +2,7 @@
 """Two more sheets for the schedules of bench/make.py: python3 bench/sheets.py printing|tags >SHEET
 
 printing: everything is kept, and a program prints a full stop before every character: no run is steady.
-tags: everything is kept; 64 tags, the schedule's own last, and a star over 16 unions around the programmes.
+tags: everything is kept; 64 tags, the schedule's own last, and a star over a union of 16 names around the programmes.
 """
 import os
 import sys

@@ -2,7 +2,8 @@
 """What must be read to believe a promise: counted by following the definitions that its statement names.
 
     python3 docs/reading.py            writes the tables of docs/READING.md, between its marks
-    python3 docs/reading.py --check    says whether they are what it would write
+    python3 docs/reading.py --check    says whether they are what it would write, and of the tables by hand whether each file of definitions comes
+                                       behind those of them that it uses, and whether every one is named
     python3 docs/reading.py NAME..     the definitions that a statement needs, as crate.File.Name, file by file
 
 A statement is a definition of some crates/CRATE/specs/File.antt. It needs the definitions of specs/ that its text names, and so on; a block of
@@ -160,6 +161,42 @@ def table():
     return '\n'.join(rows) + '\n'
 
 
+def cells(page):
+    """The first cells of the tables by hand that name files, as rows of (crate, file, its names in parentheses)."""
+    for line in page.split('## Worked on paper')[0].split('<!-- end -->')[1].split('\n'):
+        if line.startswith('| ') and not line.startswith('| Read |'):
+            for part in line[2:].split(' | ')[0].split('; '):
+                crate, _, names = part.partition(': ')
+                for name, some in re.findall(r'(\w+)(?: \(([^)]*)\))?', names):
+                    yield crate, name, [w for w in some.split(', ') if w]
+
+
+def complaints(page):
+    """What is wrong with the tables by hand."""
+    rows = list(cells(page))
+    place = {(crate, name): i for i, (crate, name, _) in reversed(list(enumerate(rows)))}
+    for i, (crate, name, some) in enumerate(rows):
+        if not os.path.exists(os.path.join(ROOT, 'crates', crate, 'specs', name + '.antt')):
+            yield '%s has no %s' % (crate, name)
+            continue
+        if place[crate, name] != i:
+            yield '%s %s is named twice' % (crate, name)
+        for word in some:
+            if word not in file(crate, name).defined:
+                yield '%s %s does not define %s' % (crate, name, word)
+        for other, path in sorted({(o, p[0]) for o, p, _ in file(crate, name).imports.values()}):
+            if place.get((other, path), 0) > i:
+                yield '%s %s comes before %s %s, which it uses' % (crate, name, other, path)
+    # a file that is in no row: itself or its crate in a paragraph or a row that says so, or an example
+    aside = [b for b in re.split(r'\n\n|\n(?=\|)', page) if 'need not be believed' in b or 'Worked.antt' in b]
+    told = set(re.findall(r'\w+', ' '.join(aside)))
+    for crate in sorted(os.listdir(os.path.join(ROOT, 'crates'))):
+        specs = os.path.join(ROOT, 'crates', crate, 'specs')
+        for name in sorted(n[:-5] for n in (os.listdir(specs) if os.path.isdir(specs) else []) if n.endswith('.antt') and n != 'Lib.antt'):
+            if (crate, name) not in place and not {crate, name} & told:
+                yield '%s %s is named nowhere' % (crate, name)
+
+
 def main():
     words = [w for w in sys.argv[1:] if w != '--check']
     if words:
@@ -177,7 +214,10 @@ def main():
     if '--check' in sys.argv:
         if old != table():
             sys.exit('docs/READING.md: the counted table is not what python3 docs/reading.py writes')
-        print('docs/READING.md: the counted table is right')
+        wrong = list(complaints(page))
+        if wrong:
+            sys.exit('docs/READING.md: ' + '; '.join(wrong))
+        print('docs/READING.md: the counted table is right, and each file comes behind those that it uses')
         return 0
     open(PAGE, 'w', encoding='utf-8').write(head + mark + table() + end + tail)
     return 0

@@ -2,14 +2,17 @@
 """The example sheets, from a readable description.
 
     python3 examples/make.py            writes examples/*.sheet, *.schedule and *.listing, and the data and the expected output of the
-                                        tests `reports` and `stories`; prints each sheet's parts
+                                        test `stories`, but for the reports at its front; prints each sheet's parts
     python3 examples/make.py --check    says whether the files are what it would write
 
 A sheet is its tags by name and its productions: nonterminal, tag by name, and the expression, in which n1 is nonterminal 1, CHAR any
 one character, `.` then, `|` or, `*` any number of times. The bytes are laid out by the builder in tests/sheets.py.
 The stories below have the listings and messages that document 01 asks for, written by hand; no program here converts anything.
+The reports on sheets and texts, with which the expected output begins, are not made here: they stay as they are, and the script stops if their
+numbers and faults are not those of the checker in tests/sheets.py.
 """
 import os
+import re
 import sys
 from xml.etree import ElementTree
 
@@ -17,6 +20,7 @@ HERE = os.path.dirname(os.path.abspath(__file__))
 ROOT = os.path.dirname(HERE)
 sys.path.insert(0, os.path.join(ROOT, 'tests'))
 import rules as typed  # noqa: E402
+import sheets as checker  # noqa: E402
 from sheets import CLOSE, ECHO, ECHO_OFF, END, EQUAL, IF, NOW, OPEN, REJECT, SET, TEXT, VALUE, Sheet  # noqa: E402
 
 TAGS = ['schedule', 'programme', 'film', 'title', 'start']
@@ -29,7 +33,7 @@ EXAMPLES = {
                (3, 'start', 'CHAR*'), (4, 'film', ''), (5, 'title', '')],
 }
 
-# Texts of which the test `reports` has the report: signs in comments, strings and programs, which are no signs of an expression; nonterminals without a production.
+# Texts of which the test `stories` has a report: signs in comments, strings and programs, which are no signs of an expression; nonterminals without a production.
 TEXTS = {
     'signs': """# signs in a comment: * | . n1 "
 n0 ::= {print "\u00e9*|" <a/>} a(({print "(n1|n2)*"} n1|EMPTY)* {print "*"}) # *
@@ -291,14 +295,30 @@ def salvaged(name):
     return said + 'Number %d.\n' % (103 if dropped else 0) + listing
 
 
+def reports():
+    """The front of the test's expected output, as it is: each report's number and faults must be those of the checker in tests/sheets.py."""
+    kept = open(os.path.join(ROOT, 'crates', 'stories', 'stdout'), encoding='utf-8').read()
+    front = kept[:kept.index('quiz.schedule: ')]
+    sheets = {**{name: sheet(rules) for name, rules in EXAMPLES.items()}, **{name: typed.write(text.encode())[2] for name, text in TEXTS.items()}}
+    parts = re.split(r'^(\w+\.(?:sheet|rules)): number ', front, flags=re.M)
+    if parts[:1] + parts[1::2] != ['', 'schedule.sheet', 'faults.sheet', 'places.sheet', 'faults.rules', 'places.rules', 'signs.rules', 'missing.rules']:
+        sys.exit('crates/stories/stdout: the reports at its front are not those of the test')
+    for name, report in zip(parts[1::2], parts[2::2]):
+        number, count, faults = checker.check(sheets[name.split('.')[0]], 65536)
+        head = '%d, faults: %d.\n' % (number, count) if count else '%d.\n' % number
+        listed = [tuple(map(int, row)) for row in re.findall(r' \[(\d+) (\d+) (\d+) (\d+)\]$', report, re.M)]
+        if not report.startswith(head) or listed != [tuple(fault) for fault in faults]:
+            sys.exit('crates/stories/stdout: the report on %s has not the number and the faults of tests/sheets.py' % name)
+    return front
+
+
 def stories():
-    """The test's expected output: each story, and at last a sheet with faults, of which the test `reports` has the report."""
-    report = open(os.path.join(ROOT, 'crates', 'reports', 'stdout'), encoding='utf-8').read()
-    start = report.index('faults.sheet: number')
-    faults = report[start:report.index('\n\nplaces.sheet')] + '\n'
+    """The test's expected output: the reports, each story, a sheet with faults, which is reported once more, and what is salvaged."""
+    front = reports()
+    faults = front[front.index('faults.sheet: number'):front.index('\n\nplaces.sheet')] + '\n'
     shape = 'schedule.sheet: number 34.\n' + MEANINGS[34] + '\n' + UNTOUCHED + 'Number 34.\n' + YESTERDAY
     days = [salvaged(name) for name in DROPPED] + [shape]
-    return '\n\n'.join([told(name) for name in SCHEDULES] + [faults + UNTOUCHED + YESTERDAY] + days) + '\n\n'
+    return front + '\n\n'.join([told(name) for name in SCHEDULES] + [faults + UNTOUCHED + YESTERDAY] + days) + '\n\n'
 
 
 def account(rules):
@@ -312,15 +332,13 @@ def files():
     """Every file by its path, and its bytes."""
     made = {}
     for name, rules in EXAMPLES.items():
-        made['examples/%s.sheet' % name] = made['crates/reports/data/%s.sheet' % name] = sheet(rules)
+        made['examples/%s.sheet' % name] = made['crates/stories/data/%s.sheet' % name] = sheet(rules)
     for name in ['faults', 'places']:
-        made['crates/reports/data/%s.rules' % name] = open(os.path.join(HERE, name + '.rules'), 'rb').read()
+        made['crates/stories/data/%s.rules' % name] = open(os.path.join(HERE, name + '.rules'), 'rb').read()
     for name, text in TEXTS.items():
-        made['crates/reports/data/%s.rules' % name] = text.encode()
-        made['crates/reports/data/%s.sheet' % name] = typed.write(text.encode())[2]
+        made['crates/stories/data/%s.rules' % name] = text.encode()
+        made['crates/stories/data/%s.sheet' % name] = typed.write(text.encode())[2]
     made['examples/programmes.sheet'] = made['crates/stories/data/programmes.sheet'] = programmes()
-    for name in ['faults', 'schedule']:
-        made['crates/stories/data/%s.sheet' % name] = made['examples/%s.sheet' % name]
     for name, text in [*SCHEDULES.items(), *DAYS.items()]:
         made['examples/%s.schedule' % name] = made['crates/stories/data/%s.schedule' % name] = text.encode()
     for name, text in LISTINGS.items():
