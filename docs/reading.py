@@ -42,10 +42,13 @@ DEMANDS = [
     ('Demand 2: `<a/>` and `<a></a>`', ['calls.Empty.EmptyIsBoth', 'calls.Empty.EmptyForBoth']),
     ('Demand 3: the list of faults', ['faults.Checked.CheckedAs', 'expressions.FaultList.IsFaultList']),
     ('Demand 3: a shortest input up to a place', ['shortest.Promises.ShortestLeads', 'shortest.Answers.ShortestAs']),
+    ('Which visit of a token rejected', ['rejecting.Promises.RejectsExactly', 'rejecting.Promises.RefusalsNamed']),
     ('The starred examples', ['worked.Worked.RowHolds', 'worked.Worked.worked']),
+    ('Runs on small sheets', ['runs.Examples.RunHolds', 'worked.Small.examples']),
     ('The numbers at their bounds', ['edges.Edges.EdgeHolds', 'edges.Edges.edges']),
     ('§1: rules typed as text, written as a sheet', ['writing.Written.WrittenAs', 'writing.Promises.OneWriting']),
     ('§1: sheets printed as text, and the way back', ['printing.Printed.PrintedAs', 'printing.Promises.RoundTrips', 'printing.Promises.WritesTheSame']),
+    ('§2: line ends and references', ['tokens.LineEnds.Translated', 'calls.Accepted.AcceptedNormalised']),
     ('§4: visits per token, and of an accepted stream', ['ceiling.Visits.CeilingKept', 'calls.Accepted.TwiceTheNodes']),
     ('§4: the same of the code, for hosts in C too', ['cost.Cost.CallsCost', 'cost.Cost.BytesCost', 'cost.Cost.HostsCost']),
     ('§4: a faulty expression has no ceiling', ['few.Broken.NoCeiling']),
@@ -57,6 +60,7 @@ DEMANDS = [
     ('§12: as if that record had never been sent', ['salvage.NeverSent.AsIfNeverSent']),
     ('§12: a stream that is never refused', ['salvage.Promises.NeverRefused']),
     ('§12: a call of the salvage run over bytes', ['rescued.Salvaged.SalvagedAs']),
+    ('§12: the same over calls, from a fresh state to the end', ['handing.Fed.BytesSalvage']),
 ]
 
 
