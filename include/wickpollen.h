@@ -7,7 +7,7 @@
 
    The library is for x86-64 and needs of a C library memcpy and memset alone; it allocates nothing, opens nothing and has no variables. Its
    stack is bounded by the sheet's limits: a call of wickpollen_check or wickpollen_run takes at most 25 kB of it, most of them for expressions nested 12 deep, one of wickpollen_salvage 32 kB
-   (bench/stack adds them up); wickpollen_write keeps its stores there, some 350 kB with what it calls, wickpollen_models what it has read of a text, some 105 kB, and wickpollen_print the strings
+   (bench/stack adds them up); wickpollen_write keeps its stores there, some 340 kB with what it calls, wickpollen_models what it has read of a text, some 105 kB, and wickpollen_print the strings
    that it has met, some 95 kB: give a thread that calls these half a megabyte. */
 #ifndef WICKPOLLEN_H
 #define WICKPOLLEN_H
