@@ -20,10 +20,10 @@ import sys
 ROOT = os.path.dirname(os.path.dirname(os.path.abspath(__file__)))
 PAGE = os.path.join(ROOT, 'docs', 'READING.md')
 WORD = re.compile(r'[^\s(){};,.λ→]+')
-FIELD = re.compile(r'(?<=\s)\.[^\s(){};,.]+|(?<=[{;])\s*[^\s=]+ =')  # x .field, and a field that is given a value
+FIELD = re.compile(r"(?:(?<![^\s(){};,])(?<=[\s(){};,])|^)(?=[a-z])([\w'₀₁₂-]+)(?:\.[a-z0-9_][\w'-]*)+|(?<=\))(?:\.[a-z0-9_][\w'-]*)+|(?<=[{;])\s*[^\s=]+ =")  # x.field, and a field that is given a value
 # names that a line defines: behind `abbrev`, `pub`, `data` or `record`, parameters too; else plainly in front of a colon, since a clause, or a type that goes on, may hold one further on
 NAMED = re.compile(r'^ {0,4}(?! )(?:(?:abbrev |unfoldable |mutual |pub |data |record )+([^:(){}=→×]+?)(?: [({].*)?|([^:(){}=→×]+?)) :')
-USE = re.compile(r'^use Rattle·(\w+)(?:·specs)?\.specs\.([\w.-]+?)\.\{(.*)\}')
+USE = re.compile(r'^use Rattle\.(\w+)\.specs\.([\w.-]+?)\.\{(.*)\}')
 
 PASSED = {('converter', 'Answered', 'AnsweredAs'), ('converter', 'Bytes', 'BytesAnsweredAs'), ('capi', 'Started', 'StartedAs'), ('capi', 'RunAnswer', 'RunAs'), ('calls', 'Call', 'Called')}
 
@@ -74,7 +74,7 @@ class File:
         block = []
         for line in open(path, encoding='utf-8').read().split('\n') + ['', 'end']:
             used = USE.match(line)
-            if used:
+            if used and os.path.isdir(os.path.join(ROOT, 'crates', used[1])):
                 for item in used[3].split(','):
                     there, _, here = item.strip().partition(' as ')
                     self.imports[here or there] = (used[1], used[2].split('.'), there)
@@ -122,10 +122,10 @@ def needed(statements):
             continue
         blocks[crate, name].add(block)
         for line in there.blocks[block]:
-            code = FIELD.sub(' ', line.split('--')[0])
+            code = FIELD.sub(lambda m: m[1] or ' ', line.split('--')[0])
             for used in WORD.findall(code):
-                if '_%s_' % used in there.defined or '_%s_' % used in there.imports:  # a sign that stands between its two sides
-                    used = '_%s_' % used
+                if '◌%s◌' % used in there.defined or '◌%s◌' % used in there.imports:  # a sign that stands between its two sides
+                    used = '◌%s◌' % used
                 if used in there.defined:
                     todo.append((crate, name, used))
                 elif used in there.imports:
@@ -223,7 +223,8 @@ def main():
             sys.exit('docs/READING.md: ' + '; '.join(wrong))
         print('docs/READING.md: the counted table is right, and each file comes behind those that it uses')
         return 0
-    open(PAGE, 'w', encoding='utf-8').write(head + mark + table() + end + tail)
+    text = head + mark + table() + end + tail
+    open(PAGE, 'w', encoding='utf-8').write(text)
     return 0
 
 

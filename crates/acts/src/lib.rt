@@ -1,4 +1,7 @@
 // Acts: what brackets, tags and characters do to a state, with output into lent memory or dry.
+
+#![tactic(auto)]
+
 ghost use Rattle.std.specs.Prelude.{◌≡◌, List, length, ℕ, ◌+◌, ◌≤◌, ◌<◌, ◌^◌};
 ghost use Rattle.text.specs.Chars.{Char};
 ghost use Rattle.layout.specs.LaidOut.{LaidOut};
@@ -21,7 +24,7 @@ use visits::{Env, Performed};
 const NONE: usize = 65535;
 
 // What acts came to: whether no program rejected, where the next byte of output goes, and the state.
-#[derive(Drop)]
+#[derive(Clone, Copy)]
 pub struct Acted {
     pub ok: bool,
     pub at: usize,

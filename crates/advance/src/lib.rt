@@ -1,9 +1,12 @@
 // All that a writer of sheets keeps beside its reader, one token further.
+
+#![tactic(auto)]
+
 ghost use Rattle.inks.specs.Held.{Trim};
 ghost use Rattle.shelves.specs.Shelves.{Rowed};
 ghost use Rattle.advance.specs.Advance.{FiledRow, Firmly, Advanced};
 
-#[derive(Drop)]
+#[derive(Clone, Copy)]
 pub struct Desk {
     pub slip: slips::Slip,
     pub past: pasts::Past,

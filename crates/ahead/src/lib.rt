@@ -1,4 +1,7 @@
 // What lies ahead of a run: whether it is steady, tried by a character that is not there, and the stretch that it can then take at once.
+
+#![tactic(auto)]
+
 ghost use Rattle.std.specs.Prelude.{◌≡◌, true, false, ℕ, ◌≤◌, length, take, List};
 ghost use Rattle.runs.specs.Visits.{most_visits};
 ghost use Rattle.state.specs.Bounds.{most_sets};
@@ -22,7 +25,7 @@ const TRIED: u32 = 120;
 const OPENS: u8 = 60;
 
 // Whether every character leaves the run as it is, and how many visits each then counts.
-#[derive(Drop)]
+#[derive(Clone, Copy)]
 pub struct Tried {
     pub steady: bool,
     pub visits: u64,

@@ -1,4 +1,7 @@
 // The live part of a state, read from the bytes where the state lies, and put back there. The elements around the innermost one stay where they lie.
+
+#![tactic(auto)]
+
 ghost use Rattle.std.specs.Prelude.{◌≡◌, true, false, cond, ◌+◌, ◌-◌, ◌*◌, ◌≤◌, eqb, length, drop, replicate};
 ghost use Rattle.lent.specs.Put.{put};
 ghost use Rattle.runs.specs.Machine.{most};

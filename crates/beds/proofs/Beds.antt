@@ -1,13 +1,13 @@
 -- A bed behind each piece of an expression. Assumes nothing.
 use mathlib.Core.Path.{◌≡◌, refl, sym, ◌∙◌, ap, ap₂, subst}
 use mathlib.Core.Bool.{Bool, true, false}
-use mathlib.Core.List.{List, [], ◌∷◌, ◌++◌, append-nil, map}
+use mathlib.Core.List.{List, [], ◌∷◌, ◌++◌, append-nil}
 use mathlib.Core.Option.{Option, none, some}
 use Prim.Native.Nat.{ℕ, zero, suc, ◌+◌, ◌-◌, ◌/◌, ◌%◌, ◌≤◌, ◌<◌}
 use native.Mathlib.Numerals.{add-one, sub-one}
 use native.Mathlib.Omega.{arith}
 use lib.Dec.{ltb}
-use lib.ListN.{length, length-map, get_or, set, length-append}
+use lib.ListN.{length, get_or, set, length-append}
 use lib.Seq.{get_or-set_same, get_or-set_other}
 use borrow.Author.Tests.{le-ltb}
 use Rattle.expressions.specs.Expr.{Atom}
@@ -45,10 +45,6 @@ some_same e = cc
 -- the step of a machine leads to one state
 led : (field : TextProgram → ℕ) (y x' : Parsing) (r : Bed) → some y ≡ some x' → FewNodesRead x' → (FewNodesRead y → Bedded field y r) → Bedded field x' r
 led field y x' r e few h = let same = some_same e in subst (λ z. Bedded field z r) same (h (subst FewNodesRead (sym same) few))
-
--- how long a field that is an array of structs is: its relation speaks of the mapped list
-pub length_of_mapped : {X Y : Type 0} (f : X → Y) (l : List X) (n : ℕ) → length (map f l) ≡ n → length l ≡ n
-length_of_mapped f l n p = sym (length-map l f) ∙ p
 
 -- the array of pairs as a list
 pub stacked_length : (ps : List Pair) (n : ℕ) → length (stacked ps n) ≡ n

@@ -1,5 +1,8 @@
 // The nodes of a production's expression while it is read, token by token: node records in preorder, and where the parts of each open pair of
 // parentheses begin among them.
+
+#![tactic(auto)]
+
 ghost use Rattle.std.specs.Prelude.{◌≡◌, ◌+◌, ◌≤◌};
 ghost use Rattle.reading.specs.Expressions.{a_star, a_dot, a_bar, an_open, a_close};
 ghost use Rattle.beds.specs.Bedded.{NodeIn, FieldIn, just_opened, LeafIs, PieceIs, SettledIs, FreshIs, BedStepIs, UnbracedIs, FinishedIs};
@@ -11,14 +14,14 @@ pub const MOST: usize = 192;
 pub const DEEPEST: usize = 32;
 
 // Bytes, of which so many are nodes.
-#[derive(Drop)]
+#[derive(Clone, Copy)]
 pub struct Row {
     pub bytes: [u8; 192],
     pub length: usize,
 }
 
 // A pair of parentheses: at which byte its union, its concatenation and its operand begin, and the two bytes of the program in front, if one is there.
-#[derive(Drop)]
+#[derive(Clone, Copy)]
 pub struct Pair {
     pub union: usize,
     pub cat: usize,
@@ -29,7 +32,7 @@ pub struct Pair {
 }
 
 // The nodes, the innermost pair, and the pairs around it, outermost first.
-#[derive(Drop)]
+#[derive(Clone, Copy)]
 pub struct Bed {
     pub row: Row,
     pub here: Pair,

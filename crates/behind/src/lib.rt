@@ -1,4 +1,7 @@
 // What is kept of the bytes that were passed: the last of them, and on which lines the open elements began.
+
+#![tactic(auto)]
+
 ghost use Rattle.std.specs.Prelude.{◌≡◌, ◌<◌, ◌≤◌, min, ◌++◌, length, drop};
 ghost use Rattle.behind.specs.Tails.{most_kept, from_end, no_tail, tail_after};
 ghost use Rattle.behind.specs.Tags.{is_empty_tag, is_end_tag, tag_kind};
@@ -10,7 +13,7 @@ use state::State;
 use std::num::wrapping_add_u64;
 
 // The last bytes that were passed: so many at the array's end.
-#[derive(Drop)]
+#[derive(Clone, Copy)]
 pub struct Tail {
     pub length: usize,
     pub bytes: [u8; Tail::MOST],
@@ -67,7 +70,7 @@ impl Tail {
 }
 
 // The lines on which the open elements began, from the outside in.
-#[derive(Drop)]
+#[derive(Clone, Copy)]
 pub struct Lines {
     pub depth: usize,
     pub lines: [u64; State::DEPTH],
@@ -124,7 +127,7 @@ fn kind_of_tag(bytes: &[u8], i: usize) -> u8
 }
 
 // Where the next tag starts, or the bytes end, and on which line.
-#[derive(Drop)]
+#[derive(Clone, Copy)]
 struct TagAt {
     at: usize,
     line: u64,
@@ -221,13 +224,13 @@ impl Lines {
 }
 
 // The line behind some bytes, and the lines of the elements that are open there.
-#[derive(Drop)]
+#[derive(Clone, Copy)]
 pub struct Passed {
     pub line: u64,
     pub lines: Lines,
 }
 
-#[derive(Drop)]
+#[derive(Clone, Copy)]
 pub struct Behind {
     pub tail: Tail,
     pub lines: Lines,

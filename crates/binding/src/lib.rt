@@ -1,4 +1,7 @@
 // The sections of a sheet, put behind one another into lent memory.
+
+#![tactic(auto)]
+
 ghost use Rattle.std.specs.Prelude.{◌+◌, ◌<◌, ◌^◌};
 ghost use Rattle.binding.specs.Bound.{TagRows, TagsPut, SectionsFit, BoundIs};
 

@@ -1,4 +1,7 @@
 // Expressions of a sheet as text, with the programs of their nodes, into lent memory from an offset on. A dry run only counts.
+
+#![tactic(auto)]
+
 ghost use Rattle.std.specs.Prelude.{◌≡◌, ◌∷◌, ◌+◌, ◌*◌, ◌≤◌, ◌<◌};
 ghost use Rattle.lent.specs.Put.{PutAs};
 ghost use Rattle.output.specs.Reach.{farthest};
@@ -12,7 +15,7 @@ use asides::NONE;
 use layout::Layout;
 
 // The node past what was written, and where the next byte of text goes.
-#[derive(Drop)]
+#[derive(Clone, Copy)]
 pub struct Placed {
     pub next: usize,
     pub at: usize,

@@ -1,12 +1,22 @@
 // Who started a conversion: whether somebody watches its progress, and whether somebody listens at the descriptor for what it comes to.
+
+#![tactic(auto)]
+
 ghost use Rattle.std.specs.Prelude.{◌≡◌, true, false};
 ghost use Rattle.callers.specs.Callers.{nobody, Somebody, Unheard};
 
-#[derive(Drop)]
+use std::os::unix::process::parent_id;
+
+#[derive(Clone, Copy)]
 pub struct Caller {
     pub watches: bool,
     pub listens: bool,
     pub parent: i32,
+}
+
+// The process that started this one.
+fn parent(rt: HostRuntime) -> i32 {
+    parent_id(rt.process()).cast_signed()
 }
 
 // Where whoever started the program listens. A line there names the new file before anything is written to it, so that it can be taken
@@ -26,24 +36,24 @@ impl Caller {
     }
 
     // Whoever started the program.
-    pub fn this_one(watches: bool, listens: bool) -> Caller
+    pub fn this_one(rt: HostRuntime, watches: bool, listens: bool) -> Caller
         ensures { Somebody watches listens result }
     {
         Caller {
             watches: watches,
             listens: listens,
-            parent: libc::getppid(),
+            parent: parent(rt),
         }
     }
 
     // Whether somebody listened and is no more: then nobody would know that a listing is put in place, perhaps over a newer one.
-    pub fn is_gone(self) -> bool
+    pub fn is_gone(self, rt: HostRuntime) -> bool
         ensures { Unheard self false result }
     {
         if !self.listens {
             return false;
         }
-        libc::getppid() != self.parent
+        parent(rt) != self.parent
     }
 
     // Names the new file. Answers whether whoever listens could be told.

@@ -1,4 +1,7 @@
 // The checker, the converter, the salvage run, the writer, the printer and the reader of declarations for hosts in C: include/wickpollen.h.
+
+#![tactic(auto)]
+
 ghost use Rattle.std.specs.Prelude.{◌≡◌, ◌+◌, ◌*◌, ◌%◌, ◌≤◌, ◌<◌};
 ghost use Rattle.writing.specs.Written.{WrittenAs};
 ghost use Rattle.printing.specs.Printed.{PrintedAs};
@@ -25,8 +28,7 @@ fn pack(r: Checked) -> u64
 }
 
 // Tests a sheet and lists its faults, as faults::check does.
-#[unsafe(no_mangle)]
-pub extern "C" fn wickpollen_check(sheet: &[u8], list: &mut [u8]) -> u64
+pub fn wickpollen_check(sheet: &[u8], list: &mut [u8]) -> u64
     ensures { PackedAs sheet.now list.old list.new result }
 {
     let r = check(sheet, list);
@@ -34,8 +36,7 @@ pub extern "C" fn wickpollen_check(sheet: &[u8], list: &mut [u8]) -> u64
 }
 
 // Writes a fresh state at the start of the area and answers how many bytes it has; 0, and nothing is written, where the area is too short.
-#[unsafe(no_mangle)]
-pub extern "C" fn wickpollen_fresh(area: &mut [u8]) -> u64
+pub fn wickpollen_fresh(area: &mut [u8]) -> u64
     ensures { StartedAs area.old area.new result }
 {
     if area.len() < State::BYTES {
@@ -47,8 +48,7 @@ pub extern "C" fn wickpollen_fresh(area: &mut [u8]) -> u64
 }
 
 // Takes a part of a stream, as converter::convert_bytes does. Any number but 0 says that the stream has ended.
-#[unsafe(no_mangle)]
-pub extern "C" fn wickpollen_run(
+pub fn wickpollen_run(
     sheet: &[u8],
     area: &mut [u8],
     part: &[u8],
@@ -76,8 +76,7 @@ fn counted(number: usize, count: usize) -> u64
 }
 
 // Writes rules typed as text as a sheet, as writer::write does.
-#[unsafe(no_mangle)]
-pub extern "C" fn wickpollen_write(text: &[u8], sheet: &mut [u8]) -> u64
+pub fn wickpollen_write(text: &[u8], sheet: &mut [u8]) -> u64
     ensures { CountedAs (WrittenAs text.now sheet.old) sheet.new result }
 {
     let o = writer::write(text, sheet);
@@ -85,8 +84,7 @@ pub extern "C" fn wickpollen_write(text: &[u8], sheet: &mut [u8]) -> u64
 }
 
 // Prints a sheet as text, as prints::print does.
-#[unsafe(no_mangle)]
-pub extern "C" fn wickpollen_print(sheet: &[u8], text: &mut [u8]) -> u64
+pub fn wickpollen_print(sheet: &[u8], text: &mut [u8]) -> u64
     ensures { CountedAs (PrintedAs sheet.now text.old) text.new result }
 {
     let p = prints::print(sheet, text);
@@ -94,8 +92,7 @@ pub extern "C" fn wickpollen_print(sheet: &[u8], text: &mut [u8]) -> u64
 }
 
 // Writes the content models of a DTD as a sheet, as dtds::declare does.
-#[unsafe(no_mangle)]
-pub extern "C" fn wickpollen_models(dtd: &[u8], sheet: &mut [u8]) -> u64
+pub fn wickpollen_models(dtd: &[u8], sheet: &mut [u8]) -> u64
     ensures { CountedAs (DeclaredAs dtd.now sheet.old) sheet.new result }
 {
     let d = dtds::declare(dtd, sheet);
@@ -103,8 +100,7 @@ pub extern "C" fn wickpollen_models(dtd: &[u8], sheet: &mut [u8]) -> u64
 }
 
 // Writes a fresh state of a salvage run at the start of the area and answers how many bytes it has; 0, and nothing is written, where the area is too short.
-#[unsafe(no_mangle)]
-pub extern "C" fn wickpollen_salvage_fresh(area: &mut [u8]) -> u64
+pub fn wickpollen_salvage_fresh(area: &mut [u8]) -> u64
     ensures { SalvageStarted area.old area.new result }
 {
     let n = salvage_fresh(area);
@@ -112,8 +108,7 @@ pub extern "C" fn wickpollen_salvage_fresh(area: &mut [u8]) -> u64
 }
 
 // Takes a part of a stream and drops the records that are damaged, as salvages::salvage_bytes does. Any number but 0 says that the stream has ended.
-#[unsafe(no_mangle)]
-pub extern "C" fn wickpollen_salvage(
+pub fn wickpollen_salvage(
     sheet: &[u8],
     state: &mut [u8],
     part: &[u8],

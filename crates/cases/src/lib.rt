@@ -1,11 +1,14 @@
 // What the programs of the tests share: the lines of a file of cases, the numbers and bytes in them, and memory that is lent.
+
+#![tactic(auto)]
+
 ghost use Rattle.std.specs.Prelude.{◌≡◌, ◌≤◌, ◌<◌, length, drop};
 ghost use Rattle.io.specs.Counts.{IsPrefixLen};
 ghost use Rattle.tells.specs.Tells.{Tells};
 ghost use Rattle.cases.specs.Kept.{AllAre};
 
 // A number that was read, and where the line goes on.
-#[derive(Drop)]
+#[derive(Clone, Copy)]
 pub struct Read {
     pub value: u64,
     pub next: usize,

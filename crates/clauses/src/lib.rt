@@ -1,4 +1,7 @@
 // Conditions of a sheet's programs as text, into lent memory from an offset on. A dry run only counts.
+
+#![tactic(auto)]
+
 ghost use Rattle.std.specs.Prelude.{◌≡◌, ◌+◌, ◌*◌, ◌-◌, ◌≤◌, ◌<◌, length, get_or};
 ghost use Rattle.lent.specs.Put.{PutAs};
 ghost use Rattle.output.specs.Reach.{farthest};
@@ -6,7 +9,7 @@ ghost use Rattle.printed.specs.Conditions.{condition_text};
 ghost use Rattle.clauses.specs.Clauses.{binds_at, word_between, condition_text_in, sign_where, most_of_AByte, ClausePut};
 
 // The byte after what was read, and where the next byte of text goes.
-#[derive(Drop)]
+#[derive(Clone, Copy)]
 pub struct Put {
     pub next: usize,
     pub at: usize,

@@ -1,4 +1,7 @@
 // The end of a rule text: the last production's record, and the sheet, or the length that it needs.
+
+#![tactic(auto)]
+
 ghost use Rattle.std.specs.Prelude.{◌≤◌, length};
 ghost use Rattle.closings.specs.Closings.{UsedIs, SomeReady, BoundAs, SomeWhole, FinishIs};
 

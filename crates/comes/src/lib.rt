@@ -1,4 +1,7 @@
 // What may come next at a place of a sheet's production: tags, a character, the end of the element.
+
+#![tactic(auto)]
+
 ghost use Rattle.std.specs.Prelude.{◌≡◌, ◌<◌, length};
 ghost use Rattle.layout.specs.LaidOut.{LaidOut};
 ghost use Rattle.trees.specs.Sums.{Zeros, sum_cells};

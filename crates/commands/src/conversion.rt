@@ -1,62 +1,89 @@
 // Converting a schedule file into a listing file, part by part; or into none, to say what would come of it.
 mod run;
 
-use crate::listings::{NO_FILE, begin, settle, tell_broken};
+use crate::listings::{begin, settle, tell_broken};
 use crate::rulebooks::{FILE, load_passing};
 use callers::Caller;
+use files::Opened;
 use outcomes::{tell_refusal, tell_tried};
 use run::run;
 use standing::{is_broken, is_refused, top_up};
 
 // From a schedule that is open into a new file that is open.
 fn convert_open(
+    rt: HostRuntime,
     sheet: &[u8],
     schedule: &[u8],
-    from: i32,
+    from: &mut Opened,
     listing: &[u8],
-    to: i32,
+    to: &mut Opened,
     name: &[u8],
     caller: Caller,
 ) -> u64 {
     let mut part = io::large_buffer();
     let mut out = io::large_buffer();
-    let s = run(sheet, from, to, &mut part, &mut out, caller);
+    let s = run(rt, sheet, from, to, &mut part, &mut out, caller);
     let held = top_up(from, &mut part, s.held, is_refused(s));
-    settle(sheet, schedule, listing, to, name, caller, s, &part[..held])
+    settle(
+        rt,
+        sheet,
+        schedule,
+        listing,
+        from,
+        to,
+        name,
+        caller,
+        s,
+        &part[..held],
+    )
 }
 
 // Converts the file at schedule by the rules at sheet_path into a file at listing, says what came of it, and answers the number of the
 // table, or FILE.
-pub fn convert_files(sheet_path: &[u8], schedule: &[u8], listing: &[u8], caller: Caller) -> u64 {
+pub fn convert_files(
+    rt: HostRuntime,
+    sheet_path: &[u8],
+    schedule: &[u8],
+    listing: &[u8],
+    caller: Caller,
+) -> u64 {
     let mut sheet = io::large_buffer();
     let mut name = io::buffer();
-    let b = begin(sheet_path, schedule, listing, &mut sheet, &mut name, caller);
+    let mut b = begin(
+        rt, sheet_path, schedule, listing, &mut sheet, &mut name, caller,
+    );
     if b.number > 0 {
         return b.number;
     }
     let n = files::within(b.length, &sheet);
     let m = files::within(b.name, &name);
-    let number = convert_open(
+    convert_open(
+        rt,
         &sheet[..n],
         schedule,
-        b.from,
+        &mut b.from,
         listing,
-        b.to,
+        &mut b.to,
         &name[..m],
         caller,
-    );
-    libc::close(b.from);
-    number
+    )
 }
 
 // A schedule that is open, converted into nothing.
-fn try_open(sheet: &[u8], schedule: &[u8], from: i32, caller: Caller) -> u64 {
+fn try_open(
+    rt: HostRuntime,
+    sheet: &[u8],
+    schedule: &[u8],
+    from: &mut Opened,
+    caller: Caller,
+) -> u64 {
     let mut part = io::large_buffer();
     let mut out = io::large_buffer();
-    let s = run(sheet, from, NO_FILE, &mut part, &mut out, caller);
+    let mut to = Opened::nothing();
+    let s = run(rt, sheet, from, &mut to, &mut part, &mut out, caller);
     let held = top_up(from, &mut part, s.held, is_refused(s));
     if is_broken(s) {
-        tell_broken(schedule, schedule, s);
+        tell_broken(schedule, from, schedule, &to, s);
         return FILE;
     }
     if s.number > 0 {
@@ -68,19 +95,17 @@ fn try_open(sheet: &[u8], schedule: &[u8], from: i32, caller: Caller) -> u64 {
 }
 
 // Says what convert_files would say of the same sheet and schedule, answers the same number, and writes no file.
-pub fn try_files(sheet_path: &[u8], schedule: &[u8], caller: Caller) -> u64 {
+pub fn try_files(rt: HostRuntime, sheet_path: &[u8], schedule: &[u8], caller: Caller) -> u64 {
     let mut sheet = io::large_buffer();
-    let loaded = load_passing(sheet_path, &mut sheet);
+    let loaded = load_passing(rt, sheet_path, &mut sheet);
     if loaded.number > 0 {
         return loaded.number;
     }
     let n = files::within(loaded.length, &sheet);
-    let from = os::open_read(schedule);
-    if from < 0 {
-        os::fail(schedule);
+    let mut from = files::open(rt, schedule);
+    if !from.is_open() {
+        from.fail(schedule);
         return FILE;
     }
-    let number = try_open(&sheet[..n], schedule, from, caller);
-    libc::close(from);
-    number
+    try_open(rt, &sheet[..n], schedule, &mut from, caller)
 }

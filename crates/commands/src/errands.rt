@@ -2,20 +2,20 @@
 use crate::listings::put_file;
 use crate::rulebooks::{FILE, LONGEST, check, load, memory};
 use callers::Caller;
-use libc::STDOUT_FILENO;
 use manual::complain;
+use std::io::{Result, Write, writer};
 use words::say;
 
-pub fn check_file(path: &[u8]) -> u64 {
+pub fn check_file(rt: HostRuntime, path: &[u8]) -> u64 {
     let mut bytes = memory();
     let mut sheet = io::large_buffer();
-    let checked = check(path, &mut bytes, &mut sheet);
+    let checked = check(rt, path, &mut bytes, &mut sheet);
     checked.number
 }
 
 // Puts a sheet in place, and says so.
-fn put_sheet(path: &[u8], sheet: &[u8], caller: Caller) -> u64 {
-    if !put_file(path, sheet, caller) {
+fn put_sheet(rt: HostRuntime, path: &[u8], sheet: &[u8], caller: Caller) -> u64 {
+    if !put_file(rt, path, sheet, caller) {
         return FILE;
     }
     say(path);
@@ -24,15 +24,15 @@ fn put_sheet(path: &[u8], sheet: &[u8], caller: Caller) -> u64 {
 }
 
 // Writes the rules of a file as a sheet, if they pass: the very bytes that were checked, since a pipe can be read only once and a file may change.
-pub fn write_file(path: &[u8], to: &[u8], caller: Caller) -> u64 {
+pub fn write_file(rt: HostRuntime, path: &[u8], to: &[u8], caller: Caller) -> u64 {
     let mut bytes = memory();
     let mut sheet = io::large_buffer();
-    let checked = check(path, &mut bytes, &mut sheet);
+    let checked = check(rt, path, &mut bytes, &mut sheet);
     if checked.number > 0 {
         return checked.number;
     }
     let n = files::within(checked.length, &sheet);
-    put_sheet(to, &sheet[..n], caller)
+    put_sheet(rt, to, &sheet[..n], caller)
 }
 
 // Says on standard error why a sheet was not printed.
@@ -48,38 +48,45 @@ fn refuse_print(path: &[u8], number: u64) -> u64 {
     number
 }
 
+// Writes a text to standard output.
+fn put_out(rt: HostRuntime, text: &[u8]) -> Result<()> {
+    writer(&rt).write_all(text)
+}
+
 // Prints a sheet as text, by way of memory that is lent: nothing else goes to standard output. No more is printed than is read again.
-fn print_through(path: &[u8], sheet: &[u8], text: &mut [u8]) -> u64 {
+fn print_through(rt: HostRuntime, path: &[u8], sheet: &[u8], text: &mut [u8]) -> u64 {
     let room = files::within(LONGEST, text);
     let p = prints::print(sheet, &mut text[..room]);
     if p.number > 0 {
         return refuse_print(path, p.number as u64);
     }
     let n = files::within(p.count, text);
-    if !io::write_all(STDOUT_FILENO, &text[..n]) {
-        os::fail(b"standard output");
-        return FILE;
+    match put_out(rt, &text[..n]) {
+        Ok(()) => 0,
+        Err(why) => {
+            files::fail(b"standard output", why);
+            FILE
+        }
     }
-    0
 }
 
-fn print_sheet(path: &[u8], sheet: &[u8]) -> u64 {
+fn print_sheet(rt: HostRuntime, path: &[u8], sheet: &[u8]) -> u64 {
     let mut text = memory();
-    print_through(path, sheet, &mut text)
+    print_through(rt, path, sheet, &mut text)
 }
 
-pub fn print_file(path: &[u8]) -> u64 {
+pub fn print_file(rt: HostRuntime, path: &[u8]) -> u64 {
     let mut sheet = io::large_buffer();
-    let loaded = load(path, &mut sheet);
+    let loaded = load(rt, path, &mut sheet);
     if loaded.number > 0 {
         return loaded.number;
     }
     let n = files::within(loaded.length, &sheet);
-    print_sheet(path, &sheet[..n])
+    print_sheet(rt, path, &sheet[..n])
 }
 
 // Prints the declarations of a file as rules.
-pub fn print_models(path: &[u8]) -> u64 {
+pub fn print_models(rt: HostRuntime, path: &[u8]) -> u64 {
     let mut bytes = memory();
-    modelling::print_models(path, &mut bytes)
+    modelling::print_models(rt, path, &mut bytes)
 }

@@ -2,47 +2,52 @@
 // schedule was taken: a refusal, a full disk or a killed process leaves the listing that was there.
 use crate::rulebooks::{FILE, load_passing};
 use callers::Caller;
+use files::Opened;
 use outcomes::{tell_done, tell_refusal, tell_untouched};
 use standing::{Standing, is_broken};
 
-// In place of a descriptor: there is no file to write to.
-pub(crate) const NO_FILE: i32 = -1;
-
 // Says which file failed, and why.
-pub(crate) fn tell_broken(schedule: &[u8], listing: &[u8], s: Standing) {
+pub(crate) fn tell_broken(
+    schedule: &[u8],
+    from: &Opened,
+    listing: &[u8],
+    to: &Opened,
+    s: Standing,
+) {
     if s.unread {
-        os::fail(schedule);
+        from.fail(schedule);
     }
     if s.unwritten {
-        os::fail(listing);
+        to.fail(listing);
     }
 }
 
-// Ends a run: the new file takes the listing's place, or is taken away, and then the reason is told (what is taken away without trouble
-// leaves errno).
+// Ends a run: the new file takes the listing's place, or is taken away, and then the reason is told.
 pub(crate) fn settle(
+    rt: HostRuntime,
     sheet: &[u8],
     schedule: &[u8],
     listing: &[u8],
-    to: i32,
+    from: &Opened,
+    to: &mut Opened,
     name: &[u8],
     caller: Caller,
     s: Standing,
     left: &[u8],
 ) -> u64 {
-    if is_broken(s) | caller.is_gone() {
-        files::take_away(to, name);
-        tell_broken(schedule, listing, s);
+    if is_broken(s) | caller.is_gone(rt) {
+        files::take_away(rt, to, name);
+        tell_broken(schedule, from, listing, to, s);
         tell_untouched(listing);
         return FILE;
     }
     if s.number > 0 {
-        files::take_away(to, name);
+        files::take_away(rt, to, name);
         tell_refusal(sheet, schedule, s, left);
         tell_untouched(listing);
         return s.number as u64;
     }
-    if !files::put_in_place(to, name, listing) {
+    if !files::put_in_place(rt, to, name, listing) {
         tell_untouched(listing);
         return FILE;
     }
@@ -56,8 +61,8 @@ pub(crate) fn settle(
 pub struct Begun {
     pub number: u64,
     pub length: usize,
-    pub from: i32,
-    pub to: i32,
+    pub from: Opened,
+    pub to: Opened,
     pub name: usize,
 }
 
@@ -71,8 +76,8 @@ impl Begun {
         Begun {
             number: number,
             length: 0,
-            from: NO_FILE,
-            to: NO_FILE,
+            from: Opened::nothing(),
+            to: Opened::nothing(),
             name: 0,
         }
     }
@@ -80,24 +85,23 @@ impl Begun {
 
 // Makes the new file beside the listing, and puts its name into the memory.
 fn begin_listing(
+    rt: HostRuntime,
     listing: &[u8],
     name: &mut [u8],
-    from: i32,
+    from: Opened,
     length: usize,
     caller: Caller,
 ) -> Begun {
-    let made = files::new_beside(listing, name);
-    let to = made.fd;
+    let made = files::new_beside(rt, listing, name);
     let n = made.length;
-    if to < 0 {
-        os::fail(listing);
+    let mut to = made.file;
+    if !to.is_open() {
+        to.fail(listing);
         tell_untouched(listing);
-        libc::close(from);
         return Begun::failed();
     }
     if !caller.hears_of(&name[..n]) {
-        files::take_away(to, &name[..n]);
-        libc::close(from);
+        files::take_away(rt, &mut to, &name[..n]);
         return Begun::failed();
     }
     Begun {
@@ -111,6 +115,7 @@ fn begin_listing(
 
 // Reads the rules at sheet_path into the memory as a sheet, opens the schedule, and makes the new file beside the listing.
 pub(crate) fn begin(
+    rt: HostRuntime,
     sheet_path: &[u8],
     schedule: &[u8],
     listing: &[u8],
@@ -118,34 +123,34 @@ pub(crate) fn begin(
     name: &mut [u8],
     caller: Caller,
 ) -> Begun {
-    let loaded = load_passing(sheet_path, sheet);
+    let loaded = load_passing(rt, sheet_path, sheet);
     if loaded.number > 0 {
         tell_untouched(listing);
         return Begun::ended(loaded.number);
     }
-    let from = os::open_read(schedule);
-    if from < 0 {
-        os::fail(schedule);
+    let from = files::open(rt, schedule);
+    if !from.is_open() {
+        from.fail(schedule);
         return Begun::failed();
     }
-    begin_listing(listing, name, from, loaded.length, caller)
+    begin_listing(rt, listing, name, from, loaded.length, caller)
 }
 
 // Puts some bytes in place as a file at path, as a listing is: from a new file beside it, whole or not at all.
-pub(crate) fn put_file(path: &[u8], bytes: &[u8], caller: Caller) -> bool {
+pub(crate) fn put_file(rt: HostRuntime, path: &[u8], bytes: &[u8], caller: Caller) -> bool {
     let mut name = io::buffer();
-    let made = files::new_beside(path, &mut name);
-    let to = made.fd;
+    let made = files::new_beside(rt, path, &mut name);
     let n = made.length;
-    if to < 0 {
-        os::fail(path);
+    let mut to = made.file;
+    if !to.is_open() {
+        to.fail(path);
         return false;
     }
-    let written = caller.hears_of(&name[..n]) && io::write_all(to, bytes);
-    if !written | caller.is_gone() {
-        files::take_away(to, &name[..n]);
-        os::fail(path);
+    let written = caller.hears_of(&name[..n]) && to.write(bytes);
+    if !written | caller.is_gone(rt) {
+        files::take_away(rt, &mut to, &name[..n]);
+        to.fail(path);
         return false;
     }
-    files::put_in_place(to, &name[..n], path)
+    files::put_in_place(rt, &mut to, &name[..n], path)
 }

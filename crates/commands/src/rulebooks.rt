@@ -12,7 +12,7 @@ pub const FILE: u64 = 102;
 pub(crate) const LONGEST: usize = 262144;
 
 // What came of it: 0, how many bytes the sheet has, and how many the text that it was written from, none where the file holds a sheet; or the number that was told.
-#[derive(Drop)]
+#[derive(Clone, Copy)]
 pub struct Loaded {
     pub number: u64,
     pub length: usize,
@@ -87,8 +87,8 @@ fn sheet_of(path: &[u8], bytes: &[u8], sheet: &mut [u8]) -> Loaded {
 }
 
 // The rules of a file as a sheet, read into lent memory.
-fn load_into(path: &[u8], bytes: &mut [u8], sheet: &mut [u8]) -> Loaded {
-    let whole = files::read_whole(path, bytes);
+fn load_into(rt: HostRuntime, path: &[u8], bytes: &mut [u8], sheet: &mut [u8]) -> Loaded {
+    let whole = files::read_whole(rt, path, bytes);
     if whole.failed {
         return failed(FILE);
     }
@@ -104,14 +104,14 @@ pub(crate) fn memory() -> [u8; 262145]
 }
 
 // The rules of a file as a sheet.
-pub(crate) fn load(path: &[u8], sheet: &mut [u8]) -> Loaded {
+pub(crate) fn load(rt: HostRuntime, path: &[u8], sheet: &mut [u8]) -> Loaded {
     let mut bytes = memory();
-    load_into(path, &mut bytes, sheet)
+    load_into(rt, path, &mut bytes, sheet)
 }
 
 // Checks the rules of a file, which is read once into lent memory, and says what was found: the number of the table, and how many bytes their sheet has.
-pub(crate) fn check(path: &[u8], bytes: &mut [u8], sheet: &mut [u8]) -> Loaded {
-    let loaded = load_into(path, bytes, sheet);
+pub(crate) fn check(rt: HostRuntime, path: &[u8], bytes: &mut [u8], sheet: &mut [u8]) -> Loaded {
+    let loaded = load_into(rt, path, bytes, sheet);
     if loaded.number > 0 {
         return loaded;
     }
@@ -126,8 +126,8 @@ pub(crate) fn check(path: &[u8], bytes: &mut [u8], sheet: &mut [u8]) -> Loaded {
 }
 
 // The rules of a file as a sheet that passes, read once into lent memory; of any others it is told what was found.
-fn pass_into(path: &[u8], bytes: &mut [u8], sheet: &mut [u8]) -> Loaded {
-    let loaded = load_into(path, bytes, sheet);
+fn pass_into(rt: HostRuntime, path: &[u8], bytes: &mut [u8], sheet: &mut [u8]) -> Loaded {
+    let loaded = load_into(rt, path, bytes, sheet);
     if loaded.number > 0 {
         return loaded;
     }
@@ -142,7 +142,7 @@ fn pass_into(path: &[u8], bytes: &mut [u8], sheet: &mut [u8]) -> Loaded {
 }
 
 // The rules of a file as a sheet that passes.
-pub(crate) fn load_passing(path: &[u8], sheet: &mut [u8]) -> Loaded {
+pub(crate) fn load_passing(rt: HostRuntime, path: &[u8], sheet: &mut [u8]) -> Loaded {
     let mut bytes = memory();
-    pass_into(path, &mut bytes, sheet)
+    pass_into(rt, path, &mut bytes, sheet)
 }

@@ -13,9 +13,6 @@ use native.Mathlib.Omega.{arith}
 use lib.ListN.{length, take, drop, length-append, length-drop}
 use lib.Seq.{drop-drop, drop-append_seam, take-append_seam}
 use borrow.Author.Tests.{ne_eqb}
-use types.Run.{OneOf, miss}
-use denote.Enum.Declared
-use Rattle.tokens.specs.contracts.Answer as answer
 use Rattle.tokens.specs.declared.Cursor.{Cursor}
 use Rattle.tokens.specs.declared.Event.{Event}
 use Rattle.tokens.specs.declared.Event.TheVariants.{Start, End, Empty, Character}
@@ -318,9 +315,6 @@ module _ {s : List ℕ} {z₀ : State} {part : List ℕ} (ended_now : Bool) {len
       subst (λ (x : List ℕ). Ran s z₀ part ended_now lent x q) h.1 (ends_with ended_now g r.number h.0 q t)
 
 -- no token comes next
-pub no_whole_token : (x : Answer) → OneOf (1 ∷ 2 ∷ 3 ∷ 4 ∷ []) (Declared.tag_of answer.the_type x) → (e : Event) (next : Cursor) → x ≡ Token e next → ⊥
-no_whole_token x h e next q = miss (1 ∷ 2 ∷ 3 ∷ 4 ∷ []) 0 tt (subst (λ (y : Answer). OneOf (1 ∷ 2 ∷ 3 ∷ 4 ∷ []) (Declared.tag_of answer.the_type y)) q h)
-
 numbered : (more : Bool) (part : List ℕ) (at left : ℕ) (c : Control) (x : Answer) (n : ℕ) → ReadAs more part at x → ((e : Event) (next : Cursor) → x ≡ Token e next → ⊥) →
     NumberedAs more left c x n → number_at more left c x ≡ some n
 numbered more part at left c (Token e next) n r w h = absurd (w e next refl)
@@ -347,12 +341,12 @@ module _ {s : List ℕ} {z₀ : State} {part : List ℕ} (ended_now : Bool) {len
 
 -- the reader's answer, settled: one that does not wait stays, one that waits is a token where the stream has ended, and else begun
 module _ (ended_now : Bool) (part : List ℕ) (at : ℕ) (y : Answer) (m : Means (front part at) at y) where
-  pub settled_same : OneOf (0 ∷ 2 ∷ 3 ∷ 4 ∷ []) (Declared.tag_of answer.the_type y) → ReadAs (not ended_now) part at y
+  pub settled_same : ((e : Event) (next : Cursor) → y ≡ Waiting e next → ⊥) → ReadAs (not ended_now) part at y
   settled_same h = (y, m, by y h)
     where
-      by : (x : Answer) → OneOf (0 ∷ 2 ∷ 3 ∷ 4 ∷ []) (Declared.tag_of answer.the_type x) → x ≡ settled (not ended_now) x
+      by : (x : Answer) → ((e : Event) (next : Cursor) → x ≡ Waiting e next → ⊥) → x ≡ settled (not ended_now) x
       by (Token e next) h = refl
-      by (Waiting e next) h = absurd (miss (0 ∷ 2 ∷ 3 ∷ 4 ∷ []) 1 tt h)
+      by (Waiting e next) h = absurd (h e next refl)
       by Begun h = refl
       by Bad h = refl
       by Long h = refl

@@ -1,4 +1,7 @@
 // The converter: one call over the bytes of a sheet and of a part of a stream, with a state handed in and handed back.
+
+#![tactic(auto)]
+
 ghost use Rattle.std.specs.Prelude.{◌≡◌, not, List, ℕ, ◌≤◌, length};
 ghost use Rattle.std.proofs.Math.Option.{some};
 ghost use Rattle.layout.specs.LaidOut.{LaidOut};
@@ -26,7 +29,7 @@ use stretches::Stretch;
 use tokens::{Answer, Cursor};
 
 // What a call answers: the number, the bytes taken of the part, the bytes written, the count of visits, and the state handed back.
-#[derive(Drop)]
+#[derive(Clone, Copy)]
 pub struct Reply {
     pub number: usize,
     pub taken: usize,
@@ -36,7 +39,7 @@ pub struct Reply {
 }
 
 // The same of a call whose state is bytes, which are changed where they lie.
-#[derive(Drop)]
+#[derive(Clone, Copy)]
 pub struct Counts {
     pub number: usize,
     pub taken: usize,
@@ -45,7 +48,7 @@ pub struct Counts {
 }
 
 // What a run comes to, with the live part of the state that is left.
-#[derive(Drop)]
+#[derive(Clone, Copy)]
 pub struct LiveReply {
     pub number: usize,
     pub taken: usize,

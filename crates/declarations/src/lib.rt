@@ -1,4 +1,7 @@
 // A content model's nodes in preorder, by value: kind and argument of each, and how deep they go.
+
+#![tactic(auto)]
+
 ghost use Rattle.std.specs.Prelude.{◌≡◌};
 ghost use Rattle.expressions.specs.Expr.{nonterminal, anychar, atom};
 ghost use Rattle.declarations.specs.Nodes.{Shows, OrNameIs, LeafNodesAre, JoinedNodes, Deeper, OverTwoIs, StarShown, MarkedAs, BehindAs};
@@ -6,7 +9,7 @@ ghost use Rattle.declarations.specs.Nodes.{Shows, OrNameIs, LeafNodesAre, Joined
 // The bytes of the most nodes that one byte of a text makes of a model within its limits.
 pub const MOST: usize = 132;
 
-#[derive(Drop)]
+#[derive(Clone, Copy)]
 pub struct NodeRow {
     // How many of the bytes are the model's, two for each node.
     pub length: usize,

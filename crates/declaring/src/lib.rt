@@ -1,1 +1,3 @@
 // Declarations written as a sheet: the rules that they are, and the answer, number and bytes.
+
+#![tactic(auto)]

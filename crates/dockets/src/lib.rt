@@ -1,5 +1,8 @@
 // What is kept beside a declaration that is being read: the names mentioned and the tags declared so far, the records of the declarations before, and
 // whether these were more than a sheet can hold.
+
+#![tactic(auto)]
+
 ghost use Rattle.std.specs.Prelude.{◌≡◌};
 ghost use Rattle.dockets.specs.Noted.{Noting, NotedIs};
 ghost use Rattle.dockets.specs.Concluded.{crowded_by, Concluding, ConcludedIs};
@@ -9,7 +12,7 @@ use entries::Tally;
 use rosters::Roster;
 use stages::NameEnd;
 
-#[derive(Drop)]
+#[derive(Clone, Copy)]
 pub struct Docket {
     pub names: Roster,
     pub tags: Roster,

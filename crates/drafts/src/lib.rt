@@ -1,4 +1,7 @@
 // Where a reader of rules stands, in numbers and an array of open parentheses: it steps by kinds of token.
+
+#![tactic(auto)]
+
 ghost use Rattle.std.specs.Prelude.{◌≡◌, ◌≤◌, ◌<◌};
 ghost use Rattle.lexemes.specs.Kinds.{kinds};
 ghost use Rattle.sketches.specs.declared.Move.{Move};
@@ -9,7 +12,7 @@ ghost use Rattle.drafts.specs.Drafted.{sketch_of, SteppedIs, SmallMove, SoundDra
 
 // A place in a text: the point, the pairs of parentheses around, outermost first, how many they are, and how many productions and nodes stand
 // before this production.
-#[derive(Drop)]
+#[derive(Clone, Copy)]
 pub struct Draft {
     pub point: sketches::Point,
     pub around: [sketches::Paren; 32],
@@ -19,7 +22,7 @@ pub struct Draft {
 }
 
 // Whether a token was taken, and where the reader stands then.
-#[derive(Drop)]
+#[derive(Clone, Copy)]
 pub struct Stepped {
     pub taken: bool,
     pub draft: Draft,
@@ -148,7 +151,7 @@ fn after_move(d: Draft, m: sketches::Move) -> Stepped
 }
 
 // The nodes and the depth of a tree with what lies around it.
-#[derive(Drop)]
+#[derive(Clone, Copy)]
 struct Size {
     nodes: usize,
     depth: usize,
@@ -273,7 +276,7 @@ pub fn step(d: Draft, kind: usize) -> Stepped
 
 // What a point says besides: whether a program is being read there, whether for the second visit, whether a text may end there, and the point
 // behind the program.
-#[derive(Drop)]
+#[derive(Clone, Copy)]
 pub struct Place {
     pub reads: bool,
     pub second: bool,

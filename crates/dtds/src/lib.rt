@@ -1,4 +1,7 @@
 // Content models from a DTD: declarations are read byte by byte and written as a sheet into lent memory; or 50 to 56, or 43, with what goes with them.
+
+#![tactic(auto)]
+
 ghost use Rattle.std.specs.Prelude.{◌<◌, length};
 ghost use Rattle.declaring.specs.Declares.{DeclaredAs};
 ghost use Rattle.scans.specs.Scans.{Rooms, ReadUpTo, ByteIs};
@@ -6,7 +9,7 @@ ghost use Rattle.scans.specs.Scans.{Rooms, ReadUpTo, ByteIs};
 use scans::Scan;
 
 // A number, and the count that goes with it.
-#[derive(Drop)]
+#[derive(Clone, Copy)]
 pub struct Declared {
     pub number: usize,
     pub count: usize,

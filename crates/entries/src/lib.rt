@@ -1,4 +1,7 @@
 // A declaration that is over, put behind those before it: its production's record, and its nodes, which have no programs.
+
+#![tactic(auto)]
+
 ghost use Rattle.std.specs.Prelude.{true, ◌+◌, ◌*◌, ◌<◌, ◌^◌, length};
 ghost use Rattle.lent.specs.Put.{PutAs};
 ghost use Rattle.declaring.specs.Sections.{node_records};
@@ -7,7 +10,7 @@ ghost use Rattle.entries.specs.Entries.{EntryFits, EnteredIs};
 use declarations::NodeRow;
 
 // How many declarations have their records, and how many nodes they have together.
-#[derive(Drop)]
+#[derive(Clone, Copy)]
 pub struct Tally {
     pub productions: usize,
     pub nodes: usize,

@@ -1,4 +1,7 @@
 // Why a token of a schedule was refused: what stands there instead of one; and bytes of a schedule as they can be read.
+
+#![tactic(auto)]
+
 mod front;
 mod shown;
 

@@ -1,13 +1,12 @@
 // Bytes of a schedule as they can be read: characters as they are, and others, which could be taken for nothing or for another, by number.
 ghost use Rattle.std.specs.Prelude.{◌≤◌};
 
-use libc::STDOUT_FILENO;
 use std::num::wrapping_add_usize;
 use text::Decoded;
-use words::tell;
+use words::{STDOUT_FILENO, tell};
 
 // How many bytes were shown, and in how many columns.
-#[derive(Drop)]
+#[derive(Clone, Copy)]
 struct Step {
     bytes: usize,
     columns: usize,

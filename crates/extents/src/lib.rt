@@ -1,4 +1,7 @@
 // The bytes and the nesting of parts, put together; what lies around a place in a program; and what tokens of a kind can be.
+
+#![tactic(auto)]
+
 ghost use Rattle.std.specs.Prelude.{◌≡◌, ◌&&◌, ◌≤◌, ◌<◌};
 ghost use Rattle.programs.specs.Parsed.{which_visit};
 ghost use Rattle.outlines.specs.Extents.{paired, in_turn, branching};
@@ -11,21 +14,21 @@ ghost use Rattle.extents.specs.Held.{ExtentIs, SmallExtent, extent_of, side_of, 
 use lexing::larger;
 
 // How many bytes a part has, and how deep if, not, and, or nest in it.
-#[derive(Drop)]
+#[derive(Clone, Copy)]
 pub struct Extent {
     pub bytes: usize,
     pub nested: usize,
 }
 
 // What stands left of an and or an or.
-#[derive(Drop)]
+#[derive(Clone, Copy)]
 pub enum Side {
     Blank,
     Of(Extent),
 }
 
 // What stands to the left within one pair of parentheses.
-#[derive(Drop)]
+#[derive(Clone, Copy)]
 pub struct Margin {
     pub or_left: Side,
     pub and_left: Side,
@@ -33,14 +36,14 @@ pub struct Margin {
 }
 
 // A list with what stands before the place in it, or an if with the place in its first or its second branch.
-#[derive(Drop)]
+#[derive(Clone, Copy)]
 pub enum Layer {
     Among(Extent),
     Then(Extent),
     Else(Extent, Extent),
 }
 
-#[derive(Drop)]
+#[derive(Clone, Copy)]
 pub struct Around {
     pub layer: Layer,
 }
@@ -55,7 +58,7 @@ impl Margin {
     pub const MOST: usize = 33;
 }
 
-#[derive(Drop)]
+#[derive(Clone, Copy)]
 pub struct Closed {
     pub whole: Extent,
     pub left: usize,

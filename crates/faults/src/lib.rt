@@ -1,4 +1,7 @@
 // The checker: a rule sheet's bytes and a lent list in; a number of the table, the count of the faults and the list of them out.
+
+#![tactic(auto)]
+
 ghost use Rattle.std.specs.Prelude.{◌≡◌, [], ◌∷◌, ◌+◌, ◌<◌, ◌≤◌, ◌^◌};
 ghost use Rattle.expressions.specs.Grammar.{nonterminals, content_of, only_if, tags_of};
 ghost use Rattle.expressions.specs.FaultList.{list_bytes};
@@ -18,7 +21,7 @@ use sheet::defect;
 use trees::{all_alike, atoms_of, count_from, is_many};
 
 // The number of the table, and how many faults there are.
-#[derive(Drop)]
+#[derive(Clone, Copy)]
 pub struct Checked {
     pub number: u8,
     pub count: usize,
@@ -199,7 +202,7 @@ fn s_faults(s: &[u8], l: Layout, known: &[u8], list: &mut [u8], at: usize, write
 }
 
 // Where the T faults end in the list, and where all faults do.
-#[derive(Drop)]
+#[derive(Clone, Copy)]
 struct Ends {
     t: usize,
     all: usize,

@@ -96,6 +96,8 @@ module _ (g : List Production) where
 
   same_frames : (may : Option ℕ) (fs hs : List Frame) → FramesInUse fs hs → FramesFit g may fs → FramesFit g may hs
   same_frames may [] [] neither k = tt
+  same_frames may [] (h ∷ hs) e k = elim e [ ]
+  same_frames may (f ∷ fs) [] e k = elim e [ ]
   same_frames may (f ∷ fs) (h ∷ hs) (both e r) k =
       let c : child_at (content_of g f.production) f.place ≡ child_at (content_of g h.production) h.place =
       ap (λ (q : ℕ). child_at (content_of g q) f.place) e.production ∙ ap (child_at (content_of g h.production)) e.place in

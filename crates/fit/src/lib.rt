@@ -1,4 +1,7 @@
 // Whether a state handed in fits a sheet: number 29.
+
+#![tactic(auto)]
+
 ghost use Rattle.std.specs.Prelude.{◌≡◌, false, ◌+◌, ◌≤◌, ◌<◌, take};
 ghost use Rattle.tells.specs.Tells.{Tells};
 ghost use Rattle.layout.specs.LaidOut.{LaidOut};
@@ -22,7 +25,7 @@ use state::{Frame, Saved, State};
 const NO_CHILD: usize = 256;
 
 // A place of an expression: whether the expression has it, the nonterminal that an element open there is of, and how many nodes are open.
-#[derive(Drop)]
+#[derive(Clone, Copy)]
 pub struct Spot {
     pub there: bool,
     pub child: usize,
@@ -30,7 +33,7 @@ pub struct Spot {
 }
 
 // What a walk over a tree found, the node past the tree, and the atom past its atoms.
-#[derive(Drop)]
+#[derive(Clone, Copy)]
 pub struct Walked {
     pub spot: Spot,
     pub next: usize,
@@ -38,7 +41,7 @@ pub struct Walked {
 }
 
 // Whether an open element fits, and the child that its place can have.
-#[derive(Drop)]
+#[derive(Clone, Copy)]
 pub struct Fitted {
     pub ok: bool,
     pub child: usize,

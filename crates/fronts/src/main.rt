@@ -1,5 +1,8 @@
 // Runs the token reader over the fronts of its input, a line of hex digits for each. It writes a line for each: the answer in words with its numbers,
 // and for a token what the writer writes of it again, in hex.
+
+#![tactic(auto)]
+
 ghost use Rattle.std.specs.Prelude.{◌+◌, ◌≤◌, length};
 ghost use Rattle.text.specs.Chars.{Char};
 

@@ -1,9 +1,12 @@
 // What stands between tokens, up to the next one or to the text's end.
+
+#![tactic(auto)]
+
 ghost use Rattle.std.specs.Prelude.{◌≡◌, ◌≤◌, ◌<◌, length, get_or};
 ghost use Rattle.notation.specs.Gaps.{in_comment};
 ghost use Rattle.gaps.specs.Skipped.{SkippedIs, CommentRun};
 
-#[derive(Drop)]
+#[derive(Clone, Copy)]
 pub enum Skipped {
     // A gap, and then a byte that is in none: where it stands.
     To(usize),

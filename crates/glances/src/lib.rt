@@ -1,4 +1,7 @@
 // A look ahead over the statements of a program section: where a statement or a list of them ends, and whether a list is written as one statement.
+
+#![tactic(auto)]
+
 ghost use Rattle.std.specs.Prelude.{◌≡◌, ◌+◌, ◌≤◌, ◌<◌, length, get_or};
 ghost use Rattle.programs.specs.Program.{condition_bytes, statement_bytes, program_bytes};
 ghost use Rattle.glances.specs.Glances.{EndsAt, ItemsLeft, ShapeIs};

@@ -1,10 +1,13 @@
 // The strings that a program of a sheet prints, each kept once in a store of lent memory.
+
+#![tactic(auto)]
+
 ghost use Rattle.std.specs.Prelude.{◌≡◌, ◌+◌, ◌≤◌, ◌<◌, length, get_or};
 ghost use Rattle.stores.specs.Rows.{HasRows};
 ghost use Rattle.gleans.specs.Gleans.{KeptAs, StringIs, StatementStrings, ListStrings};
 
 // Whether all strings so far have room, and how many they are.
-#[derive(Drop)]
+#[derive(Clone, Copy)]
 pub struct Kept {
     pub ok: bool,
     pub count: usize,

@@ -1,4 +1,7 @@
 // The strings that the programs of a sheet print, stored once: whether the rules that it is have room for theirs. Number 42.
+
+#![tactic(auto)]
+
 ghost use Rattle.layout.specs.Layout.{production_count, node_count};
 ghost use Rattle.layout.specs.LaidOut.{LaidOut};
 ghost use Rattle.layout.specs.Records.{first_program_of, second_program_of, first_program_of_node, second_program_of_node};

@@ -1,4 +1,7 @@
 // The bytes of a salvage run's state: what returns when a record is dropped, as the bytes of a state of its own; where the run stands; and whether they fit a sheet (29).
+
+#![tactic(auto)]
+
 ghost use Rattle.std.specs.Prelude.{◌≡◌, ◌<◌, length, replicate};
 ghost use Rattle.layout.specs.LaidOut.{LaidOut};
 ghost use Rattle.sheet.specs.Defect.{WellFormed};

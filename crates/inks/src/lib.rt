@@ -1,4 +1,7 @@
 // The bytes of a program of a rule text while it is read, by value: each token puts its bytes behind the others, or one byte in among them.
+
+#![tactic(auto)]
+
 ghost use Rattle.std.specs.Prelude.{◌≡◌, [], ◌∷◌, ◌≤◌};
 ghost use Rattle.limits.specs.Limits.{longest_program};
 ghost use Rattle.strokes.specs.Strokes.{inks, most_stacked, operand_on, inked, writes, tests, elses, ends, separates, conjoins, disjoins, opens, closes, no_ink, operand_code, plain_stroke, word_stroke, sign_stroke, stroke_of, item_bytes, sealed_bytes};
@@ -10,7 +13,7 @@ use pages::{Page, Stack, low};
 // A program that is being read: its bytes so far; what an operand would be, 0 the target of an assignment, 1 what is assigned, 2 a comparison's first, 3 its
 // second; the target; what lies around the place, 0 a list, 1 an if in its second branch, 2 an if in its first; and for each open parenthesis where an or and
 // an and would be put in.
-#[derive(Drop)]
+#[derive(Clone, Copy)]
 pub struct Ink {
     pub page: Page,
     pub mode: usize,

@@ -1,4 +1,7 @@
 // What is told of a text of declarations wherever the machine of bytes stands, and that every text has an answer, in specs/; the number of a byte at which no text goes on.
+
+#![tactic(auto)]
+
 ghost use Rattle.std.specs.Prelude.{length};
 ghost use Rattle.tells.specs.Tells.{Tells};
 ghost use Rattle.models.specs.Answers.{WordAt, EntityAt, AttlistAt};

@@ -1,4 +1,7 @@
 // Where the parts of a rule sheet lie in its bytes, and what its records hold: numbers 1 and 2.
+
+#![tactic(auto)]
+
 ghost use Rattle.std.specs.Prelude.{◌+◌, ◌<◌, ◌≤◌, length};
 ghost use Rattle.tells.specs.Tells.{Tells};
 ghost use Rattle.layout.specs.Layout.{byte_at, word_at, trailer_word, Sections};
@@ -6,7 +9,7 @@ ghost use Rattle.layout.specs.Records.{production_at, nonterminal_of, tag_number
 ghost use Rattle.layout.specs.LaidOut.{NumberRead, Follows, LayoutIs, LaidOut};
 
 // The trailer's twelve numbers.
-#[derive(Drop)]
+#[derive(Clone, Copy)]
 pub struct Layout {
     pub tags_at: usize,
     pub tags: usize,

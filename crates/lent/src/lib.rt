@@ -1,4 +1,7 @@
 // Bytes into lent memory from an offset on, or dry: only counted.
+
+#![tactic(auto)]
+
 ghost use Rattle.std.specs.Prelude.{◌≡◌, [], ◌∷◌, ◌+◌, ◌<◌, ◌^◌, length};
 ghost use Rattle.lent.specs.Put.{put, PutAs};
 

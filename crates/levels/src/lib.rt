@@ -1,5 +1,8 @@
 // A place in a content model while it is read, by value: the model that was read last there, and what stands to its left in each open pair of
 // parentheses; the nodes and the depth of all of it.
+
+#![tactic(auto)]
+
 ghost use Rattle.levels.specs.Levels.{BareLevelIs, OpenedIs, NamedIs, MarkIn, JoinIs, PushIs, CloseIs};
 ghost use Rattle.levels.specs.Sizes.{RowSize, BehindSize, SizedAround, MeasuredAs, WantingAs};
 
@@ -9,14 +12,14 @@ use declarations::NodeRow;
 pub const DEEPEST: usize = 32;
 
 // What stands to the left within one pair of parentheses: nothing (0), models with commas (3) or with bars (4), by their nodes.
-#[derive(Drop)]
+#[derive(Clone, Copy)]
 pub struct Level {
     pub kind: u8,
     pub nodes: NodeRow,
 }
 
 // The model that was read last, what stands to its left, and what stands to the left in the pairs around, outermost first.
-#[derive(Drop)]
+#[derive(Clone, Copy)]
 pub struct Nest {
     pub model: NodeRow,
     pub here: Level,
@@ -24,7 +27,7 @@ pub struct Nest {
     pub open: usize,
 }
 
-#[derive(Drop)]
+#[derive(Clone, Copy)]
 pub struct ModelSize {
     pub nodes: usize,
     pub deep: usize,

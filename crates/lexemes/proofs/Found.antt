@@ -485,30 +485,6 @@ kinds_done may x k p l h = Lexed.no_token {k = p} (record {
 pub tried_as : (May : TextToken → Type 0) (x : List ℕ) (r v : Tried) → r ≡ v → TriedIs May x r → TriedIs May x v
 tried_as May x r v e h = subst (TriedIs May x) e h
 
--- what is left when the others are told apart
-more : (i k : ℕ) → i ≤ k → (k ≡ i → ⊥) → i + 1 ≤ k
-more i k l n = on (ℕ_discrete k i)
-  where
-    on : Dec (k ≡ i) → i + 1 ≤ k
-    on (yes e) = absurd (n e)
-    on (no e) = omega arith
-
-same : (i k : ℕ) → i ≤ k → k < i + 1 → k ≡ i
-same i k l h = omega arith
-
-pub last_varied : (k : ℕ) → k < 10 → (k ≡ 0 → ⊥) → (k ≡ 1 → ⊥) → (k ≡ 2 → ⊥) → (k ≡ 3 → ⊥) → (k ≡ 4 → ⊥) → (k ≡ 5 → ⊥) → (k ≡ 6 → ⊥) → (k ≡ 7 → ⊥) → (k ≡ 8 → ⊥) → k ≡ 9
-last_varied k h n0 n1 n2 n3 n4 n5 n6 n7 n8 =
-    let g0 : 1 ≤ k = more 0 k (omega arith) n0 in
-    let g1 : 2 ≤ k = more 1 k g0 n1 in
-    let g2 : 3 ≤ k = more 2 k g1 n2 in
-    let g3 : 4 ≤ k = more 3 k g2 n3 in
-    let g4 : 5 ≤ k = more 4 k g3 n4 in
-    let g5 : 6 ≤ k = more 5 k g4 n5 in
-    let g6 : 7 ≤ k = more 6 k g5 n6 in
-    let g7 : 8 ≤ k = more 7 k g6 n7 in
-    let g8 : 9 ≤ k = more 8 k g7 n8 in
-    same 9 k g8 h
-
 -- the word (but for EMPTY, whose kind is the last), the sign of a kind
 word_of_12 : (k : ℕ) → 22 ≤ k → k < 23 → (v : Keyword) × (k ≡ word_number v)
 word_of_12 k l h = (NOT, omega arith)

@@ -1,4 +1,7 @@
 // Which token bytes begin with, where only some tokens may stand: tried kind by kind.
+
+#![tactic(auto)]
+
 ghost use Rattle.std.specs.Prelude.{[], ◌++◌, ◌-◌, ◌≤◌, ◌<◌, length, take, drop};
 ghost use Rattle.lexing.specs.Reads.{ReadIs, stops_at, OneSpelling};
 ghost use Rattle.lexemes.specs.Kinds.{kinds, OfKind, TriedIs, MayIf, Lexed};
@@ -78,7 +81,7 @@ fn of_kind(x: &[u8], k: usize, may: bool) -> lexing::Tried
     lexing::Tried::Stuck(0)
 }
 
-#[derive(Drop)]
+#[derive(Clone, Copy)]
 pub enum Lexeme {
     // A token: its kind, its number, and how many bytes it takes.
     Token(usize, usize, usize),

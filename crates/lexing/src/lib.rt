@@ -1,11 +1,14 @@
 // Spellings that bytes begin with, sort by sort: a whole one with its number, or the byte at which none of the sort goes on.
+
+#![tactic(auto)]
+
 ghost use Rattle.std.specs.Prelude.{◌≡◌, true, false, [], ◌++◌, ◌≤◌, ◌<◌, max, length, get_or};
 ghost use Rattle.text.specs.Names.{name_byte};
 ghost use Rattle.notation.specs.Tokens.{decimal};
 ghost use Rattle.notation.specs.Spelled.{word_byte};
 ghost use Rattle.lexing.specs.Reads.{Common, ReadIs, stops_at, nothing, OneSpelling, NumberBehind, NameRun, NameSpelling, TagSpelling, CharSpelling, width_of, escape_byte, PieceSpelling, StringSpelling};
 
-#[derive(Drop)]
+#[derive(Clone, Copy)]
 pub enum Tried {
     // One of the sort, its number, and how many bytes it takes.
     Whole(usize, usize),

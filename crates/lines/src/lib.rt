@@ -1,4 +1,7 @@
 // Productions of a sheet as lines of text, and its whole text, into lent memory from an offset on. A dry run only counts.
+
+#![tactic(auto)]
+
 ghost use Rattle.std.specs.Prelude.{◌+◌, ◌≤◌, ◌<◌};
 ghost use Rattle.output.specs.Reach.{farthest};
 ghost use Rattle.layout.specs.LaidOut.{LaidOut};

@@ -1,4 +1,7 @@
 // The live part of a state: all that a token can change, by value. The elements around the innermost one lie in lent memory, and are touched by a push and a pop alone.
+
+#![tactic(auto)]
+
 ghost use Rattle.std.specs.Prelude.{◌≡◌, ◌+◌, ◌≤◌, ◌<◌, ◌^◌, length};
 ghost use Rattle.runs.specs.Machine.{most};
 ghost use Rattle.state.specs.Bounds.{stack_width};
@@ -8,7 +11,7 @@ use state::bytes::{put_used, used_at};
 use state::{Frame, Saved, State};
 
 // Attributes, echo, the count of visits, whether the root has been closed, the closing number, how many elements are open, and the innermost of them.
-#[derive(Drop)]
+#[derive(Clone, Copy)]
 pub struct Live {
     pub values: [u8; State::ATTRIBUTES],
     pub echo: bool,
@@ -19,7 +22,7 @@ pub struct Live {
     pub top: Frame,
 }
 
-#[derive(Drop)]
+#[derive(Clone, Copy)]
 pub struct Restored {
     pub saved: Saved,
     pub live: Live,

@@ -1,4 +1,7 @@
 // Looking up in a sheet: the tag of a name, the production of a nonterminal and a tag, and where white space is no event.
+
+#![tactic(auto)]
+
 ghost use Rattle.std.specs.Prelude.{◌≡◌, ◌<◌, length};
 ghost use Rattle.layout.specs.LaidOut.{LaidOut};
 ghost use Rattle.trees.specs.Parsed.{RunsInside};

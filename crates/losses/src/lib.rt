@@ -1,11 +1,15 @@
 // The stretches of a schedule that were dropped, told by a second reading of it: the lines, the bytes, the number in words and the first words of what was
 // lost; and how many programmes were kept.
+
+#![tactic(auto)]
+
 mod first_words;
 mod rereading;
 
 ghost use Rattle.std.specs.Prelude.{◌≡◌, ◌<◌, ◌≤◌, length};
 ghost use Rattle.losses.specs.Reports.{end_of_last};
 
+use files::Opened;
 use first_words::say_first_words;
 use places::say_count;
 use rereading::{Walk, pass, pass_stretch, put_mark};
@@ -22,7 +26,7 @@ const LAST: usize = 8;
 const NUMBER: usize = 16;
 
 // A stretch that was dropped: how many bytes come before it, how many it has, and the number that refused it.
-#[derive(Drop)]
+#[derive(Clone, Copy)]
 pub struct Stretch {
     pub first: u64,
     pub size: u64,
@@ -95,14 +99,20 @@ fn say_lines(first: u64, last: u64) {
 }
 
 // One stretch, with the bytes before it still to be passed.
-fn tell_stretch(fd: i32, part: &mut [u8], s: Stretch, mark: &[u8], from: Walk) -> Walk {
-    let before = pass(fd, part, wrapping_sub_u64(s.first, from.offset), mark, from);
+fn tell_stretch(file: &mut Opened, part: &mut [u8], s: Stretch, mark: &[u8], from: Walk) -> Walk {
+    let before = pass(
+        file,
+        part,
+        wrapping_sub_u64(s.first, from.offset),
+        mark,
+        from,
+    );
     let first = before.next_line();
-    let held = rereading::read_some(fd, part, s.size);
+    let held = rereading::read_some(file, part, s.size);
     say(b"Dropped: ");
     say_first_words(&part[..held]);
     say(b"\n  ");
-    let after = pass_stretch(fd, part, held, s.size, before);
+    let after = pass_stretch(file, part, held, s.size, before);
     if after.there {
         say_lines(first, after.solid);
     }
@@ -111,11 +121,11 @@ fn tell_stretch(fd: i32, part: &mut [u8], s: Stretch, mark: &[u8], from: Walk) -
 }
 
 // Every stretch, one after another.
-fn tell_each(fd: i32, part: &mut [u8], report: &[u8], mark: &[u8]) -> Walk {
+fn tell_each(file: &mut Opened, part: &mut [u8], report: &[u8], mark: &[u8]) -> Walk {
     let mut w = Walk::start();
     let mut i = 0;
     while i < report.len() {
-        w = tell_stretch(fd, part, stretch_in(&report[i..]), mark, w);
+        w = tell_stretch(file, part, stretch_in(&report[i..]), mark, w);
         i = next_entry(i, report.len());
     }
     w
@@ -144,8 +154,8 @@ fn tell_bytes(report: &[u8]) {
 }
 
 // How many programmes were kept: those whose start tags stand in what is left of the schedule, too.
-fn tell_kept(fd: i32, part: &mut [u8], mark: &[u8], from: Walk) {
-    let end = pass(fd, part, u64::MAX, mark, from);
+fn tell_kept(file: &mut Opened, part: &mut [u8], mark: &[u8], from: Walk) {
+    let end = pass(file, part, u64::MAX, mark, from);
     say(b"Programmes kept: ");
     say_count(end.kept);
     say(b".\n");
@@ -153,19 +163,19 @@ fn tell_kept(fd: i32, part: &mut [u8], mark: &[u8], from: Walk) {
 
 // The stretches of a report on a schedule that is open and was read once; where it was taken whole, how many programmes were kept, too. A schedule that cannot be
 // read again, as from a pipe, has its bytes told.
-pub fn tell_losses(fd: i32, part: &mut [u8], report: &[u8], whole: bool) {
+pub fn tell_losses(file: &mut Opened, part: &mut [u8], report: &[u8], whole: bool) {
     if report.len() == 0 {
         return;
     }
     let s = stretch_in(report);
     let mut mark = [0u8; TAG];
-    let n = put_mark(fd, s.first, &mut mark);
+    let n = put_mark(file, s.first, &mut mark);
     if n == 0 {
         tell_bytes(report);
         return;
     }
-    let w = tell_each(fd, part, report, &mark[..n]);
+    let w = tell_each(file, part, report, &mark[..n]);
     if whole {
-        tell_kept(fd, part, &mark[..n], w);
+        tell_kept(file, part, &mark[..n], w);
     }
 }

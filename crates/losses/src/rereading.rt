@@ -4,11 +4,12 @@ ghost use Rattle.io.specs.Counts.{IsPrefixLen};
 ghost use Rattle.behind.specs.Lines.{line_on};
 ghost use Rattle.losses.specs.Walks.{next_line, HasRead, ReadsOn};
 
+use files::Opened;
 use std::num::wrapping_add_u64;
 
 // Where the second reading is: how many bytes were passed, the line, the line of the last byte that is no white space, whether the last byte was a carriage
 // return, how many bytes of a record's start tag were passed, how many such tags were, and whether all that was to be passed was there.
-#[derive(Drop)]
+#[derive(Clone, Copy)]
 pub struct Walk {
     pub offset: u64,
     pub line: u64,
@@ -127,21 +128,21 @@ fn at_most(n: u64, memory: &[u8]) -> usize
 }
 
 // Reads so many bytes, as far as there are and the memory has room for them, and answers how many.
-pub(crate) fn read_some(fd: i32, part: &mut [u8], n: u64) -> usize
+pub(crate) fn read_some(file: &mut Opened, part: &mut [u8], n: u64) -> usize
     ensures upper_bound { result ≤ n }
     ensures prefix_len { IsPrefixLen result part.new }
 {
     let want = at_most(n, part);
-    let filled = files::fill(fd, &mut part[..want], 0);
+    let filled = files::fill(file, &mut part[..want], 0);
     files::within(filled.held, part)
 }
 
 // Passes so many bytes, or all that there are.
-pub(crate) fn pass(fd: i32, part: &mut [u8], n: u64, mark: &[u8], from: Walk) -> Walk {
+pub(crate) fn pass(file: &mut Opened, part: &mut [u8], n: u64, mark: &[u8], from: Walk) -> Walk {
     let mut w = from;
     let mut left = n;
     while left > 0 {
-        let held = read_some(fd, part, left);
+        let held = read_some(file, part, left);
         if held == 0 {
             return w.short();
         }
@@ -152,12 +153,18 @@ pub(crate) fn pass(fd: i32, part: &mut [u8], n: u64, mark: &[u8], from: Walk) ->
 }
 
 // Passes a stretch of so many bytes, of which some are held.
-pub(crate) fn pass_stretch(fd: i32, part: &mut [u8], held: usize, size: u64, from: Walk) -> Walk
+pub(crate) fn pass_stretch(
+    file: &mut Opened,
+    part: &mut [u8],
+    held: usize,
+    size: u64,
+    from: Walk,
+) -> Walk
     requires prefix_len { IsPrefixLen held part.old }
     requires held_le_size { held ≤ size }
 {
     let begun = through(&part[..held], b"", from);
-    let w = pass(fd, part, size - held as u64, b"", begun);
+    let w = pass(file, part, size - held as u64, b"", begun);
     w.dropping(from.kept)
 }
 
@@ -178,15 +185,14 @@ const FURTHEST: u64 = 4611686018427387904;
 
 // Puts < and the name of the tag that stands behind so many bytes of a file into the memory, and goes back to the file's start. Answers how many bytes they
 // are; 0 where the file cannot be read again.
-pub(crate) fn put_mark(fd: i32, at: u64, mark: &mut [u8]) -> usize
+pub(crate) fn put_mark(file: &mut Opened, at: u64, mark: &mut [u8]) -> usize
     ensures { IsPrefixLen result mark.new }
 {
     if at > FURTHEST {
         return 0;
     }
-    let got = libc::pread(fd, mark, at as i64);
-    let n = io::count(got, mark);
-    if libc::lseek(fd, 0, libc::SEEK_SET) != 0 {
+    let n = file.read_from(mark, at);
+    if !file.go_back() {
         return 0;
     }
     files::within(name_end(&mark[..n]), mark)

@@ -1,6 +1,8 @@
 // What the program says of itself: how it is used, what its commands and numbers mean, which version it is.
-use libc::STDERR_FILENO;
-use words::say;
+
+#![tactic(auto)]
+
+use words::{STDERR_FILENO, say};
 
 // The command was not understood: a number that the paper's table has not.
 const USAGE: u64 = 101;

@@ -1,4 +1,7 @@
 // What people are told of a rule text that is refused: where, the line with a mark under the byte, and what may stand there.
+
+#![tactic(auto)]
+
 mod spoken;
 
 ghost use Rattle.std.specs.Prelude.{◌<◌};
@@ -7,10 +10,9 @@ ghost use Rattle.lexemes.specs.Kinds.{kinds};
 use files::within;
 use gaps::Skipped;
 use lexemes::Lexeme;
-use libc::STDOUT_FILENO;
 use posts::Wanted;
 use spoken::say_kind;
-use words::say;
+use words::{STDOUT_FILENO, say};
 
 // Whether these bytes begin a token of a kind, and are not all of it.
 fn begins(front: &[u8], k: usize) -> bool

@@ -1,9 +1,12 @@
 // A file of declarations printed as rules, and what is said of it. The rules go to standard output, and nothing else does.
+
+#![tactic(auto)]
+
 mod names;
 mod told;
 
 use files::within;
-use libc::STDOUT_FILENO;
+use std::io::{Result, Write, writer};
 use told::complain;
 
 // A file could not be read or written: a number that the paper's table has not.
@@ -17,34 +20,41 @@ fn judge(path: &[u8], text: &[u8], sheet: &[u8]) -> u64 {
     r.number as u64
 }
 
+// Writes a text to standard output.
+fn put_out(rt: HostRuntime, text: &[u8]) -> Result<()> {
+    writer(&rt).write_all(text)
+}
+
 // Prints a sheet of declarations, which is a sheet that has a text, by way of memory that is lent.
-fn print_through(sheet: &[u8], text: &mut [u8]) -> u64 {
+fn print_through(rt: HostRuntime, sheet: &[u8], text: &mut [u8]) -> u64 {
     let p = prints::print(sheet, text);
     if p.number > 0 {
         return p.number as u64;
     }
     let n = within(p.count, text);
-    if !io::write_all(STDOUT_FILENO, &text[..n]) {
-        os::fail(b"standard output");
-        return FILE;
+    match put_out(rt, &text[..n]) {
+        Ok(()) => 0,
+        Err(why) => {
+            files::fail(b"standard output", why);
+            FILE
+        }
     }
-    0
 }
 
-fn print_rules(sheet: &[u8]) -> u64 {
+fn print_rules(rt: HostRuntime, sheet: &[u8]) -> u64 {
     let mut text = io::large_buffer();
-    print_through(sheet, &mut text)
+    print_through(rt, sheet, &mut text)
 }
 
 // The declarations of a text, printed as rules.
-fn print_text(path: &[u8], text: &[u8], sheet: &mut [u8]) -> u64 {
+fn print_text(rt: HostRuntime, path: &[u8], text: &[u8], sheet: &mut [u8]) -> u64 {
     let d = dtds::declare(text, sheet);
     if d.number > 0 {
         refusals::refuse(path, text, d.number, d.count);
         return d.number as u64;
     }
     let n = within(d.count, sheet);
-    let number = print_rules(&sheet[..n]);
+    let number = print_rules(rt, &sheet[..n]);
     if number > 0 {
         return number;
     }
@@ -53,8 +63,8 @@ fn print_text(path: &[u8], text: &[u8], sheet: &mut [u8]) -> u64 {
 
 // Prints the declarations of a file as rules, says what there is to say of them, and answers the number of the table. The file is read into lent memory, which must
 // have room for a byte more.
-pub fn print_models(path: &[u8], memory: &mut [u8]) -> u64 {
-    let whole = files::read_whole(path, memory);
+pub fn print_models(rt: HostRuntime, path: &[u8], memory: &mut [u8]) -> u64 {
+    let whole = files::read_whole(rt, path, memory);
     if whole.failed {
         return FILE;
     }
@@ -65,5 +75,5 @@ pub fn print_models(path: &[u8], memory: &mut [u8]) -> u64 {
         return FILE;
     }
     let mut sheet = io::buffer();
-    print_text(path, &memory[..n], &mut sheet)
+    print_text(rt, path, &memory[..n], &mut sheet)
 }

@@ -7,7 +7,7 @@ use words::tell;
 
 // Where a word stands: behind <, where it is ELEMENT; where it is the name of the element that is declared; where it is EMPTY; in parentheses; behind #, where it
 // is PCDATA.
-#[derive(Drop)]
+#[derive(Clone, Copy)]
 pub(crate) enum Spot {
     Keyword,
     Own,
@@ -17,7 +17,7 @@ pub(crate) enum Spot {
 }
 
 // A word: its first byte, and the byte behind it.
-#[derive(Drop)]
+#[derive(Clone, Copy)]
 pub(crate) struct Word {
     pub from: usize,
     pub to: usize,

@@ -5,10 +5,9 @@ use crate::names::{
     Word, after, again, begins_several, declaration, first_name, is_declared, is_new, is_own,
     tell_name,
 };
-use libc::STDERR_FILENO;
 use places::Place;
 use std::num::wrapping_add_usize;
-use words::{tell, tell_number};
+use words::{STDERR_FILENO, tell, tell_number};
 
 // The rule by which the content of an element is read in one way, as a list of faults has it.
 const RULE_S: u8 = 9;
@@ -101,7 +100,7 @@ fn tell_remedy(text: &[u8], w: Word, number: usize)
 }
 
 // An element that is not declared, and its nonterminal: these are numbered as the names are first mentioned.
-#[derive(Drop)]
+#[derive(Clone, Copy)]
 struct Missing {
     word: Word,
     number: usize,

@@ -1,4 +1,7 @@
 // What people are told of a conversion: how much was done, or what was refused, where, and inside which open elements.
+
+#![tactic(auto)]
+
 ghost use Rattle.std.specs.Prelude.{◌≡◌, ◌≤◌, length};
 
 use behind::{Lines, Tail};

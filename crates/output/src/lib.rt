@@ -1,4 +1,7 @@
 // Output text into lent memory, from an offset on: characters escaped, start tags and end tags. A dry run only counts.
+
+#![tactic(auto)]
+
 ghost use Rattle.std.specs.Prelude.{[], ◌∷◌, ◌++◌, ◌≤◌, length};
 ghost use Rattle.lent.specs.Put.{PutAs};
 ghost use Rattle.text.specs.Chars.{Char};

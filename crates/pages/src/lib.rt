@@ -1,24 +1,27 @@
 // Bytes and stacks of a bounded size, by value: what finds no room is left out.
+
+#![tactic(auto)]
+
 ghost use Rattle.std.specs.Prelude.{◌≡◌, [], ◌∷◌, ◌≤◌, ◌%◌, length, replicate};
 ghost use Rattle.limits.specs.Limits.{longest_program};
 ghost use Rattle.strokes.specs.Strokes.{most_stacked, written_on, inserted_at, stacked, topped, first_of, rest_of, zeros_of};
 ghost use Rattle.pages.specs.Pages.{page_text, stack_at, stack_of, PageIs, StackIs, Unwound, Skipped};
 
 // The first len bytes of a page are its text.
-#[derive(Drop)]
+#[derive(Clone, Copy)]
 pub struct Page {
     pub bytes: [u8; 256],
     pub len: usize,
 }
 
-#[derive(Drop)]
+#[derive(Clone, Copy)]
 pub struct Stack {
     pub items: [usize; 33],
     pub count: usize,
 }
 
 // So many closing 0s, and the marks that are left behind them.
-#[derive(Drop)]
+#[derive(Clone, Copy)]
 pub struct Ends {
     pub zeros: usize,
     pub left: usize,

@@ -1,4 +1,7 @@
 // Programs of a sheet as text, into lent memory from an offset on. A dry run only counts.
+
+#![tactic(auto)]
+
 ghost use Rattle.std.specs.Prelude.{◌≡◌, ◌+◌, ◌*◌, ◌≤◌, ◌<◌, length, get_or};
 ghost use Rattle.lent.specs.Put.{PutAs};
 ghost use Rattle.output.specs.Reach.{farthest};

@@ -1,10 +1,13 @@
 // The records of the productions before, and the nodes of this one: a production's record is put behind the others when it ends, and its nodes are laid
 // behind the others when its tag's parentheses close.
+
+#![tactic(auto)]
+
 ghost use Rattle.std.specs.Prelude.{◌≡◌, ◌<◌};
 ghost use Rattle.pasts.specs.Pasts.{fitting, PastEndIs, LayIs};
 
 // How many productions have their records, how many bytes their nodes have, and how many bytes nodes have in all.
-#[derive(Drop)]
+#[derive(Clone, Copy)]
 pub struct Past {
     pub productions: usize,
     pub before: usize,

@@ -102,6 +102,7 @@ uncut_seeks s n h = rw (lt-ltb n (length s) h)
 
 pub uncut_found : (s : List ℕ) (n k i : ℕ) → i ≤ n → n < length s → 0 < k → character_start s n k i ≡ uncut s n → goes_on (get_or s i 0) ≡ false → UncutIs s n i
 unfolding character_start
+uncut_found s n zero i low high some inv e = elim some [ ]
 uncut_found s n (suc k) i low high some inv e =
     record { within = omega arith; most = low; same = sym (ap (λ t. cond t (character_start s n k (i - 1)) i) e) ∙ inv }
 

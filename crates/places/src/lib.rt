@@ -1,14 +1,16 @@
 // Where in a file: how many bytes come before, the line and the column; and the line that is shown, with a mark under the place.
+
+#![tactic(auto)]
+
 ghost use Rattle.std.specs.Prelude.{◌≡◌, suc, ◌-◌, ◌<◌, ◌≤◌, [], length, drop, slice_index};
 ghost use Rattle.places.specs.Lines.{goes_on, ends_line, line_ends, LastLineAt, characters_in, GoesOnTo, LineGoesTo, in_line, UncutIs, PlaceIs, Passes};
 ghost use Rattle.places.specs.Shown.{ShownFrom};
 
-use libc::STDOUT_FILENO;
 use std::num::{wrapping_add_u64, wrapping_add_usize};
-use words::tell;
+use words::{STDOUT_FILENO, tell};
 
 // The line and the column are counted from 1, the column in characters.
-#[derive(Drop)]
+#[derive(Clone, Copy)]
 pub struct Place {
     pub offset: u64,
     pub line: u64,
@@ -145,7 +147,7 @@ const BEFORE: usize = 48;
 const BEHIND: usize = 32;
 
 // From which of the bytes before a place on its line is shown, and whether bytes of the line before those are left out.
-#[derive(Drop)]
+#[derive(Clone, Copy)]
 struct Shown {
     from: usize,
     more: bool,

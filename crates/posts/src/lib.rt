@@ -1,4 +1,7 @@
 // Where a tag, an atom or a sign of an expression stands in a text of rules: the first token that is wanted, told apart by what was passed before it.
+
+#![tactic(auto)]
+
 ghost use Rattle.std.specs.Prelude.{◌≡◌, ◌≤◌, ◌<◌};
 ghost use Rattle.posts.specs.ByKind.{is_post_kind, passed_kind, is_wanted_kind};
 ghost use Rattle.posts.specs.Found.{HaltIs};
@@ -11,14 +14,14 @@ const DEFINED: usize = 23;
 
 // How many ::= signs were passed, and how many posts behind the last of them. A post is a token that is a nonterminal, a tag, CHAR, EMPTY or a sign of
 // an expression: no program has one.
-#[derive(Drop)]
+#[derive(Clone, Copy)]
 pub struct Milestone {
     pub productions: usize,
     pub posts: usize,
 }
 
 // What is looked for: the post of a number behind so many ::= signs; or a nonterminal, where it stands first.
-#[derive(Drop)]
+#[derive(Clone, Copy)]
 pub enum Wanted {
     Post(usize, usize),
     Nonterminal(usize),
@@ -26,7 +29,7 @@ pub enum Wanted {
 
 // Where a walk over tokens came to its end: at the token that is wanted, or where no token could be read any more. The byte of that token, how many
 // bytes lie before its gap, and the reader there.
-#[derive(Drop)]
+#[derive(Clone, Copy)]
 pub struct Halt {
     pub found: bool,
     pub at: usize,

@@ -1,9 +1,12 @@
 // A sheet printed as text into lent memory: its rules, as they can be read, mended and written as a sheet again.
+
+#![tactic(auto)]
+
 ghost use Rattle.printing.specs.Printed.{PrintedAs};
 ghost use Rattle.prints.specs.KeepsSix.{KeepsSix};
 
 // The number: 0, 1 to 6 as the checker's, 42 or 43; and the length written with 0, the length needed with 43.
-#[derive(Drop)]
+#[derive(Clone, Copy)]
 pub struct Printed {
     pub number: u8,
     pub count: usize,

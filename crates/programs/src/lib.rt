@@ -1,4 +1,7 @@
 // Attribution programs in a sheet's bytes: whether a section is filled by programs, and whether a field names one.
+
+#![tactic(auto)]
+
 ghost use Rattle.std.specs.Prelude.{◌≡◌, ◌&&◌, ◌+◌, ◌*◌, ◌≤◌, ◌<◌, min, length, get_or};
 ghost use Rattle.text.specs.Characters.{WholeCharacters};
 ghost use Rattle.programs.specs.Limits.{Printable};
@@ -22,7 +25,7 @@ pub const VALUES: usize = HIGHEST_VALUE as usize + 1;
 // A field that names no program.
 const NONE: usize = 65535;
 
-#[derive(Drop)]
+#[derive(Clone, Copy)]
 pub enum Parsed {
     // The byte past what was read; whether a first and a second visit may hold it.
     Whole(usize, bool, bool),

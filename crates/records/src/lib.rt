@@ -1,4 +1,7 @@
 // The records of a sheet, put into lent memory: a production's 12 bytes, a tag's 16, the trailer's 24.
+
+#![tactic(auto)]
+
 ghost use Rattle.std.specs.Prelude.{true, ◌+◌, ◌≤◌, ◌<◌, ◌^◌, length};
 ghost use Rattle.limits.specs.Limits.{longest_name};
 ghost use Rattle.lent.specs.Put.{PutAs};

@@ -1,13 +1,15 @@
 // What people are told of declarations that are refused: why, where, the line with a mark under the byte, and what may stand there.
+
+#![tactic(auto)]
+
 mod standing;
 
 ghost use Rattle.std.specs.Prelude.{◌<◌, length};
 
 use files::within;
-use libc::STDERR_FILENO;
 use stages::{Headway, Station};
 use standing::{Reached, complain, stand_behind, tell_instead};
-use words::tell_number;
+use words::{STDERR_FILENO, tell_number};
 
 // The longest name.
 const LONGEST: usize = 15;

@@ -2,12 +2,11 @@
 ghost use Rattle.std.specs.Prelude.{◌≤◌, length};
 
 use levels::ModelSize;
-use libc::STDERR_FILENO;
 use stages::{Fate, Headway, Station};
-use words::tell;
+use words::{STDERR_FILENO, tell};
 
 // Whether it stands between declarations, whether there is one already, and how far one is read.
-#[derive(Drop)]
+#[derive(Clone, Copy)]
 pub(crate) struct Reached {
     pub between: bool,
     pub some: bool,

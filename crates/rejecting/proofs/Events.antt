@@ -210,3 +210,4 @@ root_told {s} {z} x n r e k N =
     by : {a : Sheet} → IsSheet s a → (b : Bool) {y : Event} {row : List Act} → Asked (grammar a) a.start_nonterminal (cond b after before) y row → {x : Symbol} → AsksFor x y → LastNamed x s 0 n r →
         {m : Store} {c : Act} → FirstRejects a row m c → act_of r ≡ some c
     by {a} i false (of_root t q g) for_tag N F = last_named i (Tag t) 0 n r (start_tag q) N (q, ap (λ (m : ℕ). find (grammar a) m t) (k ∙ sym i.start_is) ∙ g, refl) F
+    by i true A k N F = elim A [ ]

@@ -50,6 +50,7 @@ alone {a} (in_later z' e E) = absurd (let k : took z' ≡ refused 25 = events_25
 -- only a tag of the sheet is rejected
 a_tag : {g : List _} {n : ℕ} {c : Control} (o : Option ℕ) {row : List Act} → Asked g n c (starts o) row → (t : ℕ) × (o ≡ some t)
 a_tag (some t) A = (t, refl)
+a_tag none A = elim A [ ]
 
 asks_tag : (t : ℕ) (o : Option ℕ) → t ≡ or_missing o → (u : ℕ) → o ≡ some u → AsksFor (ForTag t) (starts o)
 asks_tag t o e u k = subst (λ (p : Option ℕ). AsksFor (ForTag t) (starts p)) (sym (k ∙ ap some (sym (e ∙ ap or_missing k)))) for_tag

@@ -1,4 +1,7 @@
 // Which visit of a token rejected: where number 25 comes from.
+
+#![tactic(auto)]
+
 ghost use Rattle.std.specs.Prelude.{◌≡◌, List, ℕ, ◌+◌, ◌≤◌, ◌<◌, length};
 ghost use Rattle.layout.specs.LaidOut.{LaidOut};
 ghost use Rattle.sheet.specs.Defect.{WellFormed};
@@ -30,7 +33,7 @@ use ways::find_way;
 const REJECTS: usize = 25;
 
 // Whose visit rejected: that of a production's node, by its number in preorder from 1, or of the production itself; the second one where it is `again`.
-#[derive(Drop)]
+#[derive(Clone, Copy)]
 pub enum Rejecter {
     Node {
         production: usize,

@@ -1,4 +1,7 @@
 // What people are told of a rule sheet: whether it passes and every place to mend.
+
+#![tactic(auto)]
+
 mod faults_told;
 mod pointing;
 mod reasons;

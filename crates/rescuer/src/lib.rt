@@ -1,4 +1,7 @@
 // A call of the salvage run over its parts: step after step, until it stops.
+
+#![tactic(auto)]
+
 ghost use Rattle.std.specs.Prelude.{◌≡◌, length};
 ghost use Rattle.layout.specs.LaidOut.{LaidOut};
 ghost use Rattle.rescue.specs.Call.{larger};
@@ -9,7 +12,7 @@ use layout::Layout;
 use turns::{Given, Place, Stand};
 
 // What a run comes to: the number that it stops with, the places that it came to, the most bytes that waited at once, and where it stands.
-#[derive(Drop)]
+#[derive(Clone, Copy)]
 pub struct Ending {
     pub number: usize,
     pub place: Place,

@@ -1,4 +1,7 @@
 // The bytes in which a salvage run hands its state back: the run's own state, and behind it where the salvage run stands and what returns.
+
+#![tactic(auto)]
+
 ghost use Rattle.std.specs.Prelude.{◌≡◌, true, ◌-◌, ◌≤◌, ◌<◌, length, replicate};
 ghost use Rattle.lent.specs.Put.{put};
 ghost use Rattle.runs.specs.Machine.{most};

@@ -1,11 +1,14 @@
 // The names of declarations while they are read: a store of those mentioned, with the number of the last one.
+
+#![tactic(auto)]
+
 ghost use Rattle.rosters.specs.Rosters.{Enrolling, Enrolled};
 
 // The number of a name for which there was no room.
 pub const NONE: usize = 64;
 
 // How many names a store has, whether one had no room, and the number of the one that was filed last.
-#[derive(Drop)]
+#[derive(Clone, Copy)]
 pub struct Roster {
     pub count: usize,
     pub full: bool,

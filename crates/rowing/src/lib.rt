@@ -1,4 +1,7 @@
 // The row of bytes that a token has the stores keep: a tag's name, a string without its escapes, or the program that a } ends.
+
+#![tactic(auto)]
+
 ghost use Rattle.std.specs.Prelude.{◌≤◌};
 ghost use Rattle.inks.specs.Held.{Trim};
 ghost use Rattle.rowing.specs.Rows.{PartIs, RowOf};

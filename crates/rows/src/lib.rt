@@ -1,5 +1,8 @@
 // Rows of the kinds of token that may come next, outside programs and in one. Only a kind that the place does not refuse by itself is tried: a try
 // copies all that lies around.
+
+#![tactic(auto)]
+
 ghost use Rattle.std.specs.Prelude.{◌≡◌, ◌<◌};
 ghost use Rattle.lexemes.specs.Kinds.{kinds};
 ghost use Rattle.programs.specs.Parsed.{which_visit};

@@ -1,16 +1,19 @@
 // A reader of rules: where it stands in a text, and in the program that is being read there. It steps by kinds of token.
+
+#![tactic(auto)]
+
 ghost use Rattle.std.specs.Prelude.{◌≡◌, ◌<◌};
 ghost use Rattle.lexemes.specs.Kinds.{kinds};
 ghost use Rattle.rulings.specs.Readers.{Firm, ReadsAny, ReadsFor, Plain, AnswerIs, KindsTaken, StartIs, EndIs};
 
-#[derive(Drop)]
+#[derive(Clone, Copy)]
 pub struct Reader {
     pub draft: drafts::Draft,
     pub script: scripts::Script,
 }
 
 // Whether a kind of token is taken, and the reader behind it.
-#[derive(Drop)]
+#[derive(Clone, Copy)]
 pub struct Answer {
     pub taken: bool,
     pub reader: Reader,

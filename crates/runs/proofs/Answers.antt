@@ -275,7 +275,7 @@ module _ (s : Sheet) (ok : Passed s) (xs : List Event) (z : Configuration) (ran 
   open_tags_lem = moves_tags g n most taken.moved
 
   not_wrong : Own g n z.control x → WrongEnd xs x → ⊥
-  not_wrong own w = w.not-own (subst (Innermost w.its_tag) (sym open_tags_lem) (own w.its_tag w.is_end))
+  not_wrong own w = w.not_own (subst (Innermost w.its_tag) (sym open_tags_lem) (own w.its_tag w.is_end))
 
   -- a row that is allowed within the limit is what the machine does
   by_row : (w : AllowedWithin s (xs ++ x ∷ [])) → (c : Control) × (step s z x ≡ acted c (acts s w.0 fresh_store))

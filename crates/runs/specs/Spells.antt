@@ -15,20 +15,20 @@ use Rattle.runs.specs.Machine.{Control, before, inside, after, most, Configurati
 
 -- a tag is its number, and none where the sheet has no tag of that name
 pub data Token : Type 0 where
-  start_token End-token empty_token : Option ℕ → Token
+  start_token end_token empty_token : Option ℕ → Token
   literal : ℕ → Token  -- a character as it stands
   reference : ℕ → Token  -- one that a reference names, which is never white space
 
 abbrev pub events_of_token : Token → List Event
 events_of_token (start_token t) = starts t ∷ []
-events_of_token (End-token t) = ends t ∷ []
+events_of_token (end_token t) = ends t ∷ []
 events_of_token (empty_token t) = starts t ∷ ends t ∷ []
 events_of_token (literal c) = letter c ∷ []
 events_of_token (reference c) = letter c ∷ []
 
 abbrev pub is_blank : Token → Bool
 is_blank (start_token t) = false
-is_blank (End-token t) = false
+is_blank (end_token t) = false
 is_blank (empty_token t) = false
 is_blank (literal c) = blank c
 is_blank (reference c) = false

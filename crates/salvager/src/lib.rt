@@ -1,4 +1,7 @@
 // Before the first byte of a salvage call: the tests of the sheet, of its shape and of the state, one after another.
+
+#![tactic(auto)]
+
 ghost use Rattle.salvager.specs.Entered.{SalvageEntered};
 
 use converter::repeated;

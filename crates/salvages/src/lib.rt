@@ -1,5 +1,8 @@
 // A call of the salvage run over bytes (§12): a sheet's bytes, the bytes of a state, the next part of a stream, and lent memory for the output, for what waits
 // and for the report.
+
+#![tactic(auto)]
+
 ghost use Rattle.std.specs.Prelude.{◌≡◌, length};
 ghost use Rattle.layout.specs.LaidOut.{LaidOut};
 ghost use Rattle.state.specs.Bytes.{long_at};

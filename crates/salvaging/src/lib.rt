@@ -1,11 +1,14 @@
 // Salvaging: where reading resumes in a part of the stream.
+
+#![tactic(auto)]
+
 ghost use Rattle.std.specs.Prelude.{◌≡◌};
 ghost use Rattle.salvaging.specs.Resumed.{joined_words, EitherIs, ResumedIs};
 
 use tokens::Word;
 
 // Where reading resumes in a part.
-#[derive(Drop)]
+#[derive(Clone, Copy)]
 pub enum Resumed {
     // One of the two byte strings stands here.
     Here(usize),

@@ -1,4 +1,7 @@
 // A reader of declarations, one byte further: between declarations, and in one.
+
+#![tactic(auto)]
+
 ghost use Rattle.std.specs.Prelude.{◌≡◌, false};
 ghost use Rattle.scans.specs.Scans.{limit_by, content_in, ScanFresh, WeighedIs, BetweenIs, InText, ByteIs};
 
@@ -10,7 +13,7 @@ use stages::{Fate, Headway, Station};
 
 // Where a reader stands: whether between declarations, or how far one is read; what is kept beside it; and the number of the byte that was not taken,
 // or 0.
-#[derive(Drop)]
+#[derive(Clone, Copy)]
 pub struct Scan {
     pub out: bool,
     pub halt: usize,

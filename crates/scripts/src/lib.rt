@@ -1,4 +1,7 @@
 // The outline of a program that is being read, by value: it takes the kind of the next token, or refuses it.
+
+#![tactic(auto)]
+
 ghost use Rattle.std.specs.Prelude.{◌≡◌, true, false, cond, [], ◌∷◌, suc, ◌≤◌, ◌<◌};
 ghost use Rattle.std.proofs.Math.Option.{none, some};
 ghost use Rattle.programs.specs.Parsed.{which_visit};
@@ -14,7 +17,7 @@ ghost use Rattle.scripts.specs.Scripts.{reading_place, stage_of, layers_in, marg
 
 use extents::{Around, Extent, Layer, Margin, Side};
 
-#[derive(Drop)]
+#[derive(Clone, Copy)]
 pub enum Place {
     Opening,
     Separated,
@@ -22,7 +25,7 @@ pub enum Place {
 }
 
 // What comes next: a statement, an assignment's sign or operand, an item; in a condition what is wanted there, or what may follow; what may follow a statement.
-#[derive(Drop)]
+#[derive(Clone, Copy)]
 pub enum Stage {
     At(Place),
     Assign,
@@ -36,7 +39,7 @@ pub enum Stage {
 }
 
 // A program that is being read: where, what lies around the place, outermost first, and the open parentheses' margins, outermost first.
-#[derive(Drop)]
+#[derive(Clone, Copy)]
 pub struct Script {
     pub stage: Stage,
     pub layers: [Around; Around::MOST],
@@ -46,7 +49,7 @@ pub struct Script {
 }
 
 // Whether a kind is taken; and the script behind it.
-#[derive(Drop)]
+#[derive(Clone, Copy)]
 pub struct Taken {
     pub ok: bool,
     pub script: Script,

@@ -1,9 +1,12 @@
 // The end of a rule text that has room in a sheet: its sections bound together, or the length that they need.
+
+#![tactic(auto)]
+
 ghost use Rattle.binding.specs.Bound.{TagRows, SectionsFit};
 ghost use Rattle.sealing.specs.Sealed.{SealedIs};
 
 // A number of the writer, and the count that goes with it.
-#[derive(Drop)]
+#[derive(Clone, Copy)]
 pub struct Outcome {
     pub number: usize,
     pub count: usize,

@@ -1,4 +1,7 @@
 // Statements of a sheet's programs as text, into lent memory from an offset on: all but an if. A dry run only counts.
+
+#![tactic(auto)]
+
 ghost use Rattle.std.specs.Prelude.{◌≡◌, ◌+◌, ◌≤◌, ◌<◌, length, get_or};
 ghost use Rattle.lent.specs.Put.{PutAs};
 ghost use Rattle.output.specs.Reach.{farthest};

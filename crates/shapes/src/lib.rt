@@ -1,5 +1,8 @@
 // The shape that a salvage run asks of a sheet: the root's tag and the records' tag, or that the sheet has another shape (34). And the two byte strings at which
 // reading resumes.
+
+#![tactic(auto)]
+
 ghost use Rattle.std.specs.Prelude.{◌≡◌, ◌<◌};
 ghost use Rattle.layout.specs.LaidOut.{LaidOut};
 ghost use Rattle.trees.specs.Parsed.{RunsInside};
@@ -15,7 +18,7 @@ const MISSING: usize = 256;
 pub const MARK: usize = 18;
 
 // What the sheet is for a salvage run.
-#[derive(Drop)]
+#[derive(Clone, Copy)]
 pub enum Shape {
     // The start is a star over records: the root's tag, and the records'.
     Records { root: usize, record: usize },

@@ -1,4 +1,7 @@
 // A rule sheet in its bytes: numbers 1 to 7.
+
+#![tactic(auto)]
+
 mod fields;
 mod grounded;
 mod productions;

@@ -1,10 +1,13 @@
 // What a token mentions, filed in the store of its sort: a tag, a string, or the program that the token ends.
+
+#![tactic(auto)]
+
 ghost use Rattle.std.specs.Prelude.{◌≡◌};
 ghost use Rattle.stores.specs.Rows.{HasRows};
 ghost use Rattle.shelves.specs.Shelves.{FilingIs, Rowed, ShelvedIs};
 
 // A row that is filed: that there is no room for it; or how many rows there are then, and the place and the offset of this one.
-#[derive(Drop)]
+#[derive(Clone, Copy)]
 pub struct Filing {
     pub full: bool,
     pub count: usize,
@@ -47,7 +50,7 @@ pub fn shelve(bytes: &mut [u8], ends: &mut [usize], count: usize, x: &[u8]) -> F
 
 // How many rows the stores of tags, strings and programs have; whether one had no room for the row; and its number in the sheet: a tag's place, or the
 // offset of a string or a program.
-#[derive(Drop)]
+#[derive(Clone, Copy)]
 pub struct Shelved {
     pub full: bool,
     pub place: usize,

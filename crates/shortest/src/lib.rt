@@ -1,4 +1,7 @@
 // A shortest row of atoms up to a place of an expression, found over a sheet's nodes.
+
+#![tactic(auto)]
+
 ghost use Rattle.std.specs.Prelude.{[], ◌+◌, ◌≤◌, ◌<◌};
 ghost use Rattle.limits.specs.Limits.{nodes_at_most};
 ghost use Rattle.layout.specs.LaidOut.{LaidOut};
@@ -16,7 +19,7 @@ use ways::{Spot, part, parts_of};
 pub const LONGEST: usize = 32;
 
 // Atoms by their numbers, one to a byte; the bytes behind them are 0.
-#[derive(Drop)]
+#[derive(Clone, Copy)]
 pub struct Row {
     pub length: usize,
     pub bytes: [u8; 32],

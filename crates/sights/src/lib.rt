@@ -1,4 +1,7 @@
 // The next token of a text of rules, with its kind, its number and its place, and the reader behind it; and what is told of a text, or of its rest.
+
+#![tactic(auto)]
+
 ghost use Rattle.std.specs.Prelude.{◌≡◌, false, ◌<◌, length};
 ghost use Rattle.gaps.specs.declared.Skipped.{Skipped};
 ghost use Rattle.gaps.specs.Skipped.{SkippedIs};
@@ -8,7 +11,7 @@ ghost use Rattle.sights.specs.Rulings.{RulingIs};
 
 // A token that is taken: behind how many bytes it stands, its kind, its number, how many bytes it takes, and the reader behind it. Or none: that the
 // text writes rules, or the byte at which it is refused.
-#[derive(Drop)]
+#[derive(Clone, Copy)]
 pub struct Glance {
     pub going: bool,
     pub written: bool,
@@ -74,7 +77,7 @@ pub fn look(x: &[u8], r: rulings::Reader) -> Glance
 }
 
 // What is told of a text.
-#[derive(Drop)]
+#[derive(Clone, Copy)]
 pub enum Ruling {
     // It writes rules.
     Rules,

@@ -1,4 +1,7 @@
 // Which token of its production a node of a sheet is: how many nodes a text writes before it, where the sign stands between the parts or behind the only one.
+
+#![tactic(auto)]
+
 ghost use Rattle.std.specs.Prelude.{◌≤◌, ◌<◌};
 ghost use Rattle.layout.specs.LaidOut.{LaidOut};
 ghost use Rattle.layout.specs.Records.{node_count_of};

@@ -1,8 +1,10 @@
 // Where a reader of rules stands, by numbers: of what has been read only how large it is and how deep. The parts are declared here; what they
 // are of a state of the machine, and how they step with it, is in specs/; theorems in proofs/; no code.
 
+#![tactic(auto)]
+
 // A tree: its nodes, its depth, and whether its node has a program for its first visit and one for its second.
-#[derive(Drop)]
+#[derive(Clone, Copy)]
 pub struct Figure {
     pub nodes: usize,
     pub depth: usize,
@@ -11,7 +13,7 @@ pub struct Figure {
 }
 
 // What stands left of an operator, if there is one: nodes and depth.
-#[derive(Drop)]
+#[derive(Clone, Copy)]
 pub struct Beside {
     pub there: bool,
     pub nodes: usize,
@@ -20,7 +22,7 @@ pub struct Beside {
 
 // What lies around a tree that is being read: so many nodes more, so many levels more, a depth that is reached elsewhere,
 // and whether a program for the tree's own first visit asks for a star.
-#[derive(Drop)]
+#[derive(Clone, Copy)]
 pub struct Surround {
     pub nodes: usize,
     pub depth: usize,
@@ -29,7 +31,7 @@ pub struct Surround {
 }
 
 // A pair of parentheses that is open: whether a program stands in front, what stands left of a |, of a . behind that, and what lies around the pair.
-#[derive(Drop)]
+#[derive(Clone, Copy)]
 pub struct Paren {
     pub before: bool,
     pub union: Beside,
@@ -38,7 +40,7 @@ pub struct Paren {
 }
 
 // Where the reader stands, as the machine's states have it.
-#[derive(Drop)]
+#[derive(Clone, Copy)]
 pub enum Point {
     Beginning,
     FirstWord,
@@ -58,7 +60,7 @@ pub enum Point {
 }
 
 // What a token is between a tag's parentheses.
-#[derive(Drop)]
+#[derive(Clone, Copy)]
 pub enum Inside {
     Other,
     Leaf, // a nonterminal, CHAR or EMPTY
@@ -71,7 +73,7 @@ pub enum Inside {
 }
 
 // What a token is elsewhere, outside programs.
-#[derive(Drop)]
+#[derive(Clone, Copy)]
 pub enum Outside {
     Other,
     Nonterminal,
@@ -83,7 +85,7 @@ pub enum Outside {
 
 // What a token does: nothing goes on; another point; a pair of parentheses is opened inside one, is closed around a tree, or is the tag's own
 // and empty; the next production begins behind one of so many nodes.
-#[derive(Drop)]
+#[derive(Clone, Copy)]
 pub enum Move {
     Refused,
     To(Point),

@@ -1,4 +1,7 @@
 // The production that is being read, by the numbers of its record: start, nonterminal, tag and programs, turned token by token.
+
+#![tactic(auto)]
+
 ghost use Rattle.std.specs.Prelude.{◌≡◌};
 ghost use Rattle.desks.specs.Spots.{spot_of};
 ghost use Rattle.slips.specs.Slips.{slip_turned};
@@ -26,7 +29,7 @@ pub fn spot(p: sketches::Point) -> usize
     }
 }
 
-#[derive(Drop)]
+#[derive(Clone, Copy)]
 pub struct Slip {
     pub start: usize,
     pub nonterm: usize,

@@ -1,17 +1,20 @@
 // The stack of open elements changed where it lies: push and pop by `&mut`, thin over those of a run.
+
+#![tactic(auto)]
+
 ghost use Rattle.stack.specs.Stacked.{StackedAs, UnstackedAs};
 
 use live::Live;
 use state::{Frame, State};
 
 // A stack apart from the state: the live part, with the innermost element, and the frames of the elements around it as bytes.
-#[derive(Drop)]
+#[derive(Clone, Copy)]
 pub struct Stack {
     pub live: Live,
     pub bytes: [u8; State::STACK],
 }
 
-#[derive(Drop)]
+#[derive(Clone, Copy)]
 pub struct Stacked {
     pub ok: bool,
     pub stack: Stack,

@@ -1,4 +1,7 @@
 // How far a declaration is read, by value, and what one byte more makes of it where no model of children is being read.
+
+#![tactic(auto)]
+
 ghost use Rattle.std.specs.Prelude.{◌≡◌, ◌<◌};
 ghost use Rattle.stages.specs.Steps.{moved_on, told_as, with_row, with_nest, BegunIs, LongerIs, SpelledIs, NoNodesIs, PlainStep, NameStep, NameEndAs};
 ghost use Rattle.stages.specs.declared.Station.{Station};
@@ -10,7 +13,7 @@ use levels::Nest;
 const LONGEST: usize = 15;
 
 // Where in a declaration a byte stands: the phases of its machine, without what they hold.
-#[derive(Drop)]
+#[derive(Clone, Copy)]
 pub enum Station {
     Opening,
     Naming,
@@ -31,7 +34,7 @@ pub enum Station {
     Ended,
 }
 
-#[derive(Drop)]
+#[derive(Clone, Copy)]
 pub struct Headway {
     pub station: Station,
     // The bytes of the name or the keyword that is being read.
@@ -45,7 +48,7 @@ pub struct Headway {
 }
 
 // What a byte does: the declaration goes on, or it is over; or the byte is refused, or it opens one pair of parentheses too many.
-#[derive(Drop)]
+#[derive(Clone, Copy)]
 pub enum Fate {
     On,
     Over,
@@ -54,14 +57,14 @@ pub enum Fate {
 }
 
 // Where the declaration goes on, how far it is read then; where it is over, its nodes are in the row.
-#[derive(Drop)]
+#[derive(Clone, Copy)]
 pub struct Moved {
     pub fate: Fate,
     pub headway: Headway,
 }
 
 // Which name ends, and its length: none, the element's own, or one of its content.
-#[derive(Drop)]
+#[derive(Clone, Copy)]
 pub enum NameEnd {
     Nothing,
     Own(usize),

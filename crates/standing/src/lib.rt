@@ -1,18 +1,21 @@
 // Where a conversion of files stands between two calls, whatever it converts with: what is held, written and passed, and how far it tells that it is.
+
+#![tactic(auto)]
+
 ghost use Rattle.std.specs.Prelude.{◌≡◌};
 ghost use Rattle.io.specs.Counts.{IsPrefixLen};
 ghost use Rattle.standing.specs.Standings.{fresh_standing, standing_stopped, standing_forsaken, standing_answered, standing_holding, with_state};
 ghost use Rattle.standing.specs.Standings.{is_broken, is_refused};
 
 use behind::Behind;
-use libc::STDERR_FILENO;
+use files::{Opened, STDERR_FILENO};
 use places::Place;
 use state::State;
 
 // Where a conversion stands between two calls of the converter: the last number, how many bytes at the front of the lent memory are not
 // taken yet, how many bytes were written in all, where it is, what is kept of what lies behind, whether the schedule could not be read or the output not written, whether whoever started
 // it is gone, and whether it goes on.
-#[derive(Drop)]
+#[derive(Clone, Copy)]
 pub struct Standing {
     pub number: usize,
     pub held: usize,
@@ -137,11 +140,11 @@ pub fn is_refused(s: Standing) -> bool
 }
 
 // Writes output out; where there is no file for it, as in a trial, that is done at once.
-pub fn write_out(to: i32, output: &[u8]) -> bool {
-    if to < 0 {
+pub fn write_out(to: &mut Opened, output: &[u8]) -> bool {
+    if !to.is_open() {
         return true;
     }
-    io::write_all(to, output)
+    to.write(output)
 }
 
 // What is looked at of the bytes that were not taken: enough for what is shown.
@@ -149,7 +152,7 @@ const FRONT: usize = 64;
 
 // Where something was refused, reads on behind the bytes that were not taken, so that what is shown does not depend on where a part ended. Answers how
 // many bytes there are to look at.
-pub fn top_up(from: i32, part: &mut [u8], held: usize, refused: bool) -> usize
+pub fn top_up(from: &mut Opened, part: &mut [u8], held: usize, refused: bool) -> usize
     ensures { IsPrefixLen result part.new }
 {
     if !refused {

@@ -1,4 +1,7 @@
 // The state of a run by value: its stack of open elements, kept and changed in one place, and its form as bytes.
+
+#![tactic(auto)]
+
 pub mod bytes;
 
 ghost use Rattle.std.specs.Prelude.{◌≡◌};
@@ -6,7 +9,7 @@ ghost use Rattle.state.specs.Changes.{bare_saved, bare_frame, fresh_state, start
 ghost use Rattle.state.specs.Changes.{top_of, with_top, tidy_frame};
 
 // What is kept of a node from its first visit to its second: the attributes just after the first, echo just before it.
-#[derive(Drop)]
+#[derive(Clone, Copy)]
 pub struct Saved {
     pub values: [u8; State::ATTRIBUTES],
     pub echo: bool,
@@ -14,7 +17,7 @@ pub struct Saved {
 
 // An open element: its production, its place, how many of its sets are in use, and the sets: the production's, then those of the
 // open nodes, outermost first. An expression is at most 12 deep.
-#[derive(Drop)]
+#[derive(Clone, Copy)]
 pub struct Frame {
     pub production: u8,
     pub place: u8,
@@ -24,7 +27,7 @@ pub struct Frame {
 
 // A run between two tokens: attributes, echo, the count of visits, whether the root has been closed, the closing number, and
 // how many elements are open, the root first.
-#[derive(Drop)]
+#[derive(Clone, Copy)]
 pub struct State {
     pub values: [u8; State::ATTRIBUTES],
     pub echo: bool,
@@ -36,7 +39,7 @@ pub struct State {
 }
 
 // A state but for its frames: what stands before them in its bytes.
-#[derive(Drop)]
+#[derive(Clone, Copy)]
 pub struct Heading {
     pub values: [u8; State::ATTRIBUTES],
     pub echo: bool,

@@ -1,1 +1,3 @@
 // When a run is steady: characters that leave it as it is. Definitions and laws alone.
+
+#![tactic(auto)]

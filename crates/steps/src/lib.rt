@@ -1,4 +1,7 @@
 // One token: a run takes an event by value, and hands the state back beside the answer.
+
+#![tactic(auto)]
+
 ghost use Rattle.std.specs.Prelude.{◌≡◌, ◌+◌, ◌≤◌, ◌<◌, ◌^◌, length};
 ghost use Rattle.layout.specs.LaidOut.{LaidOut};
 ghost use Rattle.text.specs.Chars.{Char};
@@ -31,14 +34,14 @@ const MISSING: usize = 256;
 const SCRATCH: usize = 64;
 
 // A run under way: where the next byte of output goes, and the state.
-#[derive(Drop)]
+#[derive(Clone, Copy)]
 pub struct Run {
     pub at: usize,
     pub live: Live,
 }
 
 // What an event or a token came to: 0, or the number that it is refused with; where the next byte of output goes, and the state.
-#[derive(Drop)]
+#[derive(Clone, Copy)]
 pub struct Stepped {
     pub number: usize,
     pub at: usize,

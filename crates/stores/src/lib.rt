@@ -1,19 +1,22 @@
 // Tags, strings and programs stored once: rows of bytes that lie back to back in lent memory, with the place at which each ends. A row is found
 // among them, or put behind them.
+
+#![tactic(auto)]
+
 ghost use Rattle.std.specs.Prelude.{◌≡◌};
 ghost use Rattle.encoding.specs.Distinct.{equal};
 ghost use Rattle.stores.specs.Rows.{HasRows};
 ghost use Rattle.stores.specs.Filed.{SeatIs, FiledIs};
 
 // Where a row is: how many rows stand before it, and how many bytes. A row that is not there would be behind all the others.
-#[derive(Drop)]
+#[derive(Clone, Copy)]
 pub struct Seat {
     pub place: usize,
     pub offset: usize,
 }
 
 // The place and the offset of a row that was there, or that is there now; or there is no room for it.
-#[derive(Drop)]
+#[derive(Clone, Copy)]
 pub enum Filed {
     There(usize, usize),
     Added(usize, usize),

@@ -1,4 +1,7 @@
 // One byte of a declaration: in the models of children, and at every station; what the shortest continuation makes, measured.
+
+#![tactic(auto)]
+
 ghost use Rattle.std.specs.Prelude.{◌≡◌, ◌≤◌};
 ghost use Rattle.stages.specs.Steps.{ByteStepIs, PlainStep, NameStep, SizesAs};
 ghost use Rattle.stages.specs.declared.Station.{Station};

@@ -19,10 +19,6 @@ use Rattle.tokens.specs.declared.Event.{Event}
 use Rattle.tokens.specs.declared.Event.TheVariants.{Start, End, Empty, Character}
 use Rattle.tokens.specs.declared.Answer.{Answer}
 use Rattle.tokens.specs.declared.Answer.TheVariants.{Token, Waiting, Begun, Bad, Long}
-use Rattle.tokens.specs.contracts.Answer as answer
-use Rattle.tokens.specs.contracts.Event as event
-use types.Run.{OneOf, miss}
-use denote.Enum.Declared
 use Rattle.tokens.proofs.Theory.{one_answer}
 use Rattle.tokens.proofs.Streams.{token_moves}
 use Rattle.calls.proofs.Read.{token_means}
@@ -128,19 +124,15 @@ module _ (part : List ℕ) (at : ℕ) where
       subst (λ (n : ℕ). Means (front part at) at (Token (Character b true) (record { at = at + n }))) (ap length bytes) read
 
   module _ (x : Answer) (m : Means (front part at) at x) where
-    pub no_token : OneOf (1 ∷ 2 ∷ 3 ∷ 4 ∷ []) (Declared.tag_of answer.the_type x) → LiteralIs part at Other
-    no_token h c next n =
-        miss (1 ∷ 2 ∷ 3 ∷ 4 ∷ []) 0 tt
-        (subst (λ (y : Answer). OneOf (1 ∷ 2 ∷ 3 ∷ 4 ∷ []) (Declared.tag_of answer.the_type y)) (one_answer (front part at) at x (Token (Character c true) next) m n) h)
+    pub no_token : ((e : Event) (next : Cursor) → x ≡ Token e next → ⊥) → LiteralIs part at Other
+    no_token h c next n = h (Character c true) next (one_answer (front part at) at x (Token (Character c true) next) m n)
 
     module _ (e : Event) (next : Cursor) (q : x ≡ Token e next) where
       token : Means (front part at) at (Token e next)
       token = subst (Means (front part at) at) q m
 
-      pub no_character : OneOf (0 ∷ 1 ∷ 2 ∷ []) (Declared.tag_of event.the_type e) → LiteralIs part at Other
-      no_character h c then n =
-          miss (0 ∷ 1 ∷ 2 ∷ []) 3 tt
-          (subst (λ (y : Event). OneOf (0 ∷ 1 ∷ 2 ∷ []) (Declared.tag_of event.the_type y)) (ap event_in (one_answer (front part at) at (Token e next) (Token (Character c true) then) token n)) h)
+      pub no_character : ((c : ℕ) (l : Bool) → e ≡ Character c l → ⊥) → LiteralIs part at Other
+      no_character h c then n = h c true (ap event_in (one_answer (front part at) at (Token e next) (Token (Character c true) then) token n))
 
       pub by_reference : (c : ℕ) (l : Bool) → e ≡ Character c l → l ≡ false → LiteralIs part at Other
       by_reference c l f k d then n =

@@ -1,4 +1,7 @@
 // Stretches of a part: characters one after another where a run is steady, and white space where it is no event.
+
+#![tactic(auto)]
+
 ghost use Rattle.std.specs.Prelude.{◌≡◌, true, ◌≤◌, length};
 ghost use Rattle.lent.specs.Put.{PutAs};
 ghost use Rattle.text.specs.Chars.{Char};
@@ -18,7 +21,7 @@ const LONGEST: usize = 5;
 const FARTHEST: usize = 0x4000000000000000;
 
 // How far a stretch goes: the place of the part behind it, where the next byte of output goes, and the count of visits.
-#[derive(Drop)]
+#[derive(Clone, Copy)]
 pub struct Stretch {
     pub at: usize,
     pub put: usize,
@@ -26,7 +29,7 @@ pub struct Stretch {
 }
 
 // What stands at a place of the part: a character itself, no reference, and how many bytes it takes; or no such.
-#[derive(Drop)]
+#[derive(Clone, Copy)]
 pub enum Literal {
     Character(u32, usize),
     Other,

@@ -1,10 +1,13 @@
 // Characters and names, in bytes: UTF-8 (RFC 3629) within XML 1.0's Char set, the bytes of names, white space, digits.
+
+#![tactic(auto)]
+
 ghost use Rattle.std.specs.Prelude.{◌≡◌, ◌≤◌, ◌<◌, length, get_or};
 ghost use Rattle.text.specs.Chars.{DecodedIs, CharIs};
 ghost use Rattle.text.specs.Names.{name_first, name_byte, blank};
 ghost use Rattle.text.specs.Numerals.{digit_value};
 
-#[derive(Drop)]
+#[derive(Clone, Copy)]
 pub enum Decoded {
     // The character, and how many bytes it takes.
     Whole(u32, usize),

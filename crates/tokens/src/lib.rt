@@ -1,17 +1,20 @@
 // The stream's token reader: what stands at a cursor, in the next bytes, 32 at most.
+
+#![tactic(auto)]
+
 ghost use Rattle.std.specs.Prelude.{◌≡◌, ◌⊎◌, ◌≤◌, length, get_or};
 ghost use Rattle.text.specs.Names.{name_byte, blank};
 ghost use Rattle.tokens.specs.Tokens.{Means, front};
 ghost use Rattle.tokens.specs.Inner.{Front, PassUpTo, WordIs, cut_at, OpensNumeric, Fewest};
 
 // A place in a stream.
-#[derive(Drop)]
+#[derive(Clone, Copy)]
 pub struct Cursor {
     pub at: usize,
 }
 
 // A token. A name is where it starts and how many bytes it has.
-#[derive(Drop)]
+#[derive(Clone, Copy)]
 pub enum Event {
     Start { from: usize, len: usize },
     End { from: usize, len: usize },
@@ -21,7 +24,7 @@ pub enum Event {
 }
 
 // What stands at a cursor.
-#[derive(Drop)]
+#[derive(Clone, Copy)]
 pub enum Answer {
     // A token, and the cursor past it.
     Token(Event, Cursor),
@@ -299,7 +302,7 @@ fn line_end(f: &[u8], at: usize) -> Answer
 }
 
 // How a word compares with what f starts with.
-#[derive(Drop)]
+#[derive(Clone, Copy)]
 pub enum Word {
     // f starts with the word.
     Whole,

@@ -111,7 +111,7 @@ module _ (s : List ℕ) where
       let h = i.stands in
       let c = m.counts e h in
       let d = n.counts e h in
-      tally_by (same_number t.null u.null (c.null-is ∙ sym d.null_is))
+      tally_by (same_number t.null u.null (c.null_is ∙ sym d.null_is))
       (same_number t.last u.last (c.last_is ∙ sym d.last_is))
       ((m.passes e h).next_is ∙ sym (n.passes e h).next_is)
       ((m.passes e h).atom_is ∙ sym (n.passes e h).atom_is)

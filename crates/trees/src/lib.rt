@@ -1,4 +1,7 @@
 // The expression trees that a sheet's node records are: number 5, and the counts of bracket strings that rules T and S ask for.
+
+#![tactic(auto)]
+
 ghost use Rattle.std.specs.Prelude.{◌≡◌, cond, ◌&&◌, ◌+◌, ◌≤◌, ◌<◌, ltb, length};
 ghost use Rattle.expressions.specs.Expr.{cat as cat_exp, alt as alt_exp};
 ghost use Rattle.expressions.specs.Grammar.{nonterminals};
@@ -25,7 +28,7 @@ const NONTERMINALS: usize = 64;
 const DEEPEST: usize = 12;
 
 // What the nodes from one on are.
-#[derive(Drop)]
+#[derive(Clone, Copy)]
 pub enum Parsed {
     // a whole tree; the number of the node past it
     Tree(usize),
@@ -33,7 +36,7 @@ pub enum Parsed {
 }
 
 // The next symbol: a tag by its number, a character, or the end of the element.
-#[derive(Drop)]
+#[derive(Clone, Copy)]
 pub enum Symbol {
     Tag(usize),
     Character,
@@ -41,7 +44,7 @@ pub enum Symbol {
 }
 
 // How many bracket strings: none, one, or more.
-#[derive(Drop)]
+#[derive(Clone, Copy)]
 pub enum Number {
     None,
     One,
@@ -49,7 +52,7 @@ pub enum Number {
 }
 
 // The counts to a tree's end, from its start and from just after a place, the node past the tree, and the atom past its atoms.
-#[derive(Drop)]
+#[derive(Clone, Copy)]
 pub struct Tally {
     pub null: Number,
     pub last: Number,
@@ -58,7 +61,7 @@ pub struct Tally {
 }
 
 // The bracket strings from a place to a tree's end, whether it is in the tree or before it, the node past the tree, and the atom past its atoms.
-#[derive(Drop)]
+#[derive(Clone, Copy)]
 struct Onward {
     out: Number,
     next: usize,

@@ -5,15 +5,14 @@
 ghost use Rattle.std.specs.Prelude.{◌≡◌, ◌≤◌, ◌<◌, length};
 ghost use Rattle.io.specs.Counts.{IsPrefixLen};
 
-use crate::LENT;
+use crate::{LENT, STDOUT_FILENO};
 use cases::{change, fill, letter, mark, one_more, read_bytes, read_line, read_number};
 use files::within;
-use libc::STDOUT_FILENO;
 use rescued::SalvageCounts;
 use salvages::{salvage_bytes, salvage_fresh};
 
 // Whether lines are left; how many bytes the sheet, the state and the area for what waits have now; and the calls so far.
-#[derive(Drop)]
+#[derive(Clone, Copy)]
 struct Progress {
     more: bool,
     sheet: usize,
@@ -23,7 +22,7 @@ struct Progress {
 }
 
 // A call's line: how many bytes are lent for the output and for the report, whether the stream ends with the part, and where in the line the part begins.
-#[derive(Drop)]
+#[derive(Clone, Copy)]
 struct Call {
     room: usize,
     report: usize,

@@ -7,13 +7,12 @@
 ghost use Rattle.std.specs.Prelude.{◌+◌, ◌≤◌, ◌<◌, length};
 ghost use Rattle.io.specs.Counts.{IsPrefixLen};
 
-use crate::LENT;
+use crate::{LENT, STDOUT_FILENO};
 use cases::{Read, fill, is_kept, mark, read_bytes, read_line, read_number};
 use files::within;
-use libc::STDOUT_FILENO;
 
 // What is asked of every case of a file.
-#[derive(Drop)]
+#[derive(Clone, Copy)]
 pub enum Asked {
     Check,
     Translate,
@@ -21,7 +20,7 @@ pub enum Asked {
 }
 
 // The number, and the count that goes with it.
-#[derive(Drop)]
+#[derive(Clone, Copy)]
 struct Told {
     number: usize,
     count: usize,

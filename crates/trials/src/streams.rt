@@ -4,11 +4,10 @@
 ghost use Rattle.std.specs.Prelude.{◌≡◌, ◌≤◌, ◌<◌, length};
 ghost use Rattle.io.specs.Counts.{IsPrefixLen};
 
-use crate::LENT;
+use crate::{LENT, STDOUT_FILENO};
 use cases::{change, fill, is_kept, letter, one_more, read_bytes, read_line, read_number};
 use converter::convert_bytes;
 use files::within;
-use libc::STDOUT_FILENO;
 use state::State;
 
 // The length of a state's bytes, where in them the flag "root closed" and the closing number stand, and the closing number of an open state.
@@ -27,7 +26,7 @@ const ANY: u8 = 2;
 
 // Whether lines are left; how many bytes the sheet, the stream, the wanted output and the state have now; the calls so far, those of this group, and how many of these
 // were answered as they must be.
-#[derive(Drop)]
+#[derive(Clone, Copy)]
 struct Progress {
     more: bool,
     sheet: usize,
@@ -40,7 +39,7 @@ struct Progress {
 }
 
 // What a call answers, and has to.
-#[derive(Drop)]
+#[derive(Clone, Copy)]
 struct Answer {
     number: u64,
     taken: u64,
@@ -50,7 +49,7 @@ struct Answer {
 
 // A call's line: the part's place, whether it is the last, the room; what must be answered, where in the wanted output its bytes begin, and
 // where in the line the state's first bytes do.
-#[derive(Drop)]
+#[derive(Clone, Copy)]
 struct Call {
     from: usize,
     to: usize,
@@ -204,7 +203,7 @@ fn is_output(out: &[u8], n: usize, wanted: &[u8], at: usize) -> bool {
 }
 
 // What a call answered, and whether the output is right.
-#[derive(Drop)]
+#[derive(Clone, Copy)]
 struct Outcome {
     is: Answer,
     output: bool,

@@ -1,4 +1,7 @@
 // One step of a call of the salvage run: a token that is taken or refused, the end of the part, or the bytes passed over behind a refused record.
+
+#![tactic(auto)]
+
 ghost use Rattle.std.specs.Prelude.{◌≡◌, not, cond, ◌+◌, ◌-◌, ◌/◌, ◌≤◌, ◌<◌, ◌^◌, eqb, length};
 ghost use Rattle.layout.specs.LaidOut.{LaidOut};
 ghost use Rattle.steps.specs.Taken.{EventIn};
@@ -18,7 +21,7 @@ use tokens::{Answer, Cursor, Event};
 const ENTRY: usize = 24;
 
 // Where a salvage run stands. In a record there is also what returns when it is dropped, and how many bytes wait; behind a refused one the number that refused it.
-#[derive(Drop)]
+#[derive(Clone, Copy)]
 pub struct Stand {
     pub mode: usize,
     pub live: Live,
@@ -29,7 +32,7 @@ pub struct Stand {
 }
 
 // Where a call has come to: the place in the part, where the next byte of output goes, and the entries of the report.
-#[derive(Drop)]
+#[derive(Clone, Copy)]
 pub struct Place {
     pub at: usize,
     pub put: usize,
@@ -37,7 +40,7 @@ pub struct Place {
 }
 
 // The records' tag, the bytes of the stream that were taken before the call, and whether the stream ends with the part.
-#[derive(Drop)]
+#[derive(Clone, Copy)]
 pub struct Given {
     pub tag: usize,
     pub base: usize,
@@ -45,7 +48,7 @@ pub struct Given {
 }
 
 // What a step came to: whether the run goes on, else the number that it stops with; the place, the bytes that waited meanwhile, and where the run then stands.
-#[derive(Drop)]
+#[derive(Clone, Copy)]
 pub struct Turn {
     pub goes: bool,
     pub number: usize,

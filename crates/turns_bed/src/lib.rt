@@ -1,4 +1,7 @@
 // The bed of an expression beside a reader of rules: what a token makes of it, wherever the reader stands.
+
+#![tactic(auto)]
+
 ghost use Rattle.turns_bed.specs.Turned.{BedTurned};
 
 use beds::Bed;

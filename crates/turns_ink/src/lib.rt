@@ -1,4 +1,7 @@
 // The ink of a program beside a reader of rules: what a token makes of it, wherever the reader stands.
+
+#![tactic(auto)]
+
 ghost use Rattle.inks.specs.Held.{Trim};
 ghost use Rattle.turns_ink.specs.Turned.{InkTurned};
 

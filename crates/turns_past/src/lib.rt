@@ -1,4 +1,7 @@
 // The records and nodes before, one token further: a production ends with the next one's nonterminal, and its nodes are laid when its tag's parentheses close.
+
+#![tactic(auto)]
+
 ghost use Rattle.turns_past.specs.Turned.{PastTurned};
 
 // `here` and `there` are the spots before and behind the token.

@@ -1,4 +1,7 @@
 // The bytes of a string token, without its quotes and its escapes, into lent memory.
+
+#![tactic(auto)]
+
 ghost use Rattle.std.specs.Prelude.{◌≡◌, ◌<◌, length, drop};
 ghost use Rattle.unquoting.specs.Unquoted.{unescaped, StringPieceIs, UnquotedIs};
 
@@ -19,7 +22,7 @@ fn unescape(b: u8) -> u8
 }
 
 // A byte of a string, and how many bytes it is written with.
-#[derive(Drop)]
+#[derive(Clone, Copy)]
 struct Piece {
     byte: u8,
     long: usize,

@@ -1,4 +1,7 @@
 // Visits: running the attribution program that a field of a sheet names.
+
+#![tactic(auto)]
+
 ghost use Rattle.std.specs.Prelude.{◌≡◌, ◌&&◌, ◌+◌, ◌*◌, ◌≤◌, ◌<◌, ◌^◌, length, get_or, set};
 ghost use Rattle.output.specs.Reach.{farthest};
 ghost use Rattle.runs.specs.Visits.{attributes};
@@ -12,7 +15,7 @@ ghost use Rattle.visits.specs.Performed.{PerformedAs};
 const NONE: usize = 65535;
 
 // The attributes and echo.
-#[derive(Drop)]
+#[derive(Clone, Copy)]
 pub struct Env {
     pub values: [u8; Env::ATTRIBUTES],
     pub echo: bool,
@@ -24,14 +27,14 @@ impl Env {
 }
 
 // What a condition came to, and the byte after it.
-#[derive(Drop)]
+#[derive(Clone, Copy)]
 pub struct Judged {
     pub yes: bool,
     pub next: usize,
 }
 
 // What running came to: whether it goes on, the byte after what was run, where the next byte of output goes, the attributes and echo.
-#[derive(Drop)]
+#[derive(Clone, Copy)]
 pub struct Ran {
     pub ok: bool,
     pub next: usize,
@@ -40,7 +43,7 @@ pub struct Ran {
 }
 
 // What a visit's program came to.
-#[derive(Drop)]
+#[derive(Clone, Copy)]
 pub struct Performed {
     pub ok: bool,
     pub at: usize,

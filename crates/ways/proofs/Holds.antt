@@ -1,7 +1,7 @@
 -- One more bracket: the byte goes behind the string's. And what stays in the lent bytes while walks write behind it.
 -- Assumes nothing.
 use mathlib.Core.Path.{◌≡◌, refl, sym, ◌∙◌, ap, subst}
-use mathlib.Core.Bool.{Bool, true, false, not, true≢false}
+use mathlib.Core.Bool.{Bool, true, false, true≢false}
 use mathlib.Core.List.{List, [], ◌∷◌, ◌++◌}
 use mathlib.Core.Option.{Option, none, some}
 use Prim.Native.Nat.{ℕ, suc, ◌+◌, ◌≤◌, ◌<◌}
@@ -17,15 +17,6 @@ line_moved {o} {p} {r} e h = subst (λ (z : Option (List Bracket)). LineIs z r) 
 
 pub way_moved : {o p : Option Found} {r : Way} → o ≡ p → WayIs o r → WayIs p r
 way_moved {o} {p} {r} e h = subst (λ (z : Option Found). WayIs z r) e h
-
--- a test the other way round
-pub not_there : (b : Bool) → not b ≡ true → b ≡ false
-not_there true h = absurd (true≢false (sym h))
-not_there false h = refl
-
-pub is_there : (b : Bool) → not b ≡ false → b ≡ true
-is_there true h = refl
-is_there false h = absurd (true≢false h)
 
 pub length_codes : (α : List Bracket) → length (codes α) ≡ length α
 length_codes [] = refl

@@ -1,4 +1,7 @@
 // The bracket string from a place to the next atom that can be a symbol, or to the end, found over a sheet's nodes.
+
+#![tactic(auto)]
+
 ghost use Rattle.std.specs.Prelude.{◌≡◌, List, ℕ, ◌+◌, ◌*◌, ◌≤◌, ◌<◌, length};
 ghost use Rattle.expressions.specs.Words.{opening, closing};
 ghost use Rattle.layout.specs.LaidOut.{LaidOut};
@@ -21,14 +24,14 @@ pub const MOST: usize = 64;
 
 // Whether there is a bracket string, and how long it is; it stands in the lent bytes, where they have room for it: opening i is the
 // byte 2 * i, closing i is 2 * i + 1.
-#[derive(Drop)]
+#[derive(Clone, Copy)]
 pub struct Line {
     pub found: bool,
     pub length: usize,
 }
 
 // A bracket string and the atom that it leads to, with the kind and the argument of the atom's node; zeros where there is none.
-#[derive(Drop)]
+#[derive(Clone, Copy)]
 pub struct Way {
     pub line: Line,
     pub place: usize,
@@ -37,7 +40,7 @@ pub struct Way {
 }
 
 // Where a tree stands: its first node, how many it has, its first bracket and its first atom.
-#[derive(Drop)]
+#[derive(Clone, Copy)]
 pub struct Spot {
     pub node: usize,
     pub nodes: usize,
@@ -46,14 +49,14 @@ pub struct Spot {
 }
 
 // Where the two trees behind a concatenation or a union stand.
-#[derive(Drop)]
+#[derive(Clone, Copy)]
 pub struct Parts {
     pub first: Spot,
     pub second: Spot,
 }
 
 // On the way past a tree: the next node, the atoms so far, and how many trees are left to pass.
-#[derive(Drop)]
+#[derive(Clone, Copy)]
 pub struct Passing {
     pub node: usize,
     pub atoms: usize,

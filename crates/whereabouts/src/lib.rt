@@ -1,4 +1,7 @@
 // Where in a sheet's expressions something stands, in words: a production, a place, a part; where a schedule stands, and whose program rejected.
+
+#![tactic(auto)]
+
 mod opened;
 mod parts;
 mod rejected;

@@ -4,8 +4,7 @@ ghost use Rattle.trees.specs.Parsed.{RunsInside};
 
 use crate::parts::{say_place, say_production};
 use layout::{Layout, byte_at, tag_number_of};
-use libc::STDOUT_FILENO;
-use words::{say, say_expression, say_tag, say_tags_of};
+use words::{STDOUT_FILENO, say, say_expression, say_tag, say_tags_of};
 
 // The tag of production q.
 fn say_element(s: &[u8], l: Layout, q: usize)

@@ -2,14 +2,22 @@
 // sheet, or rules as text.
 // What is found goes to standard output; the last line of standard error is always "wickpollen: N". A program here has no exit status: where the
 // first word is --tell, as from bin/wickpollen, the number is told on a descriptor of its own too, and becomes the exit status there.
-ghost use Rattle.std.specs.Prelude.{◌≡◌, ◌<◌};
+
+#![tactic(auto)]
+
+ghost use Rattle.std.specs.Prelude.{◌≡◌, ◌<◌, IfOk};
 ghost use Rattle.tells.specs.Tells.{Tells};
 ghost use Rattle.io.specs.Counts.{IsPrefixLen};
 
 use callers::Caller;
 use commands::{FILE, check_file, print_file, print_models, write_file};
-use libc::STDERR_FILENO;
+use files::STDERR_FILENO;
 use manual::{complain, help, usage, version};
+use std::env::FillError;
+use std::fs::OpenOptions;
+use std::io::{Error, IsTerminal};
+use std::os::fd::{AsRawFd, IntoRawFd};
+use std::rt::Env;
 
 // What becomes of one file: it is checked; printed; or printed as the rules that its declarations are.
 const CHECKS: usize = 0;
@@ -26,24 +34,46 @@ const CONVERTS: usize = 1;
 const SALVAGES: usize = 2;
 
 // Word i of the command, the program's own name being word 0. `--tell`, which comes before the others, is not counted.
-fn word(told: bool, i: usize, memory: &mut [u8]) -> usize
+fn word(rt: HostRuntime, told: bool, i: usize, memory: &mut [u8]) -> Result<usize, FillError>
     requires { i < 9 }
-    ensures { IsPrefixLen result memory.new }
+    ensures { IfOk result (λ n. IsPrefixLen n memory.new) }
 {
-    if told {
-        return os::arg(i + 1, memory);
+    let at = if told { i + 1 } else { i };
+    let n = rt.arg(at, memory)?;
+    Ok(files::within(n, memory))
+}
+
+// What the system says of a word that is not there, and of one that is too long.
+const MISSING: i32 = 22;
+
+const TOO_LONG: i32 = 36;
+
+// Tells on standard error why a word could not be taken.
+fn tell_unread(what: &[u8], why: FillError) -> u64 {
+    let number = match why {
+        FillError::NotPresent => MISSING,
+        FillError::TooLong => TOO_LONG,
+    };
+    files::fail(what, Error::from_raw_os_error(number));
+    FILE
+}
+
+// Whether the program was given a word i, its own name being word 0.
+fn is_given(rt: HostRuntime, i: usize) -> bool {
+    let mut memory = io::buffer();
+    match rt.arg(i, &mut memory) {
+        Ok(_) => true,
+        Err(FillError::TooLong) => true,
+        Err(FillError::NotPresent) => false,
     }
-    os::arg(i, memory)
 }
 
 // Whether the command has n words, its name among them.
-fn has_words(told: bool, n: usize) -> bool
+fn has_words(rt: HostRuntime, told: bool, n: usize) -> bool
     requires { n < 9 }
 {
-    if told {
-        return os::arg_count() == n + 1;
-    }
-    os::arg_count() == n
+    let end = if told { n + 1 } else { n };
+    !is_given(rt, end) && (end == 0 || is_given(rt, end - 1))
 }
 
 fn same(a: &[u8], b: &[u8]) -> bool
@@ -63,127 +93,129 @@ fn same(a: &[u8], b: &[u8]) -> bool
 }
 
 // `check`, `print` or `models` and its one file.
-fn run_on_one(told: bool, what: usize) -> u64 {
-    if !has_words(told, 3) {
+fn run_on_one(rt: HostRuntime, told: bool, what: usize) -> u64 {
+    if !has_words(rt, told, 3) {
         return usage();
     }
     let mut path = io::buffer();
-    let n = word(told, 2, &mut path);
-    if os::errno() != 0 {
-        os::fail(b"the name of the file");
-        return FILE;
-    }
+    let n = match word(rt, told, 2, &mut path) {
+        Ok(n) => n,
+        Err(why) => return tell_unread(b"the name of the file", why),
+    };
     match what {
-        MODELS => print_models(&path[..n]),
-        PRINTS => print_file(&path[..n]),
-        _ => check_file(&path[..n]),
+        MODELS => print_models(rt, &path[..n]),
+        PRINTS => print_file(rt, &path[..n]),
+        _ => check_file(rt, &path[..n]),
     }
 }
 
 // `write`, with the name of its rules.
-fn write_into(rules: &[u8], told: bool) -> u64 {
+fn write_into(rt: HostRuntime, rules: &[u8], told: bool) -> u64 {
     let mut sheet = io::buffer();
-    let n = word(told, 3, &mut sheet);
-    if os::errno() != 0 {
-        os::fail(b"SHEET");
-        return FILE;
-    }
-    write_file(rules, &sheet[..n], Caller::this_one(false, told))
+    let n = match word(rt, told, 3, &mut sheet) {
+        Ok(n) => n,
+        Err(why) => return tell_unread(b"SHEET", why),
+    };
+    write_file(rt, rules, &sheet[..n], Caller::this_one(rt, false, told))
 }
 
 // `write` and its files.
-fn run_write(told: bool) -> u64 {
-    if !has_words(told, 4) {
+fn run_write(rt: HostRuntime, told: bool) -> u64 {
+    if !has_words(rt, told, 4) {
         return usage();
     }
     let mut rules = io::buffer();
-    let n = word(told, 2, &mut rules);
-    if os::errno() != 0 {
-        os::fail(b"RULES");
-        return FILE;
-    }
-    write_into(&rules[..n], told)
+    let n = match word(rt, told, 2, &mut rules) {
+        Ok(n) => n,
+        Err(why) => return tell_unread(b"RULES", why),
+    };
+    write_into(rt, &rules[..n], told)
 }
 
 // Word i of a command as it is without --salvage, which comes before the names of the files.
-fn file_word(told: bool, way: usize, i: usize, memory: &mut [u8]) -> usize
+fn file_word(
+    rt: HostRuntime,
+    told: bool,
+    way: usize,
+    i: usize,
+    memory: &mut [u8],
+) -> Result<usize, FillError>
     requires { i < 8 }
-    ensures { IsPrefixLen result memory.new }
+    ensures { IfOk result (λ n. IsPrefixLen n memory.new) }
 {
     if way == SALVAGES {
-        return word(told, i + 1, memory);
+        return word(rt, told, i + 1, memory);
     }
-    word(told, i, memory)
+    word(rt, told, i, memory)
 }
 
 // `convert`, with the names of its sheet and its schedule.
-fn convert_into(sheet: &[u8], schedule: &[u8], caller: Caller, way: usize) -> u64 {
+fn convert_into(rt: HostRuntime, sheet: &[u8], schedule: &[u8], caller: Caller, way: usize) -> u64 {
     let mut listing = io::buffer();
-    let n = file_word(caller.listens, way, 4, &mut listing);
-    if os::errno() != 0 {
-        os::fail(b"LISTING");
-        return FILE;
-    }
+    let n = match file_word(rt, caller.listens, way, 4, &mut listing) {
+        Ok(n) => n,
+        Err(why) => return tell_unread(b"LISTING", why),
+    };
     if way == SALVAGES {
-        return commands::salvage_files(sheet, schedule, &listing[..n], caller);
+        return commands::salvage_files(rt, sheet, schedule, &listing[..n], caller);
     }
-    commands::convert_files(sheet, schedule, &listing[..n], caller)
+    commands::convert_files(rt, sheet, schedule, &listing[..n], caller)
 }
 
 // `convert` or `try`, with the name of its sheet.
-fn run_with(sheet: &[u8], caller: Caller, way: usize) -> u64 {
+fn run_with(rt: HostRuntime, sheet: &[u8], caller: Caller, way: usize) -> u64 {
     let mut schedule = io::buffer();
-    let n = file_word(caller.listens, way, 3, &mut schedule);
-    if os::errno() != 0 {
-        os::fail(b"SCHEDULE");
-        return FILE;
-    }
+    let n = match file_word(rt, caller.listens, way, 3, &mut schedule) {
+        Ok(n) => n,
+        Err(why) => return tell_unread(b"SCHEDULE", why),
+    };
     if way == TRIES {
-        return commands::try_files(sheet, &schedule[..n], caller);
+        return commands::try_files(rt, sheet, &schedule[..n], caller);
     }
-    convert_into(sheet, &schedule[..n], caller, way)
+    convert_into(rt, sheet, &schedule[..n], caller, way)
 }
 
 // `convert` or `try` and its files. Somebody watches where it was asked for, or where standard error is a terminal.
-fn run_files(told: bool, asked: bool, way: usize) -> u64 {
+fn run_files(rt: HostRuntime, told: bool, asked: bool, way: usize) -> u64 {
     let mut sheet = io::buffer();
-    let n = file_word(told, way, 2, &mut sheet);
-    if os::errno() != 0 {
-        os::fail(b"RULES");
-        return FILE;
-    }
-    let watched = asked | (libc::isatty(STDERR_FILENO) == 1);
-    run_with(&sheet[..n], Caller::this_one(watched, told), way)
+    let n = match file_word(rt, told, way, 2, &mut sheet) {
+        Ok(n) => n,
+        Err(why) => return tell_unread(b"RULES", why),
+    };
+    let watched = asked | rt.stderr().is_terminal();
+    run_with(rt, &sheet[..n], Caller::this_one(rt, watched, told), way)
 }
 
 // Whether word i is this one.
-fn is_word(told: bool, i: usize, text: &[u8]) -> bool
+fn is_word(rt: HostRuntime, told: bool, i: usize, text: &[u8]) -> bool
     requires { i < 9 }
 {
     let mut given = io::buffer();
-    let n = word(told, i, &mut given);
-    same(&given[..n], text)
+    match word(rt, told, i, &mut given) {
+        Ok(n) => same(&given[..n], text),
+        Err(_) => false,
+    }
 }
 
 // `convert` or `try`, which have n words, and perhaps --progress behind them.
-fn run_conversion(told: bool, n: usize, way: usize) -> u64
+fn run_conversion(rt: HostRuntime, told: bool, n: usize, way: usize) -> u64
     requires { n < 7 }
 {
-    if has_words(told, n) {
-        return run_files(told, false, way);
+    if has_words(rt, told, n) {
+        return run_files(rt, told, false, way);
     }
-    if has_words(told, n + 1) & is_word(told, n, b"--progress") {
-        return run_files(told, true, way);
+    if has_words(rt, told, n + 1) & is_word(rt, told, n, b"--progress") {
+        return run_files(rt, told, true, way);
     }
     usage()
 }
 
 // `convert`, perhaps with --salvage.
-fn run_convert(told: bool) -> u64 {
-    if is_word(told, 2, b"--salvage") {
-        return run_conversion(told, 6, SALVAGES);
+fn run_convert(rt: HostRuntime, told: bool) -> u64 {
+    if is_word(rt, told, 2, b"--salvage") {
+        return run_conversion(rt, told, 6, SALVAGES);
     }
-    run_conversion(told, 5, CONVERTS)
+    run_conversion(rt, told, 5, CONVERTS)
 }
 
 // The commands that name no file.
@@ -200,60 +232,64 @@ fn run_other(command: &[u8]) -> u64 {
     usage()
 }
 
-fn run_command(told: bool, command: &[u8]) -> u64 {
+fn run_command(rt: HostRuntime, told: bool, command: &[u8]) -> u64 {
     if same(command, b"check") {
-        return run_on_one(told, CHECKS);
+        return run_on_one(rt, told, CHECKS);
     }
     if same(command, b"print") {
-        return run_on_one(told, PRINTS);
+        return run_on_one(rt, told, PRINTS);
     }
     if same(command, b"models") {
-        return run_on_one(told, MODELS);
+        return run_on_one(rt, told, MODELS);
     }
     if same(command, b"write") {
-        return run_write(told);
+        return run_write(rt, told);
     }
     if same(command, b"try") {
-        return run_conversion(told, 4, TRIES);
+        return run_conversion(rt, told, 4, TRIES);
     }
     if same(command, b"convert") {
-        return run_convert(told);
+        return run_convert(rt, told);
     }
     run_other(command)
 }
 
-fn run(told: bool) -> u64 {
+fn run(rt: HostRuntime, told: bool) -> u64 {
     let mut command = io::buffer();
-    let n = word(told, 1, &mut command);
-    if os::errno() != 0 {
-        return usage();
-    }
-    run_command(told, &command[..n])
+    let n = match word(rt, told, 1, &mut command) {
+        Ok(n) => n,
+        Err(_) => return usage(),
+    };
+    run_command(rt, told, &command[..n])
 }
 
 // Whether the first word is --tell.
-fn is_told() -> bool {
-    let mut first = io::buffer();
-    let n = os::arg(1, &mut first);
-    same(&first[..n], b"--tell")
+fn is_told(rt: HostRuntime) -> bool {
+    is_word(rt, false, 1, b"--tell")
 }
 
 // A standard descriptor that is closed would go to the next file that is opened, and a message into that file: the least that is free is
 // given to /dev/null if it is one of those.
-fn keep_standard() {
-    let fd = os::open_update(b"/dev/null");
-    if fd > STDERR_FILENO {
-        libc::close(fd);
+fn keep_standard(rt: HostRuntime) {
+    let mut how = OpenOptions::new();
+    how.read(true).write(true);
+    match how.open(&rt, "/dev/null") {
+        Ok(file) => {
+            if file.as_raw_fd() <= STDERR_FILENO {
+                file.into_raw_fd();
+            }
+        }
+        Err(_) => {}
     }
 }
 
-fn main() {
-    keep_standard();
-    keep_standard();
-    keep_standard();
-    let told = is_told();
-    let caller = Caller::this_one(false, told);
-    let number = run(told);
+fn main(rt: HostRuntime) {
+    keep_standard(rt);
+    keep_standard(rt);
+    keep_standard(rt);
+    let told = is_told(rt);
+    let caller = Caller::this_one(rt, false, told);
+    let number = run(rt, told);
     complain(b"wickpollen: ");
     io::print_decimal(STDERR_FILENO, number);
     complain(b"\n");

@@ -38,7 +38,7 @@ parts tags e p x α β f =
     let g = f.fault in
     subst (λ (z : List Bracket). (n : ℕ) × PartAt e n z β) f.first_is
     (subst (λ (z : List Bracket). (n : ℕ) × PartAt e n g.first_string z) f.second_is
-    (part_at_one_sign tags e p g.agreed g.agreed g.up_to g.up_to x x g.first_string g.second_string g.first-goes g.second_goes g.different))
+    (part_at_one_sign tags e p g.agreed g.agreed g.up_to g.up_to x x g.first_string g.second_string g.first_goes g.second_goes g.different))
 
 module _ {s : List ℕ} {a : Sheet} (i : IsSheet s a) (q p : ℕ) (x : Symbol) where
   abbrev g : List Production

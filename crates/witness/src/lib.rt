@@ -1,4 +1,7 @@
 // Why a fault is one: the first two bracket strings from a place to a next symbol, and the sign at which they part.
+
+#![tactic(auto)]
+
 ghost use Rattle.std.specs.Prelude.{◌≡◌, [], ℕ, suc, ◌*◌, ◌≤◌, ◌<◌};
 ghost use Rattle.layout.specs.LaidOut.{LaidOut};
 ghost use Rattle.layout.specs.Records.{node_count_of};
@@ -19,14 +22,14 @@ use ways::{Spot, atom_can, part, parts_of};
 pub const LONGEST: usize = 192;
 
 // A bracket string: opening i is the byte 2 * i, closing i is 2 * i + 1.
-#[derive(Drop)]
+#[derive(Clone, Copy)]
 pub struct Row {
     pub length: usize,
     pub bytes: [u8; 192],
 }
 
 // No string, the only one, or the first two.
-#[derive(Drop)]
+#[derive(Clone, Copy)]
 pub struct Pair {
     pub count: usize,
     pub first: Row,
@@ -500,7 +503,7 @@ fn sign_between(a: Row, b: Row) -> usize
 
 // The number of the sheet where it is no sheet, else 9 where there is such a fault and 0 where there is none; with 9 two bracket strings
 // and the number of the sign at which they part, else empty strings and 0.
-#[derive(Drop)]
+#[derive(Clone, Copy)]
 pub struct Reason {
     pub number: u8,
     pub first: Row,

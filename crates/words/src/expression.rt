@@ -8,7 +8,7 @@ use crate::symbols::say_atom;
 use layout::{Layout, first_node_of, kind_of, node_count_of};
 
 // The node past a tree, and the atom past its atoms.
-#[derive(Drop)]
+#[derive(Clone, Copy)]
 pub struct Past {
     pub node: usize,
     pub atom: usize,

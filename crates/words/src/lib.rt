@@ -1,4 +1,7 @@
 // Words for the parts of a sheet and for the numbers: tags, atoms, next symbols, expressions, what a number means.
+
+#![tactic(auto)]
+
 mod expression;
 mod numbers;
 mod speech;
@@ -12,11 +15,11 @@ ghost use Rattle.words.specs.Atoms.{FoundIs};
 pub use expression::{Past, say_expression, say_numbered, say_tree};
 use layout::{Layout, first_node_of, kind_of, node_count_of};
 pub use numbers::{say_meaning, table, tell_of_declarations};
-pub use speech::{say, say_number, say_ordinal, tell, tell_number};
+pub use speech::{STDERR_FILENO, STDOUT_FILENO, say, say_number, say_ordinal, tell, tell_number};
 pub use symbols::{say_atom, say_empty_tag, say_end_tag, say_next, say_tag, say_tags_of};
 
 // A node by its number in the sheet.
-#[derive(Drop)]
+#[derive(Clone, Copy)]
 pub enum Found {
     At(usize),
     Nothing,

@@ -1,6 +1,5 @@
 // The numbers of the table, in plain words.
-use crate::speech::{say, say_number, tell};
-use libc::STDOUT_FILENO;
+use crate::speech::{STDOUT_FILENO, say, say_number, tell};
 
 // What a number says of a sheet, and what to do next.
 fn say_of_sheet(number: usize) {

@@ -1,5 +1,9 @@
 // Text on standard output, or on another descriptor.
-use libc::STDOUT_FILENO;
+
+// Standard output and standard error, as io numbers them.
+pub const STDOUT_FILENO: i32 = 1;
+
+pub const STDERR_FILENO: i32 = 2;
 
 pub fn tell(fd: i32, text: &[u8]) {
     io::write_all(fd, text);

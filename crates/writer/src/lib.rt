@@ -1,10 +1,13 @@
 // Rules typed as text are written as a sheet into lent memory: 40, 41 or 43 with what goes with them, or the sheet.
+
+#![tactic(auto)]
+
 ghost use Rattle.std.specs.Prelude.{◌≡◌, true, false};
 ghost use Rattle.writing.specs.Written.{WrittenAs};
 ghost use Rattle.writer.specs.Walks.{Places, FreshDesk, LastIs, WalkIs, WalkedOn, Begun};
 
 // A number, and the count that goes with it.
-#[derive(Drop)]
+#[derive(Clone, Copy)]
 pub struct Written {
     pub number: usize,
     pub count: usize,
@@ -12,7 +15,7 @@ pub struct Written {
 
 // Where a writer stands: whether it goes on; whether a store was full, and then the byte that goes with 41; how many bytes are read; what it keeps, its
 // reader, and what it has found behind those bytes.
-#[derive(Drop)]
+#[derive(Clone, Copy)]
 struct Walk {
     going: bool,
     full: bool,

@@ -1,1 +1,3 @@
 // What is promised of rules written as a sheet. Statements in specs/, theorems in proofs/.
+
+#![tactic(auto)]

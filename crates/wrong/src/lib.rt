@@ -1,5 +1,8 @@
 // Which record of a sheet is the first wrong one, where the sheet's number is 2 to 7. The number is the proved test's; this only looks for the
 // place to mend, in bytes of any sort, and says nothing where it finds none.
+
+#![tactic(auto)]
+
 mod nodes;
 mod productions;
 mod programs_told;

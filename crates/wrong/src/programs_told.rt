@@ -9,7 +9,7 @@ use words::say;
 const NONE: usize = 65535;
 
 // Where the programs that are right by themselves end, at the latest at `stop`; and whether that one is right, and for which visits.
-#[derive(Drop)]
+#[derive(Clone, Copy)]
 struct Walked {
     at: usize,
     good: bool,

@@ -1,8 +1,9 @@
-// A schedule from one descriptor converted to another, part by part, in memory that is lent: so much of the schedule, so much output.
+// A schedule from one file converted to another, part by part, in memory that is lent: so much of the schedule, so much output.
 ghost use Rattle.io.specs.Counts.{IsPrefixLen};
 
 use callers::Caller;
 use converter::{Reply, convert};
+use files::Opened;
 use standing::{Standing, end_progress, tell_progress, write_out};
 
 // After a call whose output was written out: what was taken is passed, and what was not is moved to the front.
@@ -24,7 +25,7 @@ fn go_on(part: &mut [u8], held: usize, s: Standing, r: Reply) -> Standing {
 // rule, and more only where the room was too short for the output of all.
 fn turn_filled(
     sheet: &[u8],
-    to: i32,
+    to: &mut Opened,
     part: &mut [u8],
     held: usize,
     ended: bool,
@@ -45,8 +46,8 @@ fn turn_filled(
 // One call of the converter: reads on behind what is held, and converts that.
 fn turn(
     sheet: &[u8],
-    from: i32,
-    to: i32,
+    from: &mut Opened,
+    to: &mut Opened,
     part: &mut [u8],
     out: &mut [u8],
     s: Standing,
@@ -60,15 +61,16 @@ fn turn(
 
 // One call of the converter, if whoever started it is still there.
 fn turn_for(
+    rt: HostRuntime,
     caller: Caller,
     sheet: &[u8],
-    from: i32,
-    to: i32,
+    from: &mut Opened,
+    to: &mut Opened,
     part: &mut [u8],
     out: &mut [u8],
     s: Standing,
 ) -> Standing {
-    if caller.is_gone() {
+    if caller.is_gone(rt) {
         return s.forsaken();
     }
     turn(sheet, from, to, part, out, s)
@@ -77,9 +79,10 @@ fn turn_for(
 // Converts until the converter answers anything but "more is to come" or "the room is full", or a file fails. A proved loop has to end, and
 // nothing says that a file does: so the turns are counted down from a number that no run uses up.
 pub(crate) fn run(
+    rt: HostRuntime,
     sheet: &[u8],
-    from: i32,
-    to: i32,
+    from: &mut Opened,
+    to: &mut Opened,
     part: &mut [u8],
     out: &mut [u8],
     caller: Caller,
@@ -88,7 +91,7 @@ pub(crate) fn run(
     let mut turns = u64::MAX;
     while turns > 0 && s.going {
         let before = s.place;
-        s = turn_for(caller, sheet, from, to, part, out, s);
+        s = turn_for(rt, caller, sheet, from, to, part, out, s);
         let after = s.place;
         tell_progress(caller.watches, before.offset, after.offset);
         turns -= 1;

@@ -1,8 +1,9 @@
-// A schedule from one descriptor converted to another without the records that are damaged, part by part, in memory that is lent.
+// A schedule from one file converted to another without the records that are damaged, part by part, in memory that is lent.
 ghost use Rattle.io.specs.Counts.{IsPrefixLen};
 
 use behind::{Behind, Tail};
 use callers::Caller;
+use files::Opened;
 use rescued::SalvageCounts;
 use salvages::salvage_bytes;
 use standing::{Standing, end_progress, tell_progress, write_out};
@@ -19,7 +20,7 @@ pub(crate) const ENTRIES: usize = 2730;
 pub(crate) const REPORT: usize = 65520;
 
 // Where a run stands between two calls: as a conversion does, and how many bytes of the report are in use.
-#[derive(Drop)]
+#[derive(Clone, Copy)]
 pub struct Rescue {
     pub standing: Standing,
     pub used: usize,
@@ -100,7 +101,7 @@ fn go_on(part: &mut [u8], held: usize, r: Rescue, c: SalvageCounts, wrote: bool)
 // One call on what is held: the output is written out, and the entries are kept behind those that are there.
 fn turn_filled(
     sheet: &[u8],
-    to: i32,
+    to: &mut Opened,
     part: &mut [u8],
     held: usize,
     ended: bool,
@@ -129,10 +130,11 @@ fn turn_filled(
 
 // One call, if whoever started it is still there: reads on behind what is held.
 fn turn(
+    rt: HostRuntime,
     caller: Caller,
     sheet: &[u8],
-    from: i32,
-    to: i32,
+    from: &mut Opened,
+    to: &mut Opened,
     part: &mut [u8],
     waiting: &mut [u8],
     report: &mut [u8],
@@ -140,7 +142,7 @@ fn turn(
     r: Rescue,
 ) -> Rescue {
     let s = r.standing;
-    if caller.is_gone() {
+    if caller.is_gone(rt) {
         return r.with(s.forsaken());
     }
     let filled = files::fill(from, part, s.held);
@@ -162,9 +164,10 @@ fn turn(
 
 // Calls until anything but "more is to come" or "the room is full" is answered, or a file fails; the turns are counted down, as in a conversion.
 fn run(
+    rt: HostRuntime,
     sheet: &[u8],
-    from: i32,
-    to: i32,
+    from: &mut Opened,
+    to: &mut Opened,
     part: &mut [u8],
     waiting: &mut [u8],
     report: &mut [u8],
@@ -175,7 +178,7 @@ fn run(
     let mut turns = u64::MAX;
     while turns > 0 && r.goes() {
         let before = r.offset();
-        r = turn(caller, sheet, from, to, part, waiting, report, state, r);
+        r = turn(rt, caller, sheet, from, to, part, waiting, report, state, r);
         tell_progress(caller.watches, before, r.offset());
         turns -= 1;
     }
@@ -185,9 +188,10 @@ fn run(
 
 // A whole run from a fresh state. What is told of the state is that of its conversion.
 pub(crate) fn run_fresh(
+    rt: HostRuntime,
     sheet: &[u8],
-    from: i32,
-    to: i32,
+    from: &mut Opened,
+    to: &mut Opened,
     part: &mut [u8],
     report: &mut [u8],
     caller: Caller,
@@ -196,6 +200,7 @@ pub(crate) fn run_fresh(
     let mut state = [0u8; STATE];
     to_bytes(State::fresh(), &mut state);
     let r = run(
+        rt,
         sheet,
         from,
         to,

@@ -1,6 +1,7 @@
 // How a run ends: the new file takes the listing's place, or is taken away; and what is told then.
 use crate::rulebooks::FILE;
 use callers::Caller;
+use files::Opened;
 use outcomes::{say_of_room, tell_number, tell_place, tell_untouched};
 use standing::{Standing, is_refused};
 use std::num::wrapping_add_u64;
@@ -70,28 +71,32 @@ fn is_own(s: Standing, report: &[u8]) -> bool {
 
 // Ends a run.
 pub(crate) fn settle(
+    rt: HostRuntime,
     sheet: &[u8],
     sheet_path: &[u8],
     schedule: &[u8],
     listing: &[u8],
-    to: i32,
+    from: &Opened,
+    to: &mut Opened,
     name: &[u8],
     caller: Caller,
     s: Standing,
     left: &[u8],
     report: &[u8],
 ) -> u64 {
-    if is_refused(s) & is_own(s, report) & !caller.is_gone() {
-        files::take_away(to, name);
+    if is_refused(s) & is_own(s, report) & !caller.is_gone(rt) {
+        files::take_away(rt, to, name);
         tell_own(sheet_path, schedule, s, left, report);
         tell_untouched(listing);
         return s.number as u64;
     }
-    crate::listings::settle(sheet, schedule, listing, to, name, caller, s, left)
+    crate::listings::settle(
+        rt, sheet, schedule, listing, from, to, name, caller, s, left,
+    )
 }
 
 // Tells what was dropped, by reading the schedule again, and answers the number.
-pub(crate) fn tell_dropped(from: i32, report: &[u8], number: u64) -> u64 {
+pub(crate) fn tell_dropped(from: &mut Opened, report: &[u8], number: u64) -> u64 {
     if (number == FILE) | (report.len() == 0) {
         return number;
     }

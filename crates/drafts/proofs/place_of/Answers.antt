@@ -1,0 +1,48 @@
+use borrow.Author.Rules.{rules}
+use Rattle.drafts.proofs.Stays.{place_plain, place_program}
+use Rattle.drafts.proofs.place_of.Goals as goal
+
+pub returns-in-Beginning : goal.returns-in-Beginning
+returns-in-Beginning c = search (place_plain, place_program, rules)
+
+pub returns-in-FirstWord : goal.returns-in-FirstWord
+returns-in-FirstWord c = search (place_plain, place_program, rules)
+
+pub returns-in-Named : goal.returns-in-Named
+returns-in-Named c = search (place_plain, place_program, rules)
+
+pub returns-in-Defined : goal.returns-in-Defined
+returns-in-Defined c = search (place_plain, place_program, rules)
+
+pub returns-in-WantsTag : goal.returns-in-WantsTag
+returns-in-WantsTag c = search (place_plain, place_program, rules)
+
+pub returns-in-Tagged : goal.returns-in-Tagged
+returns-in-Tagged c = search (place_plain, place_program, rules)
+
+pub returns-in-Wants : goal.returns-in-Wants
+returns-in-Wants c = search (place_plain, place_program, rules)
+
+pub returns-in-After : goal.returns-in-After
+returns-in-After c = search (place_plain, place_program, rules)
+
+pub returns-in-Over : goal.returns-in-Over
+returns-in-Over c = search (place_plain, place_program, rules)
+
+pub returns-in-Closed : goal.returns-in-Closed
+returns-in-Closed c = search (place_plain, place_program, rules)
+
+pub returns-in-Complete : goal.returns-in-Complete
+returns-in-Complete c = search (place_plain, place_program, rules)
+
+pub returns-in-OwnFront : goal.returns-in-OwnFront
+returns-in-OwnFront c = search (place_plain, place_program, rules)
+
+pub returns-in-InFront : goal.returns-in-InFront
+returns-in-InFront c = search (place_plain, place_program, rules)
+
+pub returns-in-Behind : goal.returns-in-Behind
+returns-in-Behind c = search (place_plain, place_program, rules)
+
+pub returns-in-OwnBack : goal.returns-in-OwnBack
+returns-in-OwnBack c = search (place_plain, place_program, rules)

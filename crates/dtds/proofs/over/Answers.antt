@@ -1,0 +1,75 @@
+use mathlib.Core.Path.{sym, ◌∙◌}
+use Prim.Native.Nat.{◌-◌}
+use borrow.Author.Rules.{rules}
+use Rattle.scans.proofs.Gaps.{read_first}
+use Rattle.dtds.proofs.Strides.{byte_halted, byte_onward, at_end}
+use Rattle.dtds.proofs.over.Goals as goal
+
+pub loop-at-init : goal.loop-at-init
+loop-at-init c =
+    read_first c.args.text.now c.fresh-s.result _ _ _ _ _ _ c.fresh-s.ensures c.requires
+
+pub stride-s-requires : goal.stride-s-requires
+stride-s-requires c = record { at_in_bounds = c.loop-at-test.true; read_up_to = c.loop-at.invariant }
+
+pub shape_of-names-then-s-ne0 : goal.shape_of-names-then-s-ne0
+shape_of-names-then-s-ne0 c = c.stride-s.ensures.rooms.name_room.room ∙ sym c.requires.name_room.room
+
+pub shape_of-nameends-then-s-ne0 : goal.shape_of-nameends-then-s-ne0
+shape_of-nameends-then-s-ne0 c = c.stride-s.ensures.rooms.name_room.places ∙ sym c.requires.name_room.places
+
+pub shape_of-tags-then-s-ne0 : goal.shape_of-tags-then-s-ne0
+shape_of-tags-then-s-ne0 c = c.stride-s.ensures.rooms.tag_room.room ∙ sym c.requires.tag_room.room
+
+pub shape_of-tagends-then-s-ne0 : goal.shape_of-tagends-then-s-ne0
+shape_of-tagends-then-s-ne0 c = c.stride-s.ensures.rooms.tag_room.places ∙ sym c.requires.tag_room.places
+
+pub shape_of-productions-then-s-ne0 : goal.shape_of-productions-then-s-ne0
+shape_of-productions-then-s-ne0 c = c.stride-s.ensures.rooms.section_room.production_room ∙ sym c.requires.section_room.production_room
+
+pub shape_of-nodes-then-s-ne0 : goal.shape_of-nodes-then-s-ne0
+shape_of-nodes-then-s-ne0 c = c.stride-s.ensures.rooms.section_room.node_room ∙ sym c.requires.section_room.node_room
+
+pub returns-then-s-ne0 : goal.returns-then-s-ne0
+returns-then-s-ne0 c =
+    byte_halted c.args.text.now c.loop-at.at c.stride-s.result _ _ _ _ _ _ c.args.area.now c.stride-s.ensures c.if-s-ne0.true
+
+pub overflow_add-at : goal.overflow_add-at
+overflow_add-at c =
+    let z = c.loop-at-test.true in
+    let g = c.well_formed in
+    search (z, g, rules)
+
+pub loop-at-smaller : goal.loop-at-smaller
+loop-at-smaller c =
+    let z = c.loop-at-test.true in
+    search (z, rules)
+
+pub loop-at-preserved : goal.loop-at-preserved
+loop-at-preserved c =
+    byte_onward c.args.text.now c.loop-at.at c.stride-s.result _ _ _ _ _ _ c.stride-s.ensures c.if-s-ne0.false
+
+pub settle-requires : goal.settle-requires
+settle-requires c =
+    at_end c.args.text.now c.loop-at.at c.loop-at.s _ _ _ _ _ _ (search (c.loop-at-test.false, rules)) c.loop-at.invariant
+
+pub shape_of-names : goal.shape_of-names
+shape_of-names c = c.loop-at.invariant.rooms.name_room.room ∙ sym c.requires.name_room.room
+
+pub shape_of-nameends : goal.shape_of-nameends
+shape_of-nameends c = c.loop-at.invariant.rooms.name_room.places ∙ sym c.requires.name_room.places
+
+pub shape_of-tags : goal.shape_of-tags
+shape_of-tags c = c.loop-at.invariant.rooms.tag_room.room ∙ sym c.requires.tag_room.room
+
+pub shape_of-tagends : goal.shape_of-tagends
+shape_of-tagends c = c.loop-at.invariant.rooms.tag_room.places ∙ sym c.requires.tag_room.places
+
+pub shape_of-productions : goal.shape_of-productions
+shape_of-productions c = c.loop-at.invariant.rooms.section_room.production_room ∙ sym c.requires.section_room.production_room
+
+pub shape_of-nodes : goal.shape_of-nodes
+shape_of-nodes c = c.loop-at.invariant.rooms.section_room.node_room ∙ sym c.requires.section_room.node_room
+
+pub returns : goal.returns
+returns c = c.settle.ensures

@@ -1,0 +1,6 @@
+use borrow.Author.Rules.{rules}
+use Rattle.layout.proofs.node_word.Goals as goal
+
+-- The number that was read lies at the node's own place, as the layout has the section's offset.
+pub returns : goal.returns
+returns c = rw c.requires.laid_out.layout_is.nodes_at_is.is at c.word_at.ensures

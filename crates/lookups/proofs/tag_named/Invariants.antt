@@ -1,0 +1,14 @@
+use mathlib.Core.Bool.{false}
+use Prim.Native.Nat.{ℕ, ◌-◌, ◌≤◌, ◌<◌}
+use native.Mathlib.Omega.{arith}
+use borrow.Author.Rules.{rules}
+use Rattle.lookups.proofs.Firsts.{TagTells}
+use Rattle.lookups.proofs.tag_named.Given as goal
+
+-- No tag passed so far has the name; the first that has it settles it.
+-- Assumes nothing.
+abbrev pub invariant-loop-t : goal.invariant-loop-t
+invariant-loop-t l = (l.t ≤ l.count) × ((k : ℕ) → k < l.t → TagTells l.s l.name false k)
+
+abbrev pub decreases-loop-t : goal.decreases-loop-t
+decreases-loop-t l = l.count - l.t

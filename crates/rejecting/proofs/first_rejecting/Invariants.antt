@@ -1,0 +1,15 @@
+use mathlib.Core.List.{List}
+use Prim.Native.Nat.{ℕ, ◌-◌, ◌≤◌}
+use native.Mathlib.Omega.{arith}
+use lib.ListN.{length}
+use Rattle.live.specs.Live.{full}
+use Rattle.rejecting.proofs.Rows.{PassedTo}
+use borrow.Author.Rules.{rules}
+use Rattle.rejecting.proofs.first_rejecting.Given as goal
+
+-- The loop keeps that the brackets so far pass.
+abbrev pub invariant-loop-i : goal.invariant-loop-i
+invariant-loop-i l = (l.i ≤ length l.line) × ((b : List ℕ) → PassedTo l.s l.q l.line (full l.z b) l.i)
+
+abbrev pub decreases-loop-i : goal.decreases-loop-i
+decreases-loop-i l = length l.line - l.i

@@ -1,0 +1,8 @@
+use Rattle.state.specs.Changes.{bare_frame}
+use borrow.Author.Rules.{rules}
+use Rattle.state.proofs.Frame.bare.Goals as goal
+
+-- Field by field, with what `Saved::bare` answers.
+pub returns : goal.returns
+unfolding bare_frame
+returns c = rw c.bare-none.ensures

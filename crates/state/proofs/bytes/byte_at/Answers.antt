@@ -1,0 +1,8 @@
+use mathlib.Core.Path.{sym}
+use lib.ListN.{get_or-eq_default}
+use borrow.Author.Rules.{rules}
+use Rattle.state.proofs.bytes.byte_at.Goals as goal
+
+-- Past the end `byte_at` is 0.
+pub returns-else-at-bytes : goal.returns-else-at-bytes
+returns-else-at-bytes c = sym (get_or-eq_default c.args.bytes.now 0 c.if-at-bytes.false)

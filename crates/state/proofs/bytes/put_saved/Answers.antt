@@ -1,0 +1,9 @@
+use Rattle.state.specs.Bytes.{saved_bytes}
+use Rattle.state.proofs.Written.{wrote_then}
+use borrow.Author.Rules.{rules}
+use Rattle.state.proofs.bytes.put_saved.Goals as goal
+
+-- The values, then echo.
+pub returns : goal.returns
+unfolding saved_bytes
+returns c = wrote_then c.put_values-next.ensures c.put_flag.ensures

@@ -1,0 +1,31 @@
+use mathlib.Core.Path.{◌≡◌, ap, ◌∙◌}
+use Prim.Native.Nat.{ℕ, ◌-◌}
+use native.Mathlib.Omega.{arith}
+use Rattle.state.specs.Bounds.{most_sets, set_width}
+use Rattle.state.specs.Changes.{bare_saved, bare_from}
+use Rattle.state.specs.Bytes.{saved_at, gathered}
+use Rattle.state.proofs.Gathered.{none_read, one_read, all_read}
+use borrow.Author.Rules.{rules}
+use Rattle.state.proofs.bytes.sets_in_use_at.Goals as goal
+
+pub loop-i-init : goal.loop-i-init
+loop-i-init c = (omega arith, omega arith, omega arith, none_read bare_saved _ (saved_at _) set_width _ most_sets c.bare-none.ensures)
+
+pub returns-then-i-ge-SETS : goal.returns-then-i-ge-SETS
+returns-then-i-ge-SETS c = let l = c.loop-i in all_read bare_saved (saved_at _) set_width _ most_sets l.i _ _ c.if-i-ge-SETS.true l.invariant.0 l.invariant.3
+
+pub loop-i-preserved : goal.loop-i-preserved
+loop-i-preserved c =
+    let l = c.loop-i in (
+      omega arith,
+      omega arith,
+      omega arith,
+      one_read bare_saved _ (saved_at _) set_width _ most_sets l.i l.next _ (omega (arith, c.if-i-ge-SETS.false)) l.invariant.2 c.saved_at.ensures l.invariant.3,
+    )
+
+pub returns : goal.returns
+returns c =
+    let l = c.loop-i in
+    let a = c.args in
+    let e : l.i ≡ a.n = omega (arith, l.invariant.0, c.loop-i-test.false) in
+    l.invariant.3 ∙ ap (λ (k : ℕ). bare_from bare_saved k (gathered (saved_at a.bytes.now) set_width a.at most_sets)) e

@@ -1,0 +1,8 @@
+use borrow.Author.Rules.{rules}
+use native.Mathlib.Omega.{arith}
+use Rattle.witness.proofs.+out_of.Given as goal
+
+-- `out_of` calls itself on the parts, the nodes falling; each return is a law about a node from its parts.
+-- Assumes nothing.
+abbrev pub decreases-out_of : goal.decreases-out_of
+decreases-out_of l = l.t.nodes

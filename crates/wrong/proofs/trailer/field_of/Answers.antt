@@ -1,0 +1,6 @@
+use borrow.Author.Rules.{rules}
+use Rattle.wrong.proofs.Laws.{field_is}
+use Rattle.wrong.proofs.trailer.field_of.Goals as goal
+
+pub returns : goal.returns
+returns c = field_is _ c.args.k _ _ c.start.ensures c.word.ensures

@@ -1,0 +1,6 @@
+use borrow.Author.Rules.{rules}
+use Rattle.wrong.proofs.Laws.{word_is}
+use Rattle.wrong.proofs.word.Goals as goal
+
+pub returns : goal.returns
+returns c = word_is _ c.args.i _ _ c.small.ensures c.small-2.ensures
