@@ -3,7 +3,7 @@
 
     python3 tests/program.py [NAME..]     all tests, or those whose names hold one of the words
 
-Needs `rt run wickpollen -- --version` first, and Linux. Each test has a folder of its own; its last line is "N passed, 0 failed".
+Needs `rt run -- --version` in crates/wickpollen first, and Linux. Each test has a folder of its own; its last line is "N passed, 0 failed".
 """
 import os, pty, resource, shutil, signal, stat, struct, subprocess, sys, tempfile, time
 

@@ -3,7 +3,7 @@
 
 usage: python3 tools/respell.py [--list] FOLDER
 
-FOLDER is a checkout that /opt/rattle/port/port.py has turned. Names that the library declares, names that Rattle makes (goals and steps) and names
+FOLDER is a checkout that the kit's port.py has turned. Names that the library declares, names that Rattle makes (goals and steps) and names
 of Rattle source keep their spelling. It was run once, and is kept so that the same can be run on the commit before the port, for comparison.
 --list writes nothing and prints each renaming and the names that fall together.
 """
@@ -11,9 +11,10 @@ of Rattle source keep their spelling. It was run once, and is kept so that the s
 import collections
 import os
 import re
+import subprocess
 import sys
 
-KIT = "/opt/rattle"
+KIT = os.path.dirname(subprocess.run(["rt", "doc"], capture_output=True, text=True).stdout.strip())
 CUT = r"\s(){}.,;«»\[\]|λ→:@`\"≡∷"
 TOKEN = re.compile(rf"(?<![^{CUT}])[a-z][A-Za-z0-9_'-]*(?![^{CUT}])")
 HEAD = re.compile(r"^\s*((?:(?:pub|abbrev|unfoldable|data|record)\s+)*)((?:[^\s:(){}.«»,;=]+\s+)*[^\s:(){}.«»,;=]+)\s*:\s*(.*)$")
