@@ -5,6 +5,7 @@ usage: python3 tools/respell.py [--list] FOLDER
 
 FOLDER is a checkout that the kit's port.py has turned. Names that the library declares, names that Rattle makes (goals and steps) and names
 of Rattle source keep their spelling. It was run once, and is kept so that the same can be run on the commit before the port, for comparison.
+The word a before another word, and names with a question mark behind them, were respelled by hand later, and are read here since.
 --list writes nothing and prints each renaming and the names that fall together.
 """
 
@@ -16,7 +17,7 @@ import sys
 
 KIT = os.path.dirname(subprocess.run(["rt", "doc"], capture_output=True, text=True).stdout.strip())
 CUT = r"\s(){}.,;«»\[\]|λ→:@`\"≡∷"
-TOKEN = re.compile(rf"(?<![^{CUT}])[a-z][A-Za-z0-9_'-]*(?![^{CUT}])")
+TOKEN = re.compile(rf"(?<![^{CUT}])[a-z][A-Za-z0-9_'-]*\??(?![^{CUT}])")
 HEAD = re.compile(r"^\s*((?:(?:pub|abbrev|unfoldable|data|record)\s+)*)((?:[^\s:(){}.«»,;=]+\s+)*[^\s:(){}.«»,;=]+)\s*:\s*(.*)$")
 USE = re.compile(r"^\s*(?:ghost\s+)?(?:pub\s+)?use\s+(\S+?)\.\{([^}]*)\}", re.M)
 # what a line of a rule or of an answer declares for Rattle: not ours to name
@@ -44,7 +45,8 @@ def is_odd(word):
 
 
 def snake(word):
-    """A dash or a capital begins a new word; the name of a type, as the T of rule T, keeps its capital."""
+    """A dash or a capital begins a new word; the name of a type, as the T of rule T, keeps its capital, and the word a before another is none."""
+    word = re.sub(r"(?<=[a-z0-9'])A([A-Z])(?=[a-z])", lambda m: "_a_" + m[1].lower(), word)
     word = re.sub(r"(?<=[a-z0-9'])([A-Z])(?=[a-z])", lambda m: "_" + m[1].lower(), word)
     word = re.sub(r"(?<=[a-z0-9'])(?=[A-Z])", "_", word)
     return word.replace("-", "_")
@@ -106,7 +108,7 @@ class Respelling:
         self.kit = kit_words()
         self.own = set()
         for path in texts(os.path.join(top, "crates"), (".antt",)):
-            self.own.update(w for w in declared(read(path)) if is_odd(w) and re.fullmatch(r"[a-z][A-Za-z0-9_'-]*", w))
+            self.own.update(w for w in declared(read(path)) if is_odd(w) and re.fullmatch(r"[a-z][A-Za-z0-9_'-]*\??", w))
         self.done = collections.defaultdict(set)
         self.plain = set()
         for path in texts(os.path.join(top, "crates"), (".antt",)):

@@ -26,7 +26,7 @@ use Rattle.naming.specs.ByName.{program_named, option_named}
 use Rattle.visits.specs.Written.{Pen, Written, TagNameAt, Sources}
 use Rattle.visits.proofs.Performing.{names_in, section_of, strings_of, section_is, strings_are, its_fits, it_lies}
 use Rattle.visits.proofs.Printing.{nothing_due}
-use Rattle.passages.specs.Passages.{most_of_AProgram, ProgramTextAt}
+use Rattle.passages.specs.Passages.{most_of_a_program, ProgramTextAt}
 use Rattle.asides.specs.Asides.{aside_text, AsidesAreTheirs, most_of_an_aside, FieldNamed, FieldText}
 
 pub asides_are_theirs : AsidesAreTheirs
@@ -75,7 +75,7 @@ module _ (s : List ℕ) (field : ℕ) (in_front : Bool) (p : Pen) where
       go w u = u.bytes ∙ ap (aside_text in_front) u.names.named ∙ nothing u.sheet u.names.program u.names.is
 
   module _ (l : Layout) (L : LaidOut s l) (n : field ≡ 65535 → ⊥) (d₁ d₂ : List ℕ) (n₁ n₂ : ℕ) where
-    pub put_in_front : in_front ≡ true → Written most_of_AProgram (ProgramTextAt (section_of s l L) s (strings_of s l L) field) p n₁ d₁ → PutAs p.write d₁ n₁ (32 ∷ []) d₂ n₂
+    pub put_in_front : in_front ≡ true → Written most_of_a_program (ProgramTextAt (section_of s l L) s (strings_of s l L) field) p n₁ d₁ → PutAs p.write d₁ n₁ (32 ∷ []) d₂ n₂
         → Written most_of_an_aside (FieldText s field in_front) p n₂ d₂
     put_in_front e W P =
         record {
@@ -89,7 +89,7 @@ module _ (s : List ℕ) (field : ℕ) (in_front : Bool) (p : Pen) where
         go a z v (some q) f = rw e (put_then _ _ _ _ _ _ _ _ _ (W.right (program_text (program_named a q)) (due s l L a z field v q n f)) P)
 
     pub put_behind : in_front ≡ false → PutAs p.write p.lent p.at (32 ∷ []) d₁ n₁
-        → Written most_of_AProgram (ProgramTextAt (section_of s l L) s (strings_of s l L) field) (record { write = p.write; lent = d₁; at = n₁ }) n₂ d₂
+        → Written most_of_a_program (ProgramTextAt (section_of s l L) s (strings_of s l L) field) (record { write = p.write; lent = d₁; at = n₁ }) n₂ d₂
         → Written most_of_an_aside (FieldText s field in_front) p n₂ d₂
     put_behind e P W =
         record {

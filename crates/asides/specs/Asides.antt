@@ -11,7 +11,7 @@ use Rattle.packing.specs.Packs.{Packs}
 use Rattle.printed.specs.Programs.{program_text}
 use Rattle.printed.specs.Expressions.{program_in_front, program_behind}
 use Rattle.naming.specs.ByName.{option_named}
-use Rattle.passages.specs.Passages.{most_of_AProgram}
+use Rattle.passages.specs.Passages.{most_of_a_program}
 
 -- nothing where there is no program
 abbrev pub aside_text : Bool → Option TextProgram → List ℕ
@@ -25,7 +25,7 @@ AsidesAreTheirs = (f g : Option TextProgram) (x : List ℕ) → aside_text true 
 
 -- no program's text is longer, with its space
 abbrev pub most_of_an_aside : ℕ
-most_of_an_aside = most_of_AProgram + 1
+most_of_an_aside = most_of_a_program + 1
 
 -- the field of the sheet a names that program, tags by name and strings by bytes, or none
 pub record FieldNamed (s : List ℕ) (a : Sheet) (z : Packs s a) (v : Visit) (field : ℕ) (o : Option TextProgram) : Type 0 where

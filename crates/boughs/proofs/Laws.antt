@@ -31,7 +31,7 @@ use Rattle.clauses.specs.Clauses.{sign_where}
 use Rattle.clauses.proofs.Laws.{decimal_short, sign_short}
 use Rattle.asides.specs.Asides.{aside_text, most_of_an_aside, FieldNamed, FieldText}
 use Rattle.asides.proofs.Laws.{asides_are_theirs}
-use Rattle.boughs.specs.Boughs.{binds_at, leaf_text, join_at, apart_at, NodesNamed, TreeNamed, bare_text, inside_text, most_of_ANode, TreePut}
+use Rattle.boughs.specs.Boughs.{binds_at, leaf_text, join_at, apart_at, NodesNamed, TreeNamed, bare_text, inside_text, most_of_a_node, TreePut}
 use Rattle.boughs.specs.declared.Placed.{Placed}
 
 -- ---- by the kind

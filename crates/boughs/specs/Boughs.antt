@@ -48,13 +48,13 @@ abbrev pub inside_text : Tree → List ℕ
 inside_text (node f g k) = program_in_front f (program_behind (form_text k) g)
 
 -- no text of a tree is longer than this for each of its nodes: two programs, a word, a sign and parentheses
-abbrev pub most_of_ANode : ℕ
-most_of_ANode = 2 * most_of_an_aside + 8
+abbrev pub most_of_a_node : ℕ
+most_of_a_node = 2 * most_of_an_aside + 8
 
 -- the tree of at most `left` nodes that begins at node i is put as that text, and where it ends; so far that `spare` bytes more may follow
 pub record TreePut (spare : ℕ) (text : Tree → List ℕ) (s : List ℕ) (i left : ℕ) (p : Pen) (r : Placed) (d : List ℕ) : Type 0 where
   pub low : i ≤ r.next
   pub high : r.next ≤ i + left
-  pub reach : r.at + spare + most_of_ANode * i ≤ p.at + most_of_ANode * r.next
+  pub reach : r.at + spare + most_of_a_node * i ≤ p.at + most_of_a_node * r.next
   pub right : (a : Sheet) (z : Packs s a) (t : Tree) → TreeNamed s a z i t → nodes (expression t) ≤ left
       → (r.next ≡ i + nodes (expression t)) × PutAs p.write p.lent p.at (text t) d r.at

@@ -9,7 +9,7 @@ ghost use Rattle.layout.specs.LaidOut.{LaidOut};
 ghost use Rattle.notation.specs.Tokens.{nonterminal, token_bytes};
 ghost use Rattle.printed.specs.Expressions.{tree_text};
 ghost use Rattle.asides.specs.Asides.{most_of_an_aside};
-ghost use Rattle.boughs.specs.Boughs.{binds_at, leaf_text, join_at, apart_at, bare_text, inside_text, most_of_ANode, TreePut};
+ghost use Rattle.boughs.specs.Boughs.{binds_at, leaf_text, join_at, apart_at, bare_text, inside_text, most_of_a_node, TreePut};
 
 use asides::NONE;
 use layout::Layout;
@@ -98,7 +98,7 @@ fn put_bare(
     write: bool,
 ) -> Placed
     requires laid_out { LaidOut s.now l }
-    requires le_left { (1 ≤ left) × (i + left ≤ l.nodes) × (at + most_of_ANode * left ≤ farthest + most_of_an_aside + 1) }
+    requires le_left { (1 ≤ left) × (i + left ≤ l.nodes) × (at + most_of_a_node * left ≤ farthest + most_of_an_aside + 1) }
     ensures { TreePut (2 * most_of_an_aside + 2) bare_text s.now i left (record { write = write; lent = out.old; at = at }) result out.new }
 {
     let kind = layout::kind_of(s, l, i);
@@ -134,7 +134,7 @@ pub fn put_inside(
     write: bool,
 ) -> Placed
     requires laid_out { LaidOut s.now l }
-    requires le_left { (1 ≤ left) × (i + left ≤ l.nodes) × (at + most_of_ANode * left ≤ farthest + 1) }
+    requires le_left { (1 ≤ left) × (i + left ≤ l.nodes) × (at + most_of_a_node * left ≤ farthest + 1) }
     ensures { TreePut 2 inside_text s.now i left (record { write = write; lent = out.old; at = at }) result out.new }
 {
     let first = layout::first_program_of_node(s, l, i);
@@ -161,7 +161,7 @@ fn put_tree(
     write: bool,
 ) -> Placed
     requires laid_out { LaidOut s.now l }
-    requires left_bound { (i + left ≤ l.nodes) × (at + most_of_ANode * left ≤ farthest) }
+    requires left_bound { (i + left ≤ l.nodes) × (at + most_of_a_node * left ≤ farthest) }
     ensures { TreePut 0 (tree_text asked) s.now i left (record { write = write; lent = out.old; at = at }) result out.new }
 {
     if left == 0 {

@@ -21,7 +21,7 @@ use Rattle.printer.specs.Operands.{operand_text_at}
 use Rattle.visits.specs.Evaluated.{LiesAt}
 use Rattle.visits.specs.Written.{Pen}
 use Rattle.visits.proofs.Lying.{first_part, second_part, condition_of}
-use Rattle.clauses.specs.Clauses.{binds_at, BindsAreTheirs, word_between, condition_text_in, sign_where, most_of_AByte, ClausePut}
+use Rattle.clauses.specs.Clauses.{binds_at, BindsAreTheirs, word_between, condition_text_in, sign_where, most_of_a_byte, ClausePut}
 use Rattle.clauses.specs.declared.Put.{Put}
 
 -- ---- by the first byte

@@ -31,13 +31,13 @@ abbrev pub sign_where : Bool → ℕ → List ℕ
 sign_where b x = cond b (x ∷ []) []
 
 -- no condition's text is longer than this for each of its bytes: a word of five with its spaces, and parentheses around it
-abbrev pub most_of_AByte : ℕ
-most_of_AByte = 7
+abbrev pub most_of_a_byte : ℕ
+most_of_a_byte = 7
 
 -- the condition that lies at i is put as that text, and where it ends; so far that `spare` bytes more may follow
 pub record ClausePut (spare : ℕ) (text : Condition → List ℕ) (s : List ℕ) (i : ℕ) (p : Pen) (r : Put) (d : List ℕ) : Type 0 where
   pub low : i ≤ r.next
   pub high : r.next ≤ length s
-  pub reach : r.at + spare + most_of_AByte * i ≤ p.at + most_of_AByte * r.next
+  pub reach : r.at + spare + most_of_a_byte * i ≤ p.at + most_of_a_byte * r.next
   pub dry : p.write ≡ false → d ≡ p.lent
   pub right : (c : Condition) → LiesAt condition_bytes s i c → (r.next ≡ i + length (condition_bytes c)) × PutAs p.write p.lent p.at (text c) d r.at

@@ -6,7 +6,7 @@ ghost use Rattle.std.specs.Prelude.{◌≡◌, ◌+◌, ◌*◌, ◌-◌, ◌≤
 ghost use Rattle.lent.specs.Put.{PutAs};
 ghost use Rattle.output.specs.Reach.{farthest};
 ghost use Rattle.printed.specs.Conditions.{condition_text};
-ghost use Rattle.clauses.specs.Clauses.{binds_at, word_between, condition_text_in, sign_where, most_of_AByte, ClausePut};
+ghost use Rattle.clauses.specs.Clauses.{binds_at, word_between, condition_text_in, sign_where, most_of_a_byte, ClausePut};
 
 // The byte after what was read, and where the next byte of text goes.
 #[derive(Clone, Copy)]
@@ -53,7 +53,7 @@ fn put_word(k: u8, out: &mut [u8], at: usize, write: bool) -> usize
 
 // Writes the comparison at i. One that is cut off ends with the section.
 fn put_comparison(s: &[u8], i: usize, out: &mut [u8], at: usize, write: bool) -> Put
-    requires { (i < length s.now) × (get_or s.now i 0 ≡ 0) × (at + most_of_AByte * (length s.now - i) ≤ farthest + 1) }
+    requires { (i < length s.now) × (get_or s.now i 0 ≡ 0) × (at + most_of_a_byte * (length s.now - i) ≤ farthest + 1) }
     ensures { ClausePut 2 condition_text s.now i (record { write = write; lent = out.old; at = at }) result out.new }
 {
     if s.len() - i < 5 {
@@ -71,7 +71,7 @@ fn put_comparison(s: &[u8], i: usize, out: &mut [u8], at: usize, write: bool) ->
 // Writes the condition at i with no parentheses around it. What stands behind its word asks for more binding than it has itself.
 #[cycle(put_bare_put_condition)]
 fn put_bare(s: &[u8], i: usize, out: &mut [u8], at: usize, write: bool) -> Put
-    requires { (i < length s.now) × (at + most_of_AByte * (length s.now - i) ≤ farthest + 1) }
+    requires { (i < length s.now) × (at + most_of_a_byte * (length s.now - i) ≤ farthest + 1) }
     ensures { ClausePut 2 condition_text s.now i (record { write = write; lent = out.old; at = at }) result out.new }
 {
     let k = s[i];
@@ -91,7 +91,7 @@ fn put_bare(s: &[u8], i: usize, out: &mut [u8], at: usize, write: bool) -> Put
 // Writes the condition at i, in parentheses where it binds less than its place asks.
 #[cycle(put_bare_put_condition)]
 pub fn put_condition(s: &[u8], i: usize, asked: u8, out: &mut [u8], at: usize, write: bool) -> Put
-    requires { (i ≤ length s.now) × (at + most_of_AByte * (length s.now - i) ≤ farthest) }
+    requires { (i ≤ length s.now) × (at + most_of_a_byte * (length s.now - i) ≤ farthest) }
     ensures { ClausePut 0 (condition_text_in asked) s.now i (record { write = write; lent = out.old; at = at }) result out.new }
 {
     if s.len() <= i {

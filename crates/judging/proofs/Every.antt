@@ -60,8 +60,8 @@ module _ (text : List ℕ) (k : ℕ) where
   first? : (c : ℕ) → Dec ((rest : List ℕ) × (drop k text ≡ c ∷ rest))
   first? c = begins? (drop k text) (c ∷ [])
 
-  entity-word? : Dec (EntityWordAt text k)
-  entity-word? = on (ends? (60 ∷ 33 ∷ 69 ∷ []) (take k text)) (word? (78 ∷ 84 ∷ 73 ∷ 84 ∷ 89 ∷ []) (drop k text))
+  entity_word? : Dec (EntityWordAt text k)
+  entity_word? = on (ends? (60 ∷ 33 ∷ 69 ∷ []) (take k text)) (word? (78 ∷ 84 ∷ 73 ∷ 84 ∷ 89 ∷ []) (drop k text))
     where
       on : Dec (EndsWith (60 ∷ 33 ∷ 69 ∷ []) (take k text)) → Dec (WordAt (78 ∷ 84 ∷ 73 ∷ 84 ∷ 89 ∷ []) (drop k text)) → Dec (EntityWordAt text k)
       on (yes h) (yes w) = yes (record { behind = h; entity = w })
@@ -85,7 +85,7 @@ module _ (text : List ℕ) (k : ℕ) where
       on (no h) d = no (λ a. h (a.declarations, a.could_be))
 
   number : Dec (ContentMayBegin text k) → (n : ℕ) × Stands text k n
-  number c = on (any? c) (either? (first? 37) (either? (first? 38) entity-word?)) attlist?
+  number c = on (any? c) (either? (first? 37) (either? (first? 38) entity_word?)) attlist?
     where
       on : Dec (AnyAt text k) → Dec (EntityAt text k) → Dec (AttlistAt text k) → (n : ℕ) × Stands text k n
       on (yes a) e t = (50, any a)

@@ -26,9 +26,9 @@ use Rattle.visits.proofs.Printing.{nothing_due, just, record_inside, name_length
 use Rattle.clauses.proofs.Laws.{decimal_short}
 use Rattle.asides.specs.Asides.{aside_text, most_of_an_aside, FieldNamed, FieldText}
 use Rattle.asides.proofs.Laws.{asides_are_theirs}
-use Rattle.boughs.specs.Boughs.{TreeNamed, inside_text, most_of_ANode, TreePut}
+use Rattle.boughs.specs.Boughs.{TreeNamed, inside_text, most_of_a_node, TreePut}
 use Rattle.boughs.proofs.Laws.{some_nodes}
-use Rattle.lines.specs.Lines.{InsideNamed, RuleNamed, RulesNamed, head_of, inside_of, element_of, line_of, most_of_AHead, most_inside, most_of_ALine, most_of_AText, RulePut, LinesPut}
+use Rattle.lines.specs.Lines.{InsideNamed, RuleNamed, RulesNamed, head_of, inside_of, element_of, line_of, most_of_a_head, most_inside, most_of_a_line, most_of_a_text, RulePut, LinesPut}
 
 -- ---- a name
 pub name_put : (s : List ℕ) (t m from to : ℕ) (p : Pen) (r : ℕ) (d : List ℕ) → m ≡ get_or s (16 * t) 0 → m < 256 → from ≡ 16 * t + 1 → to ≡ from + m
@@ -73,7 +73,7 @@ module _ (s : List ℕ) (q : ℕ) (p : Pen) where
   named a z v k m b o e h = record { sheet = a; packs = z; visit = v; program = o; names = subst (λ (x : ℕ). FieldNamed s a z v x o) (sym e) h; bytes = refl }
 
   pub head : (n f : ℕ) → n ≡ nonterminal_of s q → f ≡ first_program_of s q → (d₁ d₂ d₃ : List ℕ) (n₁ n₂ n₃ : ℕ) → PutAs p.write p.lent p.at (token_bytes (nonterminal n)) d₁ n₁
-      → PutAs p.write d₁ n₁ (32 ∷ 58 ∷ 58 ∷ 61 ∷ 32 ∷ []) d₂ n₂ → Written most_of_an_aside (FieldText s f true) (record { write = p.write; lent = d₂; at = n₂ }) n₃ d₃ → RulePut most_of_AHead head_of s q p n₃ d₃
+      → PutAs p.write d₁ n₁ (32 ∷ 58 ∷ 58 ∷ 61 ∷ 32 ∷ []) d₂ n₂ → Written most_of_an_aside (FieldText s f true) (record { write = p.write; lent = d₂; at = n₂ }) n₃ d₃ → RulePut most_of_a_head head_of s q p n₃ d₃
   head n f en ef d₁ d₂ d₃ n₁ n₂ n₃ N S F = record { reach = omega (arith, N.next, decimal_short n, S.next, F.reach); right = go }
     where
       go : (a : Sheet) (z : Packs s a) (x : TextRule) → RuleNamed s a z q x → PutAs p.write p.lent p.at (head_of x) d₃ n₃
@@ -83,9 +83,9 @@ module _ (s : List ℕ) (q : ℕ) (p : Pen) where
           let K = subst (λ (m : ℕ). PutAs p.write p.lent p.at (token_bytes (nonterminal m)) d₁ n₁) (en ∙ sym h.nonterminal_is) N in
           put_then _ _ _ _ _ _ _ _ _ K (put_then _ _ _ _ _ _ _ _ _ S A)
 
-  pub line : (g : ℕ) → g ≡ second_program_of s q → (d₁ d₂ d₃ d₄ : List ℕ) (n₁ n₂ n₃ n₄ : ℕ) → RulePut most_of_AHead head_of s q p n₁ d₁
+  pub line : (g : ℕ) → g ≡ second_program_of s q → (d₁ d₂ d₃ d₄ : List ℕ) (n₁ n₂ n₃ n₄ : ℕ) → RulePut most_of_a_head head_of s q p n₁ d₁
       → RulePut (most_inside + 257) element_of s q (record { write = p.write; lent = d₁; at = n₁ }) n₂ d₂
-      → Written most_of_an_aside (FieldText s g false) (record { write = p.write; lent = d₂; at = n₂ }) n₃ d₃ → PutAs p.write d₃ n₃ (10 ∷ []) d₄ n₄ → RulePut most_of_ALine line_of s q p n₄ d₄
+      → Written most_of_an_aside (FieldText s g false) (record { write = p.write; lent = d₂; at = n₂ }) n₃ d₃ → PutAs p.write d₃ n₃ (10 ∷ []) d₄ n₄ → RulePut most_of_a_line line_of s q p n₄ d₄
   line g eg d₁ d₂ d₃ d₄ n₁ n₂ n₃ n₄ H E G L = record { reach = omega (arith, H.reach, E.reach, G.reach, L.next); right = go }
     where
       whole : (x : TextRule) → head_of x ++ (element_of x ++ aside_text false x.own.second_visit) ≡ rule_text x
@@ -115,7 +115,7 @@ module _ (s : List ℕ) (p : Pen) where
   pub all_left : LinesLeft s p 0 p.at p.lent
   all_left a z xs h = record { rules = xs; are = h; long = refl; due = refl }
 
-  pub one_less : (q n n' : ℕ) (d d' : List ℕ) → q < production_count s → LinesLeft s p q n d → RulePut most_of_ALine line_of s q (record { write = p.write; lent = d; at = n }) n' d' → LinesLeft s p (q + 1) n' d'
+  pub one_less : (q n n' : ℕ) (d d' : List ℕ) → q < production_count s → LinesLeft s p q n d → RulePut most_of_a_line line_of s q (record { write = p.write; lent = d; at = n }) n' d' → LinesLeft s p (q + 1) n' d'
   one_less q n n' d d' low L R a z xs h = let l = L a z xs h in on l.rules l.are l.long l.due
     where
       on : (ys : List TextRule) → RulesNamed s a z q ys → n + length (lines_of ys) ≡ p.at + length (lines_of xs) → put p.write d n (lines_of ys) ≡ put p.write p.lent p.at (lines_of xs) → Left s p (q + 1) n' d' a z xs
@@ -131,7 +131,7 @@ module _ (s : List ℕ) (p : Pen) where
                 ∙ put_append p.write d n (line_of y) (lines_of ys) ∙ ap (λ (m : List ℕ). put p.write d n m) same ∙ due;
           }
 
-  pub none_left : (q n : ℕ) (d : List ℕ) → production_count s ≤ q → n ≤ p.at + most_of_ALine * 64 → LinesLeft s p q n d → LinesPut s p n d
+  pub none_left : (q n : ℕ) (d : List ℕ) → production_count s ≤ q → n ≤ p.at + most_of_a_line * 64 → LinesLeft s p q n d → LinesPut s p n d
   none_left q n d high reach L = record { reach = reach; right = λ a z xs h. let l = L a z xs h in on a z xs l.rules l.are l.long l.due }
     where
       past : (a : Sheet) (z : Packs s a) (k : ℕ) (ys : List TextRule) → RulesNamed s a z k ys → k + length ys ≡ production_count s

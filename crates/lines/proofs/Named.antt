@@ -27,7 +27,7 @@ use Rattle.visits.proofs.Performing.{names_in}
 use Rattle.clauses.proofs.Laws.{decimal_short}
 use Rattle.asides.specs.Asides.{BothNamed}
 use Rattle.boughs.specs.Boughs.{NodesNamed, TreeNamed}
-use Rattle.lines.specs.Lines.{InsideNamed, RuleNamed, RulesNamed, most_of_AText, LinesPut, TextPut}
+use Rattle.lines.specs.Lines.{InsideNamed, RuleNamed, RulesNamed, most_of_a_text, LinesPut, TextPut}
 
 module _ (s : List ℕ) (a : Sheet) (z : Packs s a) where
   abbrev ps : List Program

@@ -17,7 +17,7 @@ use Rattle.printed.specs.Text.{rule_text, lines_of, text_of}
 use Rattle.naming.specs.ByName.{ByName}
 use Rattle.visits.specs.Written.{Pen, TagNameAt}
 use Rattle.asides.specs.Asides.{aside_text, most_of_an_aside, BothNamed}
-use Rattle.boughs.specs.Boughs.{TreeNamed, most_of_ANode}
+use Rattle.boughs.specs.Boughs.{TreeNamed, most_of_a_node}
 
 -- what stands between the parentheses of production q's tag
 abbrev pub InsideNamed : (s : List ℕ) (a : Sheet) → Packs s a → ℕ → Option Tree → Type 0
@@ -50,17 +50,17 @@ abbrev pub line_of : TextRule → List ℕ
 line_of d = rule_text d ++ 10 ∷ []
 
 -- none of them is longer, and no text is
-abbrev pub most_of_AHead : ℕ
-most_of_AHead = most_of_an_aside + 8
+abbrev pub most_of_a_head : ℕ
+most_of_a_head = most_of_an_aside + 8
 
 abbrev pub most_inside : ℕ
-most_inside = most_of_ANode * 256
+most_inside = most_of_a_node * 256
 
-abbrev pub most_of_ALine : ℕ
-most_of_ALine = most_of_AHead + most_inside + most_of_an_aside + 258
+abbrev pub most_of_a_line : ℕ
+most_of_a_line = most_of_a_head + most_inside + most_of_an_aside + 258
 
-abbrev pub most_of_AText : ℕ
-most_of_AText = most_of_ALine * most_productions + 4
+abbrev pub most_of_a_text : ℕ
+most_of_a_text = most_of_a_line * most_productions + 4
 
 -- that part of production q's text was put
 pub record RulePut (most : ℕ) (text : TextRule → List ℕ) (s : List ℕ) (q : ℕ) (p : Pen) (r : ℕ) (d : List ℕ) : Type 0 where
@@ -69,10 +69,10 @@ pub record RulePut (most : ℕ) (text : TextRule → List ℕ) (s : List ℕ) (q
 
 -- all lines were
 pub record LinesPut (s : List ℕ) (p : Pen) (r : ℕ) (d : List ℕ) : Type 0 where
-  pub reach : r ≤ p.at + most_of_ALine * most_productions
+  pub reach : r ≤ p.at + most_of_a_line * most_productions
   pub right : (a : Sheet) (z : Packs s a) (xs : List TextRule) → RulesNamed s a z 0 xs → PutAs p.write p.lent p.at (lines_of xs) d r
 
 -- the text of the sheet's rules was
 pub record TextPut (s : List ℕ) (p : Pen) (r : ℕ) (d : List ℕ) : Type 0 where
-  pub reach : r ≤ p.at + most_of_AText
+  pub reach : r ≤ p.at + most_of_a_text
   pub right : (a : Sheet) → Packs s a → (x : Rules) → ByName a x → PutAs p.write p.lent p.at (text_of x) d r

@@ -7,7 +7,7 @@ ghost use Rattle.output.specs.Reach.{farthest};
 ghost use Rattle.layout.specs.LaidOut.{LaidOut};
 ghost use Rattle.trees.specs.Parsed.{RunsInside};
 ghost use Rattle.visits.specs.Written.{Written, TagNameAt};
-ghost use Rattle.lines.specs.Lines.{head_of, inside_of, element_of, line_of, most_of_AHead, most_inside, most_of_ALine, most_of_AText, RulePut, LinesPut, TextPut};
+ghost use Rattle.lines.specs.Lines.{head_of, inside_of, element_of, line_of, most_of_a_head, most_inside, most_of_a_line, most_of_a_text, RulePut, LinesPut, TextPut};
 
 use layout::Layout;
 
@@ -61,8 +61,8 @@ fn put_element(s: &[u8], l: Layout, q: usize, out: &mut [u8], at: usize, write: 
 // Writes what stands in front of production q's tag: its nonterminal, and its program of the first visit.
 fn put_head(s: &[u8], l: Layout, q: usize, out: &mut [u8], at: usize, write: bool) -> usize
     requires laid_out { LaidOut s.now l }
-    requires q_lt_productions { (q < l.productions) × (at + most_of_AHead ≤ farthest) }
-    ensures { RulePut most_of_AHead head_of s.now q (record { write = write; lent = out.old; at = at }) result out.new }
+    requires q_lt_productions { (q < l.productions) × (at + most_of_a_head ≤ farthest) }
+    ensures { RulePut most_of_a_head head_of s.now q (record { write = write; lent = out.old; at = at }) result out.new }
 {
     let n = layout::nonterminal_of(s, l, q);
     let sign = boughs::put_nonterminal(n, out, at, write);
@@ -75,8 +75,8 @@ fn put_head(s: &[u8], l: Layout, q: usize, out: &mut [u8], at: usize, write: boo
 fn put_line(s: &[u8], l: Layout, q: usize, out: &mut [u8], at: usize, write: bool) -> usize
     requires laid_out { LaidOut s.now l }
     requires runs_inside { RunsInside s.now }
-    requires q_lt_productions { (q < l.productions) × (at + most_of_ALine ≤ farthest) }
-    ensures { RulePut most_of_ALine line_of s.now q (record { write = write; lent = out.old; at = at }) result out.new }
+    requires q_lt_productions { (q < l.productions) × (at + most_of_a_line ≤ farthest) }
+    ensures { RulePut most_of_a_line line_of s.now q (record { write = write; lent = out.old; at = at }) result out.new }
 {
     let from = put_head(s, l, q, out, at, write);
     let to = put_element(s, l, q, out, from, write);
@@ -89,7 +89,7 @@ fn put_line(s: &[u8], l: Layout, q: usize, out: &mut [u8], at: usize, write: boo
 fn put_lines(s: &[u8], l: Layout, out: &mut [u8], at: usize, write: bool) -> usize
     requires laid_out { LaidOut s.now l }
     requires runs_inside { RunsInside s.now }
-    requires most_of_atext_bound { at + most_of_AText ≤ farthest + 4 }
+    requires most_of_atext_bound { at + most_of_a_text ≤ farthest + 4 }
     ensures { LinesPut s.now (record { write = write; lent = out.old; at = at }) result out.new }
 {
     let mut q = 0;
@@ -105,7 +105,7 @@ fn put_lines(s: &[u8], l: Layout, out: &mut [u8], at: usize, write: bool) -> usi
 pub fn put_rules(s: &[u8], l: Layout, out: &mut [u8], at: usize, write: bool) -> usize
     requires laid_out { LaidOut s.now l }
     requires runs_inside { RunsInside s.now }
-    requires start_bound { (l.start < 256) × (at + most_of_AText ≤ farthest) }
+    requires start_bound { (l.start < 256) × (at + most_of_a_text ≤ farthest) }
     ensures { TextPut s.now (record { write = write; lent = out.old; at = at }) result out.new }
 {
     let end = boughs::put_nonterminal(l.start, out, at, write);

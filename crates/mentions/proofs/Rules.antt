@@ -10,7 +10,7 @@ use Rattle.notation.specs.Rules.{Tree, TextRule, Rules}
 use Rattle.notation.specs.Tokens.{TextToken, nonterminal, value, attribute, name, start_tag, end_tag, empty_tag, string, word, sign, Sign, DEFINED, ASSIGNED, OPEN, CLOSE, BRACE, UNBRACE, DOT, BAR, STAR, SEMICOLON, EQUALS}
 use Rattle.encoding.specs.Mentions.{Mention, a_tag, a_program, in_program, in_braces, in_content, in_rule, in_rules}
 use Rattle.reading.specs.Machine.{and_then, walk}
-use Rattle.reading.specs.Tests.{tagName?}
+use Rattle.reading.specs.Tests.{tag_name?}
 use Rattle.reading.specs.Statements.{Listing, list_start, step_statements, value_of_list}
 use Rattle.reading.specs.Expressions.{Parsing, fresh_expression, nonterminal?, piece_of, unbraces, listing, step_expression, value_of_content}
 use Rattle.reading.specs.Rules.{Key, a_nonterminal, a_name, a_definition, an_open, a_close, a_brace, other, key_if, key_of, Head, head, Progress, beginning, first_word, named, defined, own_front, wants_tag, tagged, within, closed, own_back, complete, rule_read, next_head, step_key, closes_content, parsing, step_rules, value_of_rules}
@@ -51,7 +51,7 @@ key_fits : (t : TextToken) → KeyFits t (key_of t)
 key_fits (nonterminal n) = key_if_lem (nonterminal? n) (nonterminal n) (a_nonterminal n) refl
 key_fits (value v) = tt
 key_fits (attribute m a) = tt
-key_fits (name n) = key_if_lem (tagName? n) (name n) (a_name n) refl
+key_fits (name n) = key_if_lem (tag_name? n) (name n) (a_name n) refl
 key_fits (start_tag n) = tt
 key_fits (end_tag n) = tt
 key_fits (empty_tag n) = tt

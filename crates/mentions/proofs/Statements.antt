@@ -11,7 +11,7 @@ use Rattle.notation.specs.Program.{TextStatement, TextProgram, done, step, ◌th
 use Rattle.notation.specs.Statements.{parentheses, only, assigned}
 use Rattle.notation.specs.Tokens.{Dollar, plain, left, right, TextToken, nonterminal, value, attribute, name, start_tag, end_tag, empty_tag, string, word, Keyword, CHAR, ECHO, ECHO-OFF, REJECT, PRINT, IF, THEN, ELSE, BEGIN, END, AND, OR, NOT, EMPTY, sign, Sign, DEFINED, ASSIGNED, OPEN, CLOSE, BRACE, UNBRACE, DOT, BAR, STAR, SEMICOLON, EQUALS}
 use Rattle.encoding.specs.Mentions.{Mention, in_statement, in_program}
-use Rattle.reading.specs.Tests.{tagName?, string?}
+use Rattle.reading.specs.Tests.{tag_name?, string?}
 use Rattle.reading.specs.Conditions.{ConditionPart, operand, a_not, an_and, an_or, an_open, a_close, an_equals, other, part_of, attribute?, Reading, step_part, step_condition, value_of_condition}
 use Rattle.reading.specs.Statements.{Start, simply, a_target, a_print, an_if, a_begin, an_end, no_start, start_if, current?, target_if, start_word, start_of, Behind, an_item, a_semicolon, an_else, a_then, an_assign, nothing, item_if, next_word, behind_of, Pending, in_then, in_else, ended_branch, ended_all, otherwise, ListLevel, list_level, listed, Place, opening, separated, branching, Listing, wants, target, assigning, printing, testing, after, unblocked, blocked, emptied, started_list, elsed, one_more, followed, printed, targeted, assigned_by, thenned, tested, step_statements, empty_list_value, whole_list_value, value_of_list}
 use Rattle.reading.proofs.Telling.{none≢some}
@@ -163,9 +163,9 @@ next_fits (nonterminal n) = tt
 next_fits (value n) = tt
 next_fits (attribute m a) = tt
 next_fits (name n) = tt
-next_fits (start_tag n) = item_fits (tagName? n) _ (start_tag n) refl
-next_fits (end_tag n) = item_fits (tagName? n) _ (end_tag n) refl
-next_fits (empty_tag n) = item_fits (tagName? n) _ (empty_tag n) refl
+next_fits (start_tag n) = item_fits (tag_name? n) _ (start_tag n) refl
+next_fits (end_tag n) = item_fits (tag_name? n) _ (end_tag n) refl
+next_fits (empty_tag n) = item_fits (tag_name? n) _ (empty_tag n) refl
 next_fits (string cs) = item_fits (string? cs) _ (string cs) refl
 next_fits (word w) = next_word_fits w
 next_fits (sign DEFINED) = tt

@@ -21,7 +21,7 @@ use Rattle.outlines.proofs.Measures.{equal_extent, nots_extent, or_extent, and_e
 
 -- what is asked of a kind in a condition
 pub record Asked : Type 0 where
-  pub an-operand? : Bool
+  pub an_operand? : Bool
   pub not? : Bool
   pub and? : Bool
   pub or? : Bool
@@ -30,7 +30,7 @@ pub record Asked : Type 0 where
   pub equals? : Bool
 
 abbrev asked : Bool → Bool → Bool → Bool → Bool → Bool → Bool → Asked
-asked a b c d e f g = record { an-operand? = a; not? = b; and? = c; or? = d; open? = e; close? = f; equals? = g }
+asked a b c d e f g = record { an_operand? = a; not? = b; and? = c; or? = d; open? = e; close? = f; equals? = g }
 
 abbrev of_kind : Visit → ℕ → Asked
 of_kind v k = asked (is_operand v k) (is_word NOT k) (is_word AND k) (is_word OR k) (is_sign OPEN k) (is_sign CLOSE k) (is_sign EQUALS k)
@@ -100,9 +100,9 @@ token_asked v (sign s) h = sign_asked v s
 
 -- the outline's step, by what is asked
 abbrev step_asked : Asked → ConditionOutline → Option ConditionOutline
-step_asked q (wanting a_single ms) = cond q.an-operand? (some (wanting Wanted.an_equals ms)) (cond q.not? (not_at ms) (cond q.open? (open_at ms) none))
+step_asked q (wanting a_single ms) = cond q.an_operand? (some (wanting Wanted.an_equals ms)) (cond q.not? (not_at ms) (cond q.open? (open_at ms) none))
 step_asked q (wanting Wanted.an_equals ms) = cond q.equals? (some (wanting an_operand ms)) none
-step_asked q (wanting an_operand ms) = cond q.an-operand? (got_at ms comparison) none
+step_asked q (wanting an_operand ms) = cond q.an_operand? (got_at ms comparison) none
 step_asked q (behind d o ms) =
     cond q.and? (some (wanting a_single (margin o (some d) 0 ∷ ms)))
     (cond q.or? (some (wanting a_single (margin (some (paired_with o d)) none 0 ∷ ms)))
@@ -183,8 +183,8 @@ condition_alike v r t h =
     ∙ (ap (λ q. step_asked q (condition_outline r)) (token_asked v t h)
     ∙ part_alike r (part_of v t))
 
-pub operand_asked : (v : Visit) (t : TextToken) → TokenFits t → is_operand v (token_kind t) ≡ (of_part (part_of v t)).an-operand?
-operand_asked v t h = ap (λ q. q.an-operand?) (token_asked v t h)
+pub operand_asked : (v : Visit) (t : TextToken) → TokenFits t → is_operand v (token_kind t) ≡ (of_part (part_of v t)).an_operand?
+operand_asked v t h = ap (λ q. q.an_operand?) (token_asked v t h)
 
 pub read_alike : (r : Reading) → read_condition (condition_outline r) ≡ extent_if (value_of_condition r)
 read_alike (wants l ls) = refl

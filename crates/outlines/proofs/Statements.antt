@@ -10,7 +10,7 @@ use Rattle.programs.specs.Limits.{Attribute, Visit, first, second, is_first}
 use Rattle.notation.specs.Program.{TextStatement, echo, TextProgram, done, ◌then◌}
 use Rattle.notation.specs.Statements.{only, assigned, parentheses}
 use Rattle.notation.specs.Tokens.{Dollar, plain, left, right, TextToken, nonterminal, value, attribute, name, start_tag, end_tag, empty_tag, string, word, Keyword, CHAR, ECHO, ECHO-OFF, REJECT, PRINT, IF, THEN, ELSE, BEGIN, END, AND, OR, NOT, EMPTY, sign, Sign, DEFINED, ASSIGNED, OPEN, CLOSE, BRACE, UNBRACE, DOT, BAR, STAR, SEMICOLON, EQUALS, TagName, StringOf}
-use Rattle.reading.specs.Tests.{tagName?, string?}
+use Rattle.reading.specs.Tests.{tag_name?, string?}
 use Rattle.reading.specs.Conditions.{ConditionPart, operand, a_not, an_and, an_or, an_open, a_close, an_equals, other, attribute?, part_of, Reading, step_condition, value_of_condition, finished_of}
 use Rattle.reading.specs.Statements as reading
 use Rattle.reading.specs.Statements.{Start, simply, a_target, a_print, an_if, a_begin, no_start, current?, target_if, start_word, start_of, Behind, an_item, a_semicolon, an_else, a_then, an_assign, nothing, item_if, next_word, next_sign, behind_of, Pending, otherwise, ListLevel, list_level, listed, Place, opening, separated, branching, Listing, wants, target, assigning, printing, testing, after, step_statements, value_of_list, finished_list}
@@ -180,9 +180,9 @@ next_seen (attribute plain a) h = seen_nothing
 next_seen (attribute left a) h = seen_nothing
 next_seen (attribute right a) h = seen_nothing
 next_seen (name n) h = seen_nothing
-next_seen (start_tag n) h = next_item 6 _ (tagName? n) h (short_item refl)
-next_seen (end_tag n) h = next_item 7 _ (tagName? n) h (short_item refl)
-next_seen (empty_tag n) h = next_item 8 _ (tagName? n) h (long_item refl)
+next_seen (start_tag n) h = next_item 6 _ (tag_name? n) h (short_item refl)
+next_seen (end_tag n) h = next_item 7 _ (tag_name? n) h (short_item refl)
+next_seen (empty_tag n) h = next_item 8 _ (tag_name? n) h (long_item refl)
 next_seen (string cs) h = next_item 9 _ (string? cs) h (long_item refl)
 next_seen (word w) h = next_word_lem w
 next_seen (sign s) h = next_sign_lem s
@@ -297,7 +297,7 @@ print_alike l ls seen_then = refl
 print_alike l ls seen_assign = refl
 print_alike l ls seen_nothing = refl
 
-operand_alike : (a : ℕ) (l : ListLevel) (ls : List ListLevel) (k : ConditionPart) → cond (of_part k).an-operand? (some (outlined (past false (unnested 3)) (layers_of (l ∷ ls)))) none ≡ outline_if (reading.assigned_by a l ls k)
+operand_alike : (a : ℕ) (l : ListLevel) (ls : List ListLevel) (k : ConditionPart) → cond (of_part k).an_operand? (some (outlined (past false (unnested 3)) (layers_of (l ∷ ls)))) none ≡ outline_if (reading.assigned_by a l ls k)
 operand_alike a l ls (operand x) = ap (λ e. some (outlined (past false e) (layers_of (l ∷ ls)))) (sym (assigned_extent a x))
 operand_alike a l ls a_not = refl
 operand_alike a l ls an_and = refl

@@ -28,7 +28,7 @@ use Rattle.clauses.proofs.Laws.{dry_put, never_in_parentheses}
 use Rattle.sentences.specs.Sentences.{PlainText, preceding_at, item_at}
 use Rattle.glances.specs.Glances.{shape_of, ShapeIs}
 use Rattle.glances.proofs.Laws.{nothing_lies, BranchLies, branch_lies, rest_lies, first_lies, item_lies, not_done}
-use Rattle.passages.specs.Passages.{stands_bare, branch_of, bare_at, opening_of, end_word, most_of_AProgram, statements, lists, branches, PassagePut, ProgramTextAt}
+use Rattle.passages.specs.Passages.{stands_bare, branch_of, bare_at, opening_of, end_word, most_of_a_program, statements, lists, branches, PassagePut, ProgramTextAt}
 
 -- ---- words around a branch
 pub bare_one : (e : Bool) (k : ℕ) → k ≡ 1 → true ≡ bare_at e k
@@ -275,12 +275,12 @@ module _ (g : Ground) (i : ℕ) (p : Pen) where
 
 -- ---- a program
 module _ (s tags strings : List ℕ) (i : ℕ) (p : Pen) where
-  pub no_program : length s < i → Written most_of_AProgram (ProgramTextAt s tags strings i) p p.at p.lent
+  pub no_program : length s < i → Written most_of_a_program (ProgramTextAt s tags strings i) p p.at p.lent
   no_program h = record { reach = omega arith; dry = λ z. refl; right = λ w D. absurd (nothing_lies s i (omega arith) D.program D.lies) }
 
   pub program_put : length s ≤ 65536 → (d₁ d₂ d₃ : List ℕ) (n₁ n₃ : ℕ) (r : Put) → PutAs p.write p.lent p.at (123 ∷ []) d₁ n₁
       → PassagePut (lists nothing_yet) (record { section = s; tags = tags; strings = strings }) i (pen_at p d₁ n₁) r d₂ → PutAs p.write d₂ r.at (125 ∷ []) d₃ n₃
-      → Written most_of_AProgram (ProgramTextAt s tags strings i) p n₃ d₃
+      → Written most_of_a_program (ProgramTextAt s tags strings i) p n₃ d₃
   program_put h d₁ d₂ d₃ n₁ n₃ r O R C =
       record {
         reach = omega (arith, O.next, C.next, R.high, R.reach);

@@ -33,8 +33,8 @@ abbrev pub end_word : Bool → Bool → List ℕ
 end_word bare empty = cond bare [] (cond empty (word_bytes END) (32 ∷ word_bytes END))
 
 -- more than the text of a program has for each of its bytes: what a statement prints, and the words of an if
-abbrev pub most_of_AByte : ℕ
-most_of_AByte = 2048
+abbrev pub most_of_a_byte : ℕ
+most_of_a_byte = 2048
 
 -- more than begin, end and their spaces have
 abbrev pub most_around : ℕ
@@ -63,14 +63,14 @@ branches after_else = record { Thing = Program; bytes = program_bytes; Fits = St
 pub record PassagePut (K : Passage) (g : Ground) (i : ℕ) (p : Pen) (r : Put) (d : List ℕ) : Type 0 where
   pub low : i + K.least ≤ r.next
   pub high : r.next ≤ length g.section
-  pub reach : r.at + K.spare + most_of_AByte * i ≤ p.at + most_around + most_of_AByte * r.next
+  pub reach : r.at + K.spare + most_of_a_byte * i ≤ p.at + most_around + most_of_a_byte * r.next
   pub dry : p.write ≡ false → d ≡ p.lent
   pub right : (a : Sheet) → Sources g.tags g.strings a → (x : K.Thing) → LiesAt K.bytes g.section i x → K.Fits (length a.names) g.strings x
       → (r.next ≡ i + length (K.bytes x)) × PutAs p.write p.lent p.at (K.text a x) d r.at
 
 -- more than the text of a program has, in a section of no more than 65,536 bytes
-abbrev pub most_of_AProgram : ℕ
-most_of_AProgram = 134217730
+abbrev pub most_of_a_program : ℕ
+most_of_a_program = 134217730
 
 -- what the program that lies at i is printed as, in a sheet with those tags and strings
 pub record ProgramTextAt (s tags strings : List ℕ) (i : ℕ) (w : List ℕ) : Type 0 where

@@ -8,7 +8,7 @@ ghost use Rattle.output.specs.Reach.{farthest};
 ghost use Rattle.printed.specs.Programs.{after_it};
 ghost use Rattle.visits.specs.Written.{Written};
 ghost use Rattle.sentences.specs.Sentences.{preceding_at};
-ghost use Rattle.passages.specs.Passages.{bare_at, opening_of, end_word, most_of_AByte, most_around, most_of_AProgram, statements, lists, branches, PassagePut, ProgramTextAt};
+ghost use Rattle.passages.specs.Passages.{bare_at, opening_of, end_word, most_of_a_byte, most_around, most_of_a_program, statements, lists, branches, PassagePut, ProgramTextAt};
 
 // Whether a branch with a list of that shape stands bare: one statement does, and after else an if.
 fn is_bare(otherwise: bool, shape: u8) -> bool
@@ -69,7 +69,7 @@ fn put_statement(
     at: usize,
     write: bool,
 ) -> clauses::Put
-    requires { (i < length s.now) × (length s.now ≤ 65536) × (1 ≤ get_or s.now i 0) × (at + most_of_AByte * length s.now ≤ farthest + most_of_AByte * i + 8) }
+    requires { (i < length s.now) × (length s.now ≤ 65536) × (1 ≤ get_or s.now i 0) × (at + most_of_a_byte * length s.now ≤ farthest + most_of_a_byte * i + 8) }
     ensures { PassagePut statements (record { section = s.now; tags = tags.now; strings = strings.now }) i (record { write = write; lent = out.old; at = at }) result out.new }
 {
     if s[i] != 10 {
@@ -110,7 +110,7 @@ fn put_branch(
     at: usize,
     write: bool,
 ) -> clauses::Put
-    requires { (i ≤ length s.now) × (length s.now ≤ 65536) × (at + most_around + most_of_AByte * length s.now ≤ farthest + most_of_AByte * i) }
+    requires { (i ≤ length s.now) × (length s.now ≤ 65536) × (at + most_around + most_of_a_byte * length s.now ≤ farthest + most_of_a_byte * i) }
     ensures { PassagePut (branches otherwise) (record { section = s.now; tags = tags.now; strings = strings.now }) i (record { write = write; lent = out.old; at = at }) result out.new }
 {
     let shape = glances::shape_of(s, i);
@@ -136,7 +136,7 @@ fn put_list(
     at: usize,
     write: bool,
 ) -> clauses::Put
-    requires { (i ≤ length s.now) × (length s.now ≤ 65536) × (at + most_of_AByte * length s.now ≤ farthest + most_of_AByte * i) }
+    requires { (i ≤ length s.now) × (length s.now ≤ 65536) × (at + most_of_a_byte * length s.now ≤ farthest + most_of_a_byte * i) }
     ensures { PassagePut (lists (preceding_at preceding)) (record { section = s.now; tags = tags.now; strings = strings.now }) i (record { write = write; lent = out.old; at = at }) result out.new }
 {
     if s.len() <= i {
@@ -166,8 +166,8 @@ pub fn put_program(
     at: usize,
     write: bool,
 ) -> usize
-    requires { (length programs.now ≤ 65536) × (at + most_of_AProgram ≤ farthest) }
-    ensures { Written most_of_AProgram (ProgramTextAt programs.now tags.now strings.now i) (record { write = write; lent = out.old; at = at }) result out.new }
+    requires { (length programs.now ≤ 65536) × (at + most_of_a_program ≤ farthest) }
+    ensures { Written most_of_a_program (ProgramTextAt programs.now tags.now strings.now i) (record { write = write; lent = out.old; at = at }) result out.new }
 {
     if programs.len() < i {
         return at;

@@ -12,7 +12,7 @@ use Rattle.notation.specs.Rules.{Tree, TextRule, Rules}
 use Rattle.notation.specs.Tokens.{TextToken, nonterminal, value, attribute, name, start_tag, end_tag, empty_tag, string, word, sign, Sign, DEFINED, ASSIGNED, OPEN, CLOSE, BRACE, UNBRACE, DOT, BAR, STAR, SEMICOLON, EQUALS, TagName}
 use Rattle.notation.specs.Statements.{ListIs, BracesAre, absent, braces}
 use Rattle.notation.specs.Productions.{ContentIs, nothing, RuleIs, production, ProductionsAre, one, more, RulesAre, start_alone, start_first}
-use Rattle.reading.specs.Tests.{tagName?}
+use Rattle.reading.specs.Tests.{tag_name?}
 use Rattle.reading.specs.Statements.{Listing, list_start, step_statements, value_of_list, finished_list}
 use Rattle.reading.specs.Expressions.{ExpressionPart, a_leaf, a_star, a_dot, a_bar, an_unbrace, Parsing, nonterminal?, piece_of, unbraces, listing, step_expression, value_of_content, finished_content}
 use Rattle.reading.specs.Rules.{Key, a_nonterminal, a_name, a_definition, an_open, a_close, a_brace, other, key_if, sign_key, key_of, Head, head, Progress, beginning, first_word, named, defined, own_front, wants_tag, tagged, within, closed, own_back, complete, rule_read, rules_read, next_head, step_key, closes_content, parsing, step_rules, value_of_rules, plain_rule, finished_rules}
@@ -54,7 +54,7 @@ pub key_is : (t : TextToken) → KeyIs t (key_of t)
 key_is (nonterminal n) = nonterminal_key n (nonterminal? n)
 key_is (value n) = tt
 key_is (attribute m a) = tt
-key_is (name n) = name_key n (tagName? n)
+key_is (name n) = name_key n (tag_name? n)
 key_is (start_tag n) = tt
 key_is (end_tag n) = tt
 key_is (empty_tag n) = tt

@@ -14,7 +14,7 @@ use Rattle.notation.specs.Statements.{BracesAre, absent, braces}
 use Rattle.notation.specs.Productions.{ContentIs, RuleIs, production, ProductionsAre, one, more, RulesAre, start_alone, start_first}
 use Rattle.reading.specs.Machine.{and_then, walk}
 use Rattle.reading.specs.Reads.{Ends}
-use Rattle.reading.specs.Tests.{tagName?}
+use Rattle.reading.specs.Tests.{tag_name?}
 use Rattle.reading.specs.Statements.{Listing, list_start}
 use Rattle.reading.specs.Expressions.{Parsing, fresh_expression, nonterminal?, step_expression, value_of_content}
 use Rattle.reading.specs.Rules.{Key, a_nonterminal, a_name, key_if, key_of, Head, head, Progress, beginning, first_word, named, defined, own_front, wants_tag, tagged, within, closed, own_back, complete, rule_read, rules_read, next_head, step_key, closes_content, parsing, step_rules, value_of_rules, rules}
@@ -54,7 +54,7 @@ content_close {us} {e} c f t h rest =
     ∙ ap (λ o. and_then (closes_content (key_of (sign CLOSE)) o f t h) (λ s. go s rest)) w.2
 
 name_step : (s : Progress) (t : List ℕ) (rest : List TextToken) → ((k : Key) → step_rules s (name t) ≡ step_key s (key_of (name t))) → TagName t → go s (name t ∷ rest) ≡ and_then (step_key s (a_name t)) (λ z. go z rest)
-name_step s t rest i h = ap (λ o. and_then o (λ z. go z rest)) (i Key.other ∙ ap (step_key s) (key_if_lem (tagName? t) (a_name t) h))
+name_step s t rest i h = ap (λ o. and_then o (λ z. go z rest)) (i Key.other ∙ ap (step_key s) (key_if_lem (tag_name? t) (a_name t) h))
 
 front_name : {fs : List TextToken} {f : Option TextProgram} → BracesAre first fs f → (t : List ℕ) (h : Head) (rest : List TextToken) → TagName t → go (defined h) (fs ++ name t ∷ rest) ≡ go (tagged f t h) rest
 front_name absent t h rest n = name_step (defined h) t rest (λ k. refl) n

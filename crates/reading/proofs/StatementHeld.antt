@@ -13,7 +13,7 @@ use Rattle.notation.specs.Tokens.{Dollar, plain, left, right, TextToken, nonterm
 use Rattle.notation.specs.Conditions.{CurrentIs, of_either, of_first, of_second, OperandIs, a_value, ConditionIs}
 use Rattle.notation.specs.Statements.{parentheses, only, assigned, ItemIs, a_start, both_tags, a_text, ItemsAre, StatementIs, echo_on, echo_off, rejects, prints, assigns, if_then, if_else, BranchIs, bare, block, ListIs, empty, SomeAre}
 use Rattle.reading.specs.Machine.{and_then, walk}
-use Rattle.reading.specs.Tests.{tagName?, string?}
+use Rattle.reading.specs.Tests.{tag_name?, string?}
 use Rattle.reading.specs.Conditions.{ConditionPart, operand, a_not, an_and, an_or, an_open, a_close, an_equals, other, Reading, fresh_condition, step_condition, value_of_condition, finished_of, attribute?, part_of}
 use Rattle.reading.specs.Statements.{Start, simply, a_target, a_print, an_if, a_begin, no_start, start_if, start_word, current?, target_if, start_of, Behind, an_item, a_semicolon, an_else, a_then, an_assign, nothing, item_if, next_word, next_sign, behind_of, Pending, in_then, in_else, ended_branch, ended_all, otherwise, ListLevel, list_level, listed, around_list, Place, opening, separated, branching, Listing, wants, target, assigning, printing, testing, after, unblocked, blocked, emptied, started_list, elsed, one_more, followed, printed, targeted, assigned_by, thenned, tested, step_statements, empty_list_value, whole_list_value, value_of_list, shortest_list, finished_list}
 use Rattle.reading.proofs.Telling.{none≢some, IfSome}
@@ -126,9 +126,9 @@ next_is (nonterminal n) = tt
 next_is (value n) = tt
 next_is (attribute m a) = tt
 next_is (name n) = tt
-next_is (start_tag n) = item_is (start_tag n) _ (λ h. a_start h) (tagName? n)
-next_is (end_tag n) = item_is (end_tag n) _ (λ h. ItemIs.an_end h) (tagName? n)
-next_is (empty_tag n) = item_is (empty_tag n) _ (λ h. both_tags h) (tagName? n)
+next_is (start_tag n) = item_is (start_tag n) _ (λ h. a_start h) (tag_name? n)
+next_is (end_tag n) = item_is (end_tag n) _ (λ h. ItemIs.an_end h) (tag_name? n)
+next_is (empty_tag n) = item_is (empty_tag n) _ (λ h. both_tags h) (tag_name? n)
 next_is (string cs) = item_is (string cs) _ (λ h. a_text h) (string? cs)
 next_is (word w) = next_word_lem w
 next_is (sign s) = next_sign_lem s

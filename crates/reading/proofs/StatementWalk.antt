@@ -13,7 +13,7 @@ use Rattle.notation.specs.Tokens.{TextToken, word, Keyword, PRINT, IF, THEN, ELS
 use Rattle.notation.specs.Conditions.{CurrentIs, of_either, of_first, of_second, OperandIs, ConditionIs}
 use Rattle.notation.specs.Statements.{parentheses, only, assigned, ItemIs, a_start, an_end, both_tags, a_text, ItemsAre, StatementIs, echo_on, echo_off, rejects, prints, assigns, if_then, if_else, BranchIs, bare, block, ListIs, empty, some, SomeAre, one, more}
 use Rattle.reading.specs.Machine.{and_then, walk}
-use Rattle.reading.specs.Tests.{tagName?, string?}
+use Rattle.reading.specs.Tests.{tag_name?, string?}
 use Rattle.reading.specs.Conditions.{Reading, fresh_condition, disjoined, step_condition, value_of_condition, attribute?, part_of}
 use Rattle.reading.specs.Statements.{Start, simply, a_target, start_if, target_if, start_of, Behind, an_item, item_if, behind_of, Pending, in_then, in_else, ended_branch, ended_all, otherwise, ListLevel, list_level, listed, around_list, Place, opening, separated, branching, Listing, wants, target, assigning, printing, testing, after, unblocked, blocked, started_list, elsed, followed, printed, targeted, assigned_by, thenned, tested, step_statements, empty_list_value, whole_list_value, value_of_list}
 use Rattle.reading.proofs.Telling.{none≢some}
@@ -34,9 +34,9 @@ item_if_lem (yes h) p q = refl
 item_if_lem (no h) p q = absurd (h q)
 
 item_next : {t : TextToken} {p : TextProgram} → ItemIs t p → behind_of t ≡ an_item p
-item_next (a_start {n = n} h) = item_if_lem (tagName? n) _ h
-item_next (an_end {n = n} h) = item_if_lem (tagName? n) _ h
-item_next (both_tags {n = n} h) = item_if_lem (tagName? n) _ h
+item_next (a_start {n = n} h) = item_if_lem (tag_name? n) _ h
+item_next (an_end {n = n} h) = item_if_lem (tag_name? n) _ h
+item_next (both_tags {n = n} h) = item_if_lem (tag_name? n) _ h
 item_next (a_text {cs = cs} h) = item_if_lem (string? cs) _ h
 
 -- ifs that all are in their second branch

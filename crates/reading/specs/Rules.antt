@@ -6,7 +6,7 @@ use Rattle.notation.specs.Program.{TextProgram}
 use Rattle.notation.specs.Rules.{TextVisits, Tree, TextRule, Rules}
 use Rattle.notation.specs.Tokens.{TextToken, nonterminal, value, attribute, name, start_tag, end_tag, empty_tag, string, word, sign, Sign, DEFINED, ASSIGNED, OPEN, CLOSE, BRACE, UNBRACE, DOT, BAR, STAR, SEMICOLON, EQUALS}
 use Rattle.reading.specs.Machine.{Machine}
-use Rattle.reading.specs.Tests.{tagName?}
+use Rattle.reading.specs.Tests.{tag_name?}
 use Rattle.reading.specs.Statements.{Listing, list_start, step_statements, value_of_list, finished_list}
 use Rattle.reading.specs.Expressions.{Parsing, fresh_expression, nonterminal?, piece_of, unbraces, listing, step_expression, value_of_content, finished_content}
 
@@ -37,7 +37,7 @@ abbrev pub key_of : TextToken → Key
 key_of (nonterminal n) = key_if (nonterminal? n) (a_nonterminal n)
 key_of (value n) = other
 key_of (attribute m a) = other
-key_of (name n) = key_if (tagName? n) (a_name n)
+key_of (name n) = key_if (tag_name? n) (a_name n)
 key_of (start_tag n) = other
 key_of (end_tag n) = other
 key_of (empty_tag n) = other

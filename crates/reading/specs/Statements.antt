@@ -8,7 +8,7 @@ use Rattle.notation.specs.Program.{TextStatement, become, reject, print_start, p
 use Rattle.notation.specs.Statements.{parentheses, only, assigned}
 use Rattle.notation.specs.Tokens.{Dollar, plain, left, right, TextToken, nonterminal, value, attribute, name, start_tag, end_tag, empty_tag, string, word, Keyword, CHAR, ECHO, ECHO-OFF, REJECT, PRINT, IF, THEN, ELSE, BEGIN, END, AND, OR, NOT, EMPTY, sign, Sign, DEFINED, ASSIGNED, OPEN, CLOSE, BRACE, UNBRACE, DOT, BAR, STAR, SEMICOLON, EQUALS}
 use Rattle.reading.specs.Machine.{Machine}
-use Rattle.reading.specs.Tests.{tagName?, string?}
+use Rattle.reading.specs.Tests.{tag_name?, string?}
 use Rattle.reading.specs.Conditions.{ConditionPart, operand, a_not, an_and, an_or, an_open, a_close, an_equals, other, attribute?, part_of, Reading, fresh_condition, step_condition, value_of_condition, finished_of}
 
 -- what a token is where a statement may begin
@@ -104,9 +104,9 @@ behind_of (nonterminal n) = nothing
 behind_of (value n) = nothing
 behind_of (attribute m a) = nothing
 behind_of (name n) = nothing
-behind_of (start_tag n) = item_if (tagName? n) (only (print_start n))
-behind_of (end_tag n) = item_if (tagName? n) (only (print_end n))
-behind_of (empty_tag n) = item_if (tagName? n) (step (print_start n) (only (print_end n)))
+behind_of (start_tag n) = item_if (tag_name? n) (only (print_start n))
+behind_of (end_tag n) = item_if (tag_name? n) (only (print_end n))
+behind_of (empty_tag n) = item_if (tag_name? n) (step (print_start n) (only (print_end n)))
 behind_of (string cs) = item_if (string? cs) (only (print_text (utf8s cs)))
 behind_of (word w) = next_word w
 behind_of (sign s) = next_sign s

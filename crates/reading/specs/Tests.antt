@@ -34,8 +34,8 @@ pub name? : (n : List ℕ) → Dec (Name n)
 name? [] = no (λ h. h)
 name? (x ∷ n) = both? (true? (name_first x)) (all? name_byte n)
 
-pub tagName? : (n : List ℕ) → Dec (TagName n)
-tagName? n = told (name? n) (dec_le (length n) longest_name)
+pub tag_name? : (n : List ℕ) → Dec (TagName n)
+tag_name? n = told (name? n) (dec_le (length n) longest_name)
   where
     told : Dec (Name n) → Dec (length n ≤ longest_name) → Dec (TagName n)
     told (yes a) (yes s) = yes (record { a_name = a; short = s })
@@ -50,12 +50,12 @@ char? c =
     either? (ℕ_discrete c 0x9) (either? (ℕ_discrete c 0xA) (either? (ℕ_discrete c 0xD)
     (either? (in? 0x20 c 0xD7FF) (either? (in? 0xE000 c 0xFFFD) (in? 0x10000 c 0x10FFFF)))))
 
-pub allChar? : (cs : List ℕ) → Dec (AllChar cs)
-allChar? [] = yes tt
-allChar? (c ∷ cs) = both? (char? c) (allChar? cs)
+pub all_char? : (cs : List ℕ) → Dec (AllChar cs)
+all_char? [] = yes tt
+all_char? (c ∷ cs) = both? (char? c) (all_char? cs)
 
 pub string? : (cs : List ℕ) → Dec (StringOf cs)
-string? cs = told (allChar? cs) (dec_le (length (utf8s cs)) 255)
+string? cs = told (all_char? cs) (dec_le (length (utf8s cs)) 255)
   where
     told : Dec (AllChar cs) → Dec (length (utf8s cs) ≤ 255) → Dec (StringOf cs)
     told (yes a) (yes s) = yes (record { characters = a; short = s })

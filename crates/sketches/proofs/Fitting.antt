@@ -12,7 +12,7 @@ use Rattle.text.specs.Characters.{utf8s}
 use Rattle.notation.specs.Program.{TextProgram, step, print_start, print_end, print_text}
 use Rattle.notation.specs.Statements.{parentheses, only}
 use Rattle.notation.specs.Tokens.{Dollar, plain, left, right, TextToken, nonterminal, value, attribute, name, start_tag, end_tag, empty_tag, string, word, sign, UNBRACE}
-use Rattle.reading.specs.Tests.{tagName?, string?}
+use Rattle.reading.specs.Tests.{tag_name?, string?}
 use Rattle.reading.specs.Conditions.{ConditionPart, part_if, value?, attribute?, attribute_of, attribute_part, part_of, Reading, step_part, step_condition, value_of_condition}
 use Rattle.reading.specs.Statements.{Start, no_start, start_if, current?, target_if, start_of, Behind, nothing, item_if, behind_of, Listing, ListLevel, started_list, followed, printed, targeted, assigned_by, thenned, tested, step_statements}
 use Rattle.reading.specs.Expressions.{ExpressionPart, other, piece_of, nonterminal?, atom_if, step_piece, value_of_content, wants, in_front, after, behind, over}
@@ -62,9 +62,9 @@ listed_fits v q r (value n) e = let h = part_fits (value? n) (constant n) (λ i.
 listed_fits v q r (attribute m a) e =
     let h = attribute_fits (attribute? a) (current? v m) a (attribute_of v m a) (λ i j. none≢some (nothing_listed v q (attribute m a) i refl j) e) in omega arith
 listed_fits v q r (name n) e = absurd (none≢some (nothing_listed v q (name n) refl refl refl) e)
-listed_fits v q r (start_tag n) e = item_fits (tagName? n) (only (print_start n)) (λ i. none≢some (nothing_listed v q (start_tag n) refl i refl) e)
-listed_fits v q r (end_tag n) e = item_fits (tagName? n) (only (print_end n)) (λ i. none≢some (nothing_listed v q (end_tag n) refl i refl) e)
-listed_fits v q r (empty_tag n) e = item_fits (tagName? n) (step (print_start n) (only (print_end n))) (λ i. none≢some (nothing_listed v q (empty_tag n) refl i refl) e)
+listed_fits v q r (start_tag n) e = item_fits (tag_name? n) (only (print_start n)) (λ i. none≢some (nothing_listed v q (start_tag n) refl i refl) e)
+listed_fits v q r (end_tag n) e = item_fits (tag_name? n) (only (print_end n)) (λ i. none≢some (nothing_listed v q (end_tag n) refl i refl) e)
+listed_fits v q r (empty_tag n) e = item_fits (tag_name? n) (step (print_start n) (only (print_end n))) (λ i. none≢some (nothing_listed v q (empty_tag n) refl i refl) e)
 listed_fits v q r (string cs) e = item_fits (string? cs) (only (print_text (utf8s cs))) (λ i. none≢some (nothing_listed v q (string cs) refl i refl) e)
 listed_fits v q r (word w) e = tt
 listed_fits v q r (sign s) e = tt
@@ -93,7 +93,7 @@ key_fits (no h) k x f = absurd (f refl refl)
 
 pub plain_fits : (s s' : Progress) (t : TextToken) → listing_of s ≡ none → step_rules s t ≡ some s' → TokenFits t
 plain_fits s s' (nonterminal n) z e = key_fits (nonterminal? n) (a_nonterminal n) (Atom.nonterminal n) (λ i j. none≢some (nothing_taken s (nonterminal n) z i j) e)
-plain_fits s s' (name n) z e = key_fits (tagName? n) (a_name n) (Atom.nonterminal 0) (λ i j. none≢some (nothing_taken s (name n) z i refl) e)
+plain_fits s s' (name n) z e = key_fits (tag_name? n) (a_name n) (Atom.nonterminal 0) (λ i j. none≢some (nothing_taken s (name n) z i refl) e)
 plain_fits s s' (value n) z e = absurd (none≢some (nothing_taken s (value n) z refl refl) e)
 plain_fits s s' (attribute m a) z e = absurd (none≢some (nothing_taken s (attribute m a) z refl refl) e)
 plain_fits s s' (start_tag n) z e = absurd (none≢some (nothing_taken s (start_tag n) z refl refl) e)

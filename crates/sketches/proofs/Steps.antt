@@ -13,7 +13,7 @@ use Rattle.notation.specs.Rules.{Tree, node, Form, TextRule}
 use Rattle.notation.specs.Limits.{nodes_in_all}
 use Rattle.notation.specs.Statements.{parentheses}
 use Rattle.notation.specs.Tokens.{Dollar, TextToken, nonterminal, value, attribute, name, start_tag, end_tag, empty_tag, string, word, Keyword, CHAR, ECHO, ECHO-OFF, REJECT, PRINT, IF, THEN, ELSE, BEGIN, END, AND, OR, NOT, EMPTY, sign, Sign, DEFINED, ASSIGNED, OPEN, CLOSE, BRACE, UNBRACE, DOT, BAR, STAR, SEMICOLON, EQUALS, TagName}
-use Rattle.reading.specs.Tests.{tagName?}
+use Rattle.reading.specs.Tests.{tag_name?}
 use Rattle.reading.specs.Expressions.{ExpressionPart, a_leaf, a_star, a_dot, a_bar, an_open, a_close, a_brace, an_unbrace, other, piece_of, nonterminal?, atom_if, ExpressionLevel, whole_expression, fronted, Parsing, wants, in_front, after, behind, over, expression_opened, expression_closed, braced, backed, step_piece, whole_value, empty_value, value_of_content}
 use Rattle.reading.specs.Rules.{Key, a_nonterminal, a_name, a_definition, key_of, key_if, Head, Progress, beginning, first_word, named, defined, own_front, wants_tag, tagged, within, own_back, complete, rule_read, next_head, step_key, closes_content, parsing, step_rules}
 use Rattle.reading.proofs.RuleSize.{nodes_append}
@@ -72,7 +72,7 @@ key_kept (no h) k p = absurd (h p)
 
 outside_kind : (t : TextToken) → TokenFits t → outside_key (key_of t) ≡ outside_of (token_kind t)
 outside_kind (nonterminal n) h = ap outside_key (key_kept (nonterminal? n) (a_nonterminal n) h)
-outside_kind (name n) h = ap outside_key (key_kept (tagName? n) (a_name n) h)
+outside_kind (name n) h = ap outside_key (key_kept (tag_name? n) (a_name n) h)
 outside_kind (value n) h = refl
 outside_kind (start_tag n) h = refl
 outside_kind (end_tag n) h = refl
@@ -159,7 +159,7 @@ module _ (o : Option (Option Tree)) (f : Option TextProgram) (u : List ℕ) (h :
 
   closes_alike : (t : TextToken) → closes_content (key_of t) o f u h ≡ closes_content (close_key (piece_of t)) o f u h
   closes_alike (nonterminal n) = shut_key (nonterminal? n) n ∙ sym (shut_atom (nonterminal? n) (Atom.nonterminal n))
-  closes_alike (name n) = shut_name (tagName? n) n
+  closes_alike (name n) = shut_name (tag_name? n) n
   closes_alike (value n) = refl
   closes_alike (start_tag n) = refl
   closes_alike (end_tag n) = refl

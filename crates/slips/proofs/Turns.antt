@@ -9,7 +9,7 @@ use Rattle.notation.specs.Program.{TextProgram}
 use Rattle.notation.specs.Rules.{Tree, Rules}
 use Rattle.notation.specs.Statements.{parentheses}
 use Rattle.notation.specs.Tokens.{Dollar, plain, left, right, TextToken, nonterminal, value, attribute, name, start_tag, end_tag, empty_tag, string, word, Keyword, CHAR, ECHO, ECHO-OFF, REJECT, PRINT, IF, THEN, ELSE, BEGIN, END, AND, OR, NOT, EMPTY, sign, Sign, DEFINED, ASSIGNED, OPEN, CLOSE, BRACE, UNBRACE, DOT, BAR, STAR, SEMICOLON, EQUALS}
-use Rattle.reading.specs.Tests.{tagName?}
+use Rattle.reading.specs.Tests.{tag_name?}
 use Rattle.reading.specs.Conditions.{Reading, ConditionPart, part_of, step_part, step_condition, value_of_condition}
 use Rattle.reading.specs.Statements.{Start, no_start, start_of, Behind, nothing, behind_of, started_list, targeted, assigned_by, printed, followed, thenned, tested, Listing, wants, target, assigning, printing, testing, after, step_statements, value_of_list}
 use Rattle.reading.specs.Expressions.{Parsing, in_front, behind, over, nonterminal?, piece_of, unbraces, listing, step_expression, value_of_content}
@@ -157,7 +157,7 @@ pub key_is : (t : TextToken) → KeyIs t (key_of t)
 key_is (nonterminal n) = key_if_lem (nonterminal? n) (nonterminal n) (a_nonterminal n) refl
 key_is (value v) = tt
 key_is (attribute m a) = tt
-key_is (name n) = key_if_lem (tagName? n) (name n) (a_name n) refl
+key_is (name n) = key_if_lem (tag_name? n) (name n) (a_name n) refl
 key_is (start_tag n) = tt
 key_is (end_tag n) = tt
 key_is (empty_tag n) = tt

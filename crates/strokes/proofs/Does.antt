@@ -13,7 +13,7 @@ use Rattle.programs.specs.Parsed.{which_visit}
 use Rattle.notation.specs.Program.{TextStatement, print_start, print_end, print_text, TextProgram, step, statement_in}
 use Rattle.notation.specs.Statements.{only}
 use Rattle.notation.specs.Tokens.{Dollar, plain, left, right, TextToken, nonterminal, value, attribute, name, start_tag, end_tag, empty_tag, string, word, Keyword, CHAR, ECHO, ECHO-OFF, REJECT, PRINT, IF, THEN, ELSE, BEGIN, END, AND, OR, NOT, EMPTY, sign, Sign, DEFINED, ASSIGNED, OPEN, CLOSE, BRACE, UNBRACE, DOT, BAR, STAR, SEMICOLON, EQUALS}
-use Rattle.reading.specs.Tests.{tagName?, string?}
+use Rattle.reading.specs.Tests.{tag_name?, string?}
 use Rattle.reading.specs.Conditions.{ConditionPart, operand, a_not, an_and, an_or, an_open, a_close, an_equals, other, part_if, value?, attribute?, attribute_of, attribute_part, part_of}
 use Rattle.reading.specs.Statements.{Start, simply, a_target, a_print, an_if, a_begin, no_start, current?, target_if, start_of, Behind, an_item, a_semicolon, an_else, a_then, an_assign, nothing, item_if, behind_of}
 use Rattle.lexemes.specs.Kinds.{token_kind, token_number, TokenFits}
@@ -159,9 +159,9 @@ module _ (tag offset : List ℕ → ℕ) where
   item_does b (value n) place i h = absurd i
   item_does b (attribute m a) place i h = absurd i
   item_does b (name n) place i h = absurd i
-  item_does b (start_tag n) place i h = record { part = no_part; start = start_none; next = item_next (tagName? n) (only (print_start n)) _ (ap (λ z. 5 ∷ z ∷ []) (tag_byte i)) }
-  item_does b (end_tag n) place i h = record { part = no_part; start = start_none; next = item_next (tagName? n) (only (print_end n)) _ (ap (λ z. 6 ∷ z ∷ []) (tag_byte i)) }
-  item_does b (empty_tag n) place i h = record { part = no_part; start = start_none; next = item_next (tagName? n) (step (print_start n) (only (print_end n))) _ (ap (λ z. 5 ∷ z ∷ 6 ∷ z ∷ []) (tag_byte i)) }
+  item_does b (start_tag n) place i h = record { part = no_part; start = start_none; next = item_next (tag_name? n) (only (print_start n)) _ (ap (λ z. 5 ∷ z ∷ []) (tag_byte i)) }
+  item_does b (end_tag n) place i h = record { part = no_part; start = start_none; next = item_next (tag_name? n) (only (print_end n)) _ (ap (λ z. 6 ∷ z ∷ []) (tag_byte i)) }
+  item_does b (empty_tag n) place i h = record { part = no_part; start = start_none; next = item_next (tag_name? n) (step (print_start n) (only (print_end n))) _ (ap (λ z. 5 ∷ z ∷ 6 ∷ z ∷ []) (tag_byte i)) }
   item_does b (string cs) place i h = record { part = no_part; start = start_none; next = item_next (string? cs) (only (print_text (utf8s cs))) _ (string_bytes (utf8s cs) place i h.short) }
   item_does b (word w) place i h = absurd i
   item_does b (sign s) place i h = absurd i

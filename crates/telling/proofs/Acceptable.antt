@@ -24,7 +24,7 @@ use Rattle.notation.specs.Rules.{Tree}
 use Rattle.notation.specs.Tokens.{Dollar, plain, left, right, TextToken, nonterminal, value, attribute, name, start_tag, end_tag, empty_tag, string, word, Keyword, CHAR, ECHO, ECHO-OFF, REJECT, PRINT, IF, THEN, ELSE, BEGIN, END, AND, OR, NOT, EMPTY, sign, Sign, DEFINED, ASSIGNED, OPEN, CLOSE, BRACE, UNBRACE, DOT, BAR, STAR, SEMICOLON, EQUALS, decimal, token_bytes, mark_bytes, TagName, StringOf}
 use Rattle.notation.specs.Statements.{parentheses}
 use Rattle.notation.proofs.Rows.{utf8_some}
-use Rattle.reading.specs.Tests.{tagName?, string?}
+use Rattle.reading.specs.Tests.{tag_name?, string?}
 use Rattle.reading.specs.Conditions.{ConditionPart, other, part_if, value?, attribute?, attribute_part, attribute_of, part_of, Reading, step_part, step_condition, value_of_condition}
 use Rattle.reading.specs.Statements.{Start, no_start, target_if, current?, start_of, Behind, nothing, item_if, behind_of, ListLevel, Listing, wants, target, assigning, printing, testing, after, thenned, tested, started_list, targeted, assigned_by, printed, followed, step_statements, value_of_list}
 use Rattle.reading.specs.Expressions.{ExpressionPart, atom_if, nonterminal?, piece_of, Parsing, step_piece, unbraces, listing, step_expression, value_of_content}
@@ -186,26 +186,26 @@ fine_or_stray (attribute m a) = on (attribute? a)
     on : Dec (Attribute a) → Fine (attribute m a) ⊎ Stray (attribute m a)
     on (yes h) = inl (record { good = omega arith; proper = omega arith; some_bytes = mark_some m _ })
     on (no h) = inr (record { silent = record { in_condition = λ v. no_attribute (attribute? a) (attribute_of v m a) h; at_start = λ v. no_target (attribute? a) (current? v m) a h; behind = refl; in_expression = refl }; outside = refl })
-fine_or_stray (name n) = on (tagName? n)
+fine_or_stray (name n) = on (tag_name? n)
   where
     on : Dec (TagName n) → Fine (name n) ⊎ Stray (name n)
     on (yes h) = inl (record { good = tag_bounded n h; proper = h; some_bytes = name_some n h.a_name })
-    on (no h) = inr (record { silent = record { in_condition = λ v. refl; at_start = λ v. refl; behind = refl; in_expression = refl }; outside = no_key (tagName? n) _ h })
-fine_or_stray (start_tag n) = on (tagName? n)
+    on (no h) = inr (record { silent = record { in_condition = λ v. refl; at_start = λ v. refl; behind = refl; in_expression = refl }; outside = no_key (tag_name? n) _ h })
+fine_or_stray (start_tag n) = on (tag_name? n)
   where
     on : Dec (TagName n) → Fine (start_tag n) ⊎ Stray (start_tag n)
     on (yes h) = inl (record { good = tag_bounded n h; proper = h; some_bytes = cons≢[] })
-    on (no h) = inr (record { silent = record { in_condition = λ v. refl; at_start = λ v. refl; behind = no_item (tagName? n) _ h; in_expression = refl }; outside = refl })
-fine_or_stray (end_tag n) = on (tagName? n)
+    on (no h) = inr (record { silent = record { in_condition = λ v. refl; at_start = λ v. refl; behind = no_item (tag_name? n) _ h; in_expression = refl }; outside = refl })
+fine_or_stray (end_tag n) = on (tag_name? n)
   where
     on : Dec (TagName n) → Fine (end_tag n) ⊎ Stray (end_tag n)
     on (yes h) = inl (record { good = tag_bounded n h; proper = h; some_bytes = cons≢[] })
-    on (no h) = inr (record { silent = record { in_condition = λ v. refl; at_start = λ v. refl; behind = no_item (tagName? n) _ h; in_expression = refl }; outside = refl })
-fine_or_stray (empty_tag n) = on (tagName? n)
+    on (no h) = inr (record { silent = record { in_condition = λ v. refl; at_start = λ v. refl; behind = no_item (tag_name? n) _ h; in_expression = refl }; outside = refl })
+fine_or_stray (empty_tag n) = on (tag_name? n)
   where
     on : Dec (TagName n) → Fine (empty_tag n) ⊎ Stray (empty_tag n)
     on (yes h) = inl (record { good = tag_bounded n h; proper = h; some_bytes = cons≢[] })
-    on (no h) = inr (record { silent = record { in_condition = λ v. refl; at_start = λ v. refl; behind = no_item (tagName? n) _ h; in_expression = refl }; outside = refl })
+    on (no h) = inr (record { silent = record { in_condition = λ v. refl; at_start = λ v. refl; behind = no_item (tag_name? n) _ h; in_expression = refl }; outside = refl })
 fine_or_stray (string cs) = on (string? cs)
   where
     on : Dec (StringOf cs) → Fine (string cs) ⊎ Stray (string cs)
@@ -337,7 +337,7 @@ pub name_wants_tag : (s s' : Progress) (n : List ℕ) → step_rules s (name n) 
 name_wants_tag s s' n e = on s e
   where
     by_key : (s : Progress) → step_key s (key_of (name n)) ≡ some s' → WantsTag s
-    by_key s i = subst (λ o. Tags o s) i (key_tags s (key_of (name n)) (name_key (tagName? n) n))
+    by_key s i = subst (λ o. Tags o s) i (key_tags s (key_of (name n)) (name_key (tag_name? n) n))
 
     on : (s : Progress) → step_rules s (name n) ≡ some s' → WantsTag s
     on beginning i = by_key beginning i
@@ -348,7 +348,7 @@ name_wants_tag s s' n e = on s e
     on (wants_tag f h) i = tt
     on (tagged f t h) i = by_key (tagged f t h) i
     on (within x f t h) i =
-        none≢some (ap (λ o. parsing o (closes_content (key_of (name n)) (value_of_content x) f t h) f t h) (content_stops x (name n) (name_silent n)) ∙ closes_name (key_of (name n)) (value_of_content x) f t h (name_key (tagName? n) n)) i
+        none≢some (ap (λ o. parsing o (closes_content (key_of (name n)) (value_of_content x) f t h) f t h) (content_stops x (name n) (name_silent n)) ∙ closes_name (key_of (name n)) (value_of_content x) f t h (name_key (tag_name? n) n)) i
     on (closed f t x h) i = by_key (closed f t x h) i
     on (own_back q f t x h) i = none≢some (listing_stops second q (name n) (λ r. own_back r f t x h) (λ p. complete (rule_read f (some p) t x h) h) (name_silent n)) i
     on (complete r h) i = by_key (complete r h) i

@@ -93,19 +93,19 @@ gap_by : (b : ℕ) (g : List ℕ) → Dec (GapFrom b g) → Dec (Gap (b ∷ g))
 gap_by b g (yes f) = yes (gap_of b g f)
 gap_by b g (no f) = no (λ x. f (gap_was (b ∷ g) b g x refl))
 
-gap-from? : (k : ℕ) → ((l : List ℕ) → length l ≤ k → Dec (Gap l)) → (b : ℕ) (g : List ℕ) → length g ≤ k → Dec (GapFrom b g)
-gap-from? k d b g h =
+gap_from? : (k : ℕ) → ((l : List ℕ) → length l ≤ k → Dec (Gap l)) → (b : ℕ) (g : List ℕ) → length g ≤ k → Dec (GapFrom b g)
+gap_from? k d b g h =
     either? (both? (true? (blank b)) (d g h))
     (both? (ℕ_discrete b 35) (split? g (λ c r. All in_comment c × Ended r) (λ c r e. both? (all? in_comment c) (ended? k d r (omega (arith, simp length-append at (ap length e)))))))
 
-gap-within? : (k : ℕ) (g : List ℕ) → length g ≤ k → Dec (Gap g)
-gap-within? zero [] h = yes Gap.none
-gap-within? zero (b ∷ g) h = absurd (omega arith)
-gap-within? (suc k) [] h = yes Gap.none
-gap-within? (suc k) (b ∷ g) h = gap_by b g (gap-from? k (λ l i. gap-within? k l i) b g (omega arith))
+gap_within? : (k : ℕ) (g : List ℕ) → length g ≤ k → Dec (Gap g)
+gap_within? zero [] h = yes Gap.none
+gap_within? zero (b ∷ g) h = absurd (omega arith)
+gap_within? (suc k) [] h = yes Gap.none
+gap_within? (suc k) (b ∷ g) h = gap_by b g (gap_from? k (λ l i. gap_within? k l i) b g (omega arith))
 
 pub gap? : (g : List ℕ) → Dec (Gap g)
-gap? g = gap-within? (length g) g (omega arith)
+gap? g = gap_within? (length g) g (omega arith)
 
 -- inside a gap: behind whole ones, and perhaps in a comment
 abbrev pub OpenTail : List ℕ → Type 0
@@ -119,8 +119,8 @@ tail? (b ∷ c) = both? (ℕ_discrete b 35) (all? in_comment c)
 abbrev pub InGap : List ℕ → Type 0
 InGap p = (g w : List ℕ) × (p ≡ g ++ w) × (Gap g × OpenTail w)
 
-pub in-gap? : (p : List ℕ) → Dec (InGap p)
-in-gap? p = split? p (λ g w. Gap g × OpenTail w) (λ g w e. both? (gap? g) (tail? w))
+pub in_gap? : (p : List ℕ) → Dec (InGap p)
+in_gap? p = split? p (λ g w. Gap g × OpenTail w) (λ g w e. both? (gap? g) (tail? w))
 
 pub gap_append : (g h : List ℕ) → Gap g → Gap h → Gap (g ++ h)
 gap_append g h Gap.none k = k
@@ -169,27 +169,27 @@ ending_is p (g, [], i, (k, w)) = subst Ending (sym (i ∙ append-nil g)) (gap k)
 ending_is p (g, b ∷ c, i, (k, (e, a))) = subst Ending (sym (i ∙ ap (λ q. g ++ q ∷ c) e)) (open_comment c k a)
 
 -- the limits of rules
-program-within? : (p : TextProgram) → Dec (ProgramWithin p)
-program-within? p = on (dec_le (size_of p) 256) (dec_le (nesting_of p) 8)
+program_within? : (p : TextProgram) → Dec (ProgramWithin p)
+program_within? p = on (dec_le (size_of p) 256) (dec_le (nesting_of p) 8)
   where
     on : Dec (size_of p ≤ 256) → Dec (nesting_of p ≤ 8) → Dec (ProgramWithin p)
     on (yes a) (yes b) = yes (record { short = a; shallow = b })
     on (yes a) (no b) = no (λ h. b h.shallow)
     on (no a) b = no (λ h. a h.short)
 
-option-within? : (o : Option TextProgram) → Dec (OptionWithin o)
-option-within? none = yes tt
-option-within? (some p) = program-within? p
+option_within? : (o : Option TextProgram) → Dec (OptionWithin o)
+option_within? none = yes tt
+option_within? (some p) = program_within? p
 
-visits-within? : (v : TextVisits) → Dec (VisitsWithin v)
-visits-within? v = both? (option-within? v.first_visit) (option-within? v.second_visit)
+visits_within? : (v : TextVisits) → Dec (VisitsWithin v)
+visits_within? v = both? (option_within? v.first_visit) (option_within? v.second_visit)
 
-all-within? : (vs : List TextVisits) → Dec (AllWithin vs)
-all-within? [] = yes tt
-all-within? (v ∷ vs) = both? (visits-within? v) (all-within? vs)
+all_within? : (vs : List TextVisits) → Dec (AllWithin vs)
+all_within? [] = yes tt
+all_within? (v ∷ vs) = both? (visits_within? v) (all_within? vs)
 
-content-within? : (e : Option Tree) → Dec (ContentWithin e)
-content-within? e = on (dec_le (nodes_of (content_inside e)) 32) (dec_le (content_depth (content_inside e)) 12) (all-within? (visits_inside e))
+content_within? : (e : Option Tree) → Dec (ContentWithin e)
+content_within? e = on (dec_le (nodes_of (content_inside e)) 32) (dec_le (content_depth (content_inside e)) 12) (all_within? (visits_inside e))
   where
     on : Dec (nodes_of (content_inside e) ≤ 32) → Dec (content_depth (content_inside e) ≤ 12) → Dec (AllWithin (visits_inside e)) → Dec (ContentWithin e)
     on (yes a) (yes b) (yes c) = yes (record { few_nodes = a; shallow = b; programs = c })
@@ -197,20 +197,20 @@ content-within? e = on (dec_le (nodes_of (content_inside e)) 32) (dec_le (conten
     on (yes a) (no b) c = no (λ h. b h.shallow)
     on (no a) b c = no (λ h. a h.few_nodes)
 
-rule-within? : (r : TextRule) → Dec (RuleWithin r)
-rule-within? r = on (visits-within? r.own) (content-within? r.inside)
+rule_within? : (r : TextRule) → Dec (RuleWithin r)
+rule_within? r = on (visits_within? r.own) (content_within? r.inside)
   where
     on : Dec (VisitsWithin r.own) → Dec (ContentWithin r.inside) → Dec (RuleWithin r)
     on (yes a) (yes b) = yes (record { own = a; inside = b })
     on (yes a) (no b) = no (λ h. b h.inside)
     on (no a) b = no (λ h. a h.own)
 
-each-within? : (rs : List TextRule) → Dec (EachWithin rs)
-each-within? [] = yes tt
-each-within? (r ∷ rs) = both? (rule-within? r) (each-within? rs)
+each_within? : (rs : List TextRule) → Dec (EachWithin rs)
+each_within? [] = yes tt
+each_within? (r ∷ rs) = both? (rule_within? r) (each_within? rs)
 
 pub within? : (r : Rules) → Dec (WithinLimits r)
-within? r = on (dec_le (length r.productions) 64) (dec_le (nodes_in_all r.productions) 256) (each-within? r.productions)
+within? r = on (dec_le (length r.productions) 64) (dec_le (nodes_in_all r.productions) 256) (each_within? r.productions)
   where
     on : Dec (length r.productions ≤ 64) → Dec (nodes_in_all r.productions ≤ 256) → Dec (EachWithin r.productions) → Dec (WithinLimits r)
     on (yes a) (yes b) (yes c) = yes (record { few_productions = a; few_nodes = b; each = c })

@@ -28,7 +28,7 @@ use Rattle.reading.proofs.Telling.{none≢some, cases, walk_on, run_was, next_wa
 use Rattle.reading.proofs.Rules.{reads_rules}
 use Rattle.telling.proofs.Search.{Good, token?}
 use Rattle.telling.proofs.Acceptable.{Fine, taken_is_fine}
-use Rattle.telling.proofs.Bytes.{split?, same?, begins?, gap?, OpenTail, InGap, in-gap?, gap_append, gap_front, ending_was, ending_is, within?}
+use Rattle.telling.proofs.Bytes.{split?, same?, begins?, gap?, OpenTail, InGap, in_gap?, gap_append, gap_front, ending_was, ending_is, within?}
 
 -- a step of the machine with its limits
 abbrev pub take_token : Progress → TextToken → Option Progress
@@ -293,8 +293,8 @@ module _ (b : Bool) (k : ℕ) (shorter : (s : Progress) → Reached s → (r : L
       on (yes e) = both? (yes e) (both? (may? t r) (shorter s h r (some_left e)))
       on (no e) = no (λ x. e x.0)
 
-  token-at? : (s : Progress) → Reached s → (w : List ℕ) → length w ≤ k → (t : TextToken) → Dec (TokenAt b s w t)
-  token-at? s h w l t = on (cases (take_token s t))
+  token_at? : (s : Progress) → Reached s → (w : List ℕ) → length w ≤ k → (t : TextToken) → Dec (TokenAt b s w t)
+  token_at? s h w l t = on (cases (take_token s t))
     where
       given : (s' : Progress) → take_token s t ≡ some s' → Dec (Begun b t w ⊎ ((a r : List ℕ) × (w ≡ a ++ r) × Through b s' t a r)) → Dec (TokenAt b s w t)
       given s' n (yes d) = yes (s', n, d)
@@ -308,9 +308,9 @@ module _ (b : Bool) (k : ℕ) (shorter : (s : Progress) → Reached s → (r : L
 
   cases? : (s : Progress) → Reached s → (p : List ℕ) → length p ≤ k → Dec (Cases b s p)
   cases? s h p l =
-      either? (both? (in-gap? p) (base? b s))
+      either? (both? (in_gap? p) (base? b s))
       (split? p (λ g w. Gap g × ((t : TextToken) × Good t × TokenAt b s w t))
-      (λ g w e. both? (gap? g) (token? (TokenAt b s w) (token-at? s h w (omega (arith, simp length-append at (ap length e)))))))
+      (λ g w e. both? (gap? g) (token? (TokenAt b s w) (token_at? s h w (omega (arith, simp length-append at (ap length e)))))))
 
   rest_by : (s : Progress) → Reached s → (p : List ℕ) → length p ≤ k → Dec (Rest b s p)
   rest_by s h p l = on (cases? s h p l)
@@ -319,12 +319,12 @@ module _ (b : Bool) (k : ℕ) (shorter : (s : Progress) → Reached s → (r : L
       on (yes c) = yes (cases_rest b s p h c)
       on (no c) = no (λ x. c (rest_cases b s p x))
 
-rest-below? : (b : Bool) (k : ℕ) (s : Progress) → Reached s → (p : List ℕ) → length p < k → Dec (Rest b s p)
-rest-below? b zero s h p l = absurd (omega arith)
-rest-below? b (suc k) s h p l = rest_by b k (λ s' h' r i. rest-below? b k s' h' r i) s h p (omega arith)
+rest_below? : (b : Bool) (k : ℕ) (s : Progress) → Reached s → (p : List ℕ) → length p < k → Dec (Rest b s p)
+rest_below? b zero s h p l = absurd (omega arith)
+rest_below? b (suc k) s h p l = rest_by b k (λ s' h' r i. rest_below? b k s' h' r i) s h p (omega arith)
 
 pub rest? : (b : Bool) (p : List ℕ) → Dec (Rest b beginning p)
-rest? b p = rest-below? b (suc (length p)) beginning ([], refl) p (omega arith)
+rest? b p = rest_below? b (suc (length p)) beginning ([], refl) p (omega arith)
 
 -- rule texts are what the machine's tokens spell
 pub text_spelling : (text : List ℕ) (r : Rules) → RuleText text r → Spelling beginning text
@@ -342,8 +342,8 @@ spelling_text text s =
       within = subst WithinLimits (reads_rules.finished_last s.last s.written_rules s.told) w.1;
     }
 
-goes-on? : (p : List ℕ) → Dec (Continues RuleText p)
-goes-on? p = on (rest? false p)
+goes_on? : (p : List ℕ) → Dec (Continues RuleText p)
+goes_on? p = on (rest? false p)
   where
     on : Dec (Rest false beginning p) → Dec (Continues RuleText p)
     on (yes (q, k, s)) = yes (record { rest = q; value = s.written_rules; writes = spelling_text (p ++ q) s })
@@ -363,7 +363,7 @@ tell p [] g = rw append-nil (on (writes? p))
     on : Dec ((r : Rules) × RuleText p r) → Told RuleText p
     on (yes (r, h)) = written r h
     on (no h) = refused (length p) (record { reached = omega arith; before = rw take-length g; no_further = λ k x. absurd (omega arith); unfinished = λ k v x. h (v, x) })
-tell p (b ∷ rest) g = on (λ h. rw append_assoc at (tell (p ++ b ∷ []) rest h)) (goes-on? (p ++ b ∷ []))
+tell p (b ∷ rest) g = on (λ h. rw append_assoc at (tell (p ++ b ∷ []) rest h)) (goes_on? (p ++ b ∷ []))
   where
     one_more : take (suc (length p)) (p ++ b ∷ rest) ≡ p ++ b ∷ []
     one_more = ap (take (suc (length p))) (sym (append_assoc p (b ∷ []) rest)) ∙ take_at (p ++ b ∷ []) rest (suc (length p)) (simp length-append (omega arith))
