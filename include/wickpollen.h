@@ -1,4 +1,4 @@
-/* The sheet checker, the converter, the salvage run, the writer and the printer of rules as text, and the reader of content models, for hosts in C and C++. Build: `rt staticlib capi`, and link target/staticlib/libcapi.a; or
+/* The sheet checker, the converter, the salvage run, the writer and the printer of rules as text, and the reader of content models, for hosts in C and C++. Build: `rt lib` in crates/capi_c, and link crates/capi_c/out/libcapi_c.a; or
    `bin/install PREFIX`, and ask `pkg-config --cflags --libs wickpollen`.
 
    The numbers are those of the table in README.md. In every call the lent areas must not overlap, and each must hold as many bytes as

@@ -1,7 +1,7 @@
 // Files by name: one read whole, one read on into what is there already, and a new one made beside another to take its place.
 #![tactic(auto)]
 
-ghost use Rattle.std.specs.Prelude.{◌≡◌, ◌≤◌, min, length, IfSome};
+ghost use Rattle.std.specs.Prelude.{◌≡◌, ◌≤◌, min, length, false, is_some, is_ok, IfSome};
 ghost use Rattle.io.specs.Counts.{IsPrefixLen};
 ghost use Rattle.files.specs.Moved.{MovedAs};
 
@@ -19,7 +19,7 @@ pub struct Filled {
     pub failed: bool,
 }
 
-// A file that is open, or none; and why the last call on it that failed did.
+// A file that is open, or none; and why the last opening, read, write or sync that failed did.
 #[derive(Drop)]
 pub struct Opened {
     file: Option<File>,
@@ -41,8 +41,10 @@ const OWNERS: u32 = 0o600;
 // Standard error, as io numbers it.
 pub const STDERR_FILENO: i32 = 2;
 
-// What the system says of a file that is not open, of a name that is none, and of a listener who is gone.
+// What the system says of a file that is not open, of a name that a file has, of a name that is none, and of a listener who is gone.
 const NOT_OPEN: i32 = 9;
+
+const TAKEN: i32 = 17;
 
 const NO_NAME: i32 = 22;
 
@@ -112,7 +114,9 @@ pub fn overwrite(rt: HostRuntime, path: &[u8]) -> Opened {
 
 impl Opened {
     // There is no file.
-    pub fn nothing() -> Opened {
+    pub fn nothing() -> Opened
+        ensures { is_some result.file ≡ false }
+    {
         Opened {
             file: None,
             error: None,
@@ -132,7 +136,9 @@ impl Opened {
         }
     }
 
-    pub fn is_open(&self) -> bool {
+    pub fn is_open(&self) -> bool
+        ensures { result ≡ is_some self.now.file }
+    {
         self.file.is_some()
     }
 
@@ -175,16 +181,20 @@ impl Opened {
         }
     }
 
-    // Goes back to the file's start, and answers whether that was done.
-    pub fn go_back(&mut self) -> bool {
+    // Goes back to the file's start, and answers whether that was done: never where there is no file.
+    pub fn go_back(&mut self) -> bool
+        ensures { is_some self.old.file ≡ false → result ≡ false }
+    {
         match &mut self.file {
             Some(file) => file.seek(SeekFrom::Start(0)).is_ok(),
             None => false,
         }
     }
 
-    // Writes all of some bytes, and answers whether that was done.
-    pub fn write(&mut self, bytes: &[u8]) -> bool {
+    // Writes all of some bytes, and answers whether that was done: never where there is no file.
+    pub fn write(&mut self, bytes: &[u8]) -> bool
+        ensures { is_some self.old.file ≡ false → result ≡ false }
+    {
         let put = match &mut self.file {
             Some(file) => file.write_all(bytes),
             None => Err(Error::from_raw_os_error(NOT_OPEN)),
@@ -202,7 +212,9 @@ impl Opened {
     }
 
     // Whether a call was done; else why not is kept.
-    fn remember(&mut self, done: Result<()>) -> bool {
+    fn remember(&mut self, done: Result<()>) -> bool
+        ensures { result ≡ is_ok done }
+    {
         match done {
             Ok(()) => true,
             Err(why) => {
@@ -345,7 +357,7 @@ fn create_temp(rt: HostRuntime, name: &mut [u8]) -> Result<File> {
         }
         tries += 1;
     }
-    Err(Error::from(ErrorKind::AlreadyExists))
+    Err(Error::from_raw_os_error(TAKEN))
 }
 
 // As create_temp, for all to read. A file whose mode cannot be set is made all the same.

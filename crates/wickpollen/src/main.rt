@@ -5,7 +5,7 @@
 
 #![tactic(auto)]
 
-ghost use Rattle.std.specs.Prelude.{◌≡◌, ◌<◌, IfOk};
+ghost use Rattle.std.specs.Prelude.{◌≡◌, ◌<◌};
 ghost use Rattle.tells.specs.Tells.{Tells};
 ghost use Rattle.io.specs.Counts.{IsPrefixLen};
 
@@ -33,14 +33,29 @@ const CONVERTS: usize = 1;
 
 const SALVAGES: usize = 2;
 
+// A word of the command that was put into memory: how many bytes it has there, none where it could not be taken; and why not.
+#[derive(Clone, Copy)]
+struct Given {
+    length: usize,
+    refusal: Option<FillError>,
+}
+
 // Word i of the command, the program's own name being word 0. `--tell`, which comes before the others, is not counted.
-fn word(rt: HostRuntime, told: bool, i: usize, memory: &mut [u8]) -> Result<usize, FillError>
+fn word(rt: HostRuntime, told: bool, i: usize, memory: &mut [u8]) -> Given
     requires { i < 9 }
-    ensures { IfOk result (λ n. IsPrefixLen n memory.new) }
+    ensures { IsPrefixLen result.length memory.new }
 {
     let at = if told { i + 1 } else { i };
-    let n = rt.arg(at, memory)?;
-    Ok(files::within(n, memory))
+    match rt.arg(at, memory) {
+        Ok(n) => Given {
+            length: files::within(n, memory),
+            refusal: None,
+        },
+        Err(why) => Given {
+            length: 0,
+            refusal: Some(why),
+        },
+    }
 }
 
 // What the system says of a word that is not there, and of one that is too long.
@@ -98,25 +113,30 @@ fn run_on_one(rt: HostRuntime, told: bool, what: usize) -> u64 {
         return usage();
     }
     let mut path = io::buffer();
-    let n = match word(rt, told, 2, &mut path) {
-        Ok(n) => n,
-        Err(why) => return tell_unread(b"the name of the file", why),
-    };
+    let given = word(rt, told, 2, &mut path);
+    if let Some(why) = given.refusal {
+        return tell_unread(b"the name of the file", why);
+    }
     match what {
-        MODELS => print_models(rt, &path[..n]),
-        PRINTS => print_file(rt, &path[..n]),
-        _ => check_file(rt, &path[..n]),
+        MODELS => print_models(rt, &path[..given.length]),
+        PRINTS => print_file(rt, &path[..given.length]),
+        _ => check_file(rt, &path[..given.length]),
     }
 }
 
 // `write`, with the name of its rules.
 fn write_into(rt: HostRuntime, rules: &[u8], told: bool) -> u64 {
     let mut sheet = io::buffer();
-    let n = match word(rt, told, 3, &mut sheet) {
-        Ok(n) => n,
-        Err(why) => return tell_unread(b"SHEET", why),
-    };
-    write_file(rt, rules, &sheet[..n], Caller::this_one(rt, false, told))
+    let given = word(rt, told, 3, &mut sheet);
+    if let Some(why) = given.refusal {
+        return tell_unread(b"SHEET", why);
+    }
+    write_file(
+        rt,
+        rules,
+        &sheet[..given.length],
+        Caller::this_one(rt, false, told),
+    )
 }
 
 // `write` and its files.
@@ -125,23 +145,17 @@ fn run_write(rt: HostRuntime, told: bool) -> u64 {
         return usage();
     }
     let mut rules = io::buffer();
-    let n = match word(rt, told, 2, &mut rules) {
-        Ok(n) => n,
-        Err(why) => return tell_unread(b"RULES", why),
-    };
-    write_into(rt, &rules[..n], told)
+    let given = word(rt, told, 2, &mut rules);
+    if let Some(why) = given.refusal {
+        return tell_unread(b"RULES", why);
+    }
+    write_into(rt, &rules[..given.length], told)
 }
 
 // Word i of a command as it is without --salvage, which comes before the names of the files.
-fn file_word(
-    rt: HostRuntime,
-    told: bool,
-    way: usize,
-    i: usize,
-    memory: &mut [u8],
-) -> Result<usize, FillError>
+fn file_word(rt: HostRuntime, told: bool, way: usize, i: usize, memory: &mut [u8]) -> Given
     requires { i < 8 }
-    ensures { IfOk result (λ n. IsPrefixLen n memory.new) }
+    ensures { IsPrefixLen result.length memory.new }
 {
     if way == SALVAGES {
         return word(rt, told, i + 1, memory);
@@ -152,49 +166,52 @@ fn file_word(
 // `convert`, with the names of its sheet and its schedule.
 fn convert_into(rt: HostRuntime, sheet: &[u8], schedule: &[u8], caller: Caller, way: usize) -> u64 {
     let mut listing = io::buffer();
-    let n = match file_word(rt, caller.listens, way, 4, &mut listing) {
-        Ok(n) => n,
-        Err(why) => return tell_unread(b"LISTING", why),
-    };
-    if way == SALVAGES {
-        return commands::salvage_files(rt, sheet, schedule, &listing[..n], caller);
+    let given = file_word(rt, caller.listens, way, 4, &mut listing);
+    if let Some(why) = given.refusal {
+        return tell_unread(b"LISTING", why);
     }
-    commands::convert_files(rt, sheet, schedule, &listing[..n], caller)
+    if way == SALVAGES {
+        return commands::salvage_files(rt, sheet, schedule, &listing[..given.length], caller);
+    }
+    commands::convert_files(rt, sheet, schedule, &listing[..given.length], caller)
 }
 
 // `convert` or `try`, with the name of its sheet.
 fn run_with(rt: HostRuntime, sheet: &[u8], caller: Caller, way: usize) -> u64 {
     let mut schedule = io::buffer();
-    let n = match file_word(rt, caller.listens, way, 3, &mut schedule) {
-        Ok(n) => n,
-        Err(why) => return tell_unread(b"SCHEDULE", why),
-    };
-    if way == TRIES {
-        return commands::try_files(rt, sheet, &schedule[..n], caller);
+    let given = file_word(rt, caller.listens, way, 3, &mut schedule);
+    if let Some(why) = given.refusal {
+        return tell_unread(b"SCHEDULE", why);
     }
-    convert_into(rt, sheet, &schedule[..n], caller, way)
+    if way == TRIES {
+        return commands::try_files(rt, sheet, &schedule[..given.length], caller);
+    }
+    convert_into(rt, sheet, &schedule[..given.length], caller, way)
 }
 
 // `convert` or `try` and its files. Somebody watches where it was asked for, or where standard error is a terminal.
 fn run_files(rt: HostRuntime, told: bool, asked: bool, way: usize) -> u64 {
     let mut sheet = io::buffer();
-    let n = match file_word(rt, told, way, 2, &mut sheet) {
-        Ok(n) => n,
-        Err(why) => return tell_unread(b"RULES", why),
-    };
+    let given = file_word(rt, told, way, 2, &mut sheet);
+    if let Some(why) = given.refusal {
+        return tell_unread(b"RULES", why);
+    }
     let watched = asked | rt.stderr().is_terminal();
-    run_with(rt, &sheet[..n], Caller::this_one(rt, watched, told), way)
+    run_with(
+        rt,
+        &sheet[..given.length],
+        Caller::this_one(rt, watched, told),
+        way,
+    )
 }
 
 // Whether word i is this one.
 fn is_word(rt: HostRuntime, told: bool, i: usize, text: &[u8]) -> bool
     requires { i < 9 }
 {
-    let mut given = io::buffer();
-    match word(rt, told, i, &mut given) {
-        Ok(n) => same(&given[..n], text),
-        Err(_) => false,
-    }
+    let mut memory = io::buffer();
+    let given = word(rt, told, i, &mut memory);
+    same(&memory[..given.length], text)
 }
 
 // `convert` or `try`, which have n words, and perhaps --progress behind them.
@@ -256,11 +273,8 @@ fn run_command(rt: HostRuntime, told: bool, command: &[u8]) -> u64 {
 
 fn run(rt: HostRuntime, told: bool) -> u64 {
     let mut command = io::buffer();
-    let n = match word(rt, told, 1, &mut command) {
-        Ok(n) => n,
-        Err(_) => return usage(),
-    };
-    run_command(rt, told, &command[..n])
+    let given = word(rt, told, 1, &mut command);
+    run_command(rt, told, &command[..given.length])
 }
 
 // Whether the first word is --tell.
