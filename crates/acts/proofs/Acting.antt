@@ -8,7 +8,6 @@ use mathlib.Core.Option.{Option, none, some}
 use Prim.Native.Nat.{ℕ, suc, ◌+◌, ◌≤◌, ◌<◌}
 use native.Mathlib.Omega.{arith}
 use native.Mathlib.Numerals.{add-one}
-use lib.Dec.{eqb}
 use Rattle.lent.specs.Put.{PutAs}
 use Rattle.programs.specs.Limits.{second}
 use Rattle.sheet.specs.Sheet.{Sheet, IsSheet}
@@ -26,7 +25,7 @@ use Rattle.state.specs.Meaning.{meaning_of, opens_of, Fits, Shaped}
 use Rattle.state.specs.declared.Saved.{Saved}
 use Rattle.state.specs.declared.Frame.{Frame}
 use Rattle.state.specs.declared.State.{State}
-use Rattle.state.proofs.Meant.{inside_open, meaning_pushed, meaning_popped, meaning_restored, fits_started, shaped_env, shaped_popped, shaped_restored}
+use Rattle.state.proofs.Meant.{inside_open, meaning_pushed, meaning_popped, meaning_restored, fits_started, shaped_env, shaped_restored}
 use Rattle.visits.specs.Written.{Pen}
 use Rattle.visits.specs.Ran.{Came}
 use Rattle.visits.specs.Performed.{PerformedAs}

@@ -13,7 +13,6 @@ use Rattle.state.specs.Changes.{bare_saved, keeping, top_of, Restored, restored,
 use Rattle.state.specs.Meaning.{Shaped}
 use Rattle.state.specs.declared.Saved.{Saved}
 use Rattle.state.specs.declared.Frame.{Frame}
-use Rattle.state.specs.declared.State.{State}
 use Rattle.state.proofs.Laws.{last_at}
 use Rattle.state.proofs.Meant.{fits_top}
 use Rattle.live.specs.Live.{full, kept_in, env_in, RestoredIn}

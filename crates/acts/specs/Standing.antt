@@ -1,6 +1,6 @@
 -- Where a run stands between the brackets of a string: attributes, echo and the sets of the innermost element, apart from the state that they began with.
 -- Assumes nothing.
-use Rattle.std.specs.Prelude.{◌≡◌, Bool, false, List, ℕ, ◌+◌, ◌%◌, ◌≤◌, ◌<◌}
+use Rattle.std.specs.Prelude.{◌≡◌, false, List, ℕ, ◌+◌, ◌%◌, ◌≤◌, ◌<◌}
 use Rattle.state.specs.Bounds.{most_sets}
 use Rattle.state.specs.declared.Saved.{Saved}
 use Rattle.live.specs.declared.Live.{Live}

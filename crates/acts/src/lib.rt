@@ -312,7 +312,6 @@ pub fn brackets(
     ensures { (b : List ℕ) → BracketsAs s.now q line.now (full z b) (record { write = write; lent = out.old; at = at }) (seen result b) out.new }
 {
     let top = z.top;
-    let mut i = 0;
     let mut to = at;
     let mut n = top.open;
     let mut sets = top.saved;
@@ -321,8 +320,7 @@ pub fn brackets(
         values: values,
         echo: z.echo,
     };
-    while i < line.len() {
-        let c = line[i];
+    for &c in line {
         let j = slot(c, n, z.depth);
         if Frame::SETS <= j {
             return rejected(z, to);
@@ -344,6 +342,7 @@ pub fn brackets(
         if !done.ok {
             return rejected(z, done.at);
         }
+        to = done.at;
         let after = done.env;
         let given = after.values;
         if c % 2 == 0 {
@@ -360,12 +359,10 @@ pub fn brackets(
                 echo: old.echo,
             };
         }
-        to = done.at;
-        i += 1;
     }
     Acted {
         ok: true,
         at: to,
-        live: standing(z, i, env, n, sets),
+        live: standing(z, line.len(), env, n, sets),
     }
 }

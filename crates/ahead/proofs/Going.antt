@@ -1,17 +1,15 @@
 -- The laws of the parts: sets and frames compared, what the tried character tells, and the stretches as the call's answers.
 -- Assumes nothing.
 use mathlib.Core.Path.{◌≡◌, refl, sym, ap, ap₂, ◌∙◌, subst}
-use mathlib.Core.Bool.{Bool, true, false, ◌&&◌}
+use mathlib.Core.Bool.{Bool, true, false, beq}
 use mathlib.Core.Logic.{inl, inr}
 use mathlib.Core.List.{List, [], ◌∷◌, ◌++◌, map, reverse}
-use Prim.Native.Nat.{ℕ, suc, ◌+◌, ◌-◌, ◌≤◌, ◌<◌}
+use Prim.Native.Nat.{ℕ, ◌+◌, ◌-◌, ◌≤◌, ◌<◌}
 use native.Mathlib.Nat.{add-zero}
 use native.Mathlib.Numerals.{add-one}
 use native.Mathlib.Omega.{arith}
-use lib.Dec.{eqb}
 use lib.ListN.{length, take, drop, get_or, take-append-drop}
 use lib.Seq.{take-suc}
-use borrow.Author.Tests.{eqb-true}
 use Rattle.text.specs.Chars.{Char, utf8}
 use Rattle.output.specs.Escape.{escaped_as}
 use Rattle.sheet.specs.Sheet.{Sheet, IsSheet}
@@ -20,8 +18,7 @@ use Rattle.runs.specs.Visits.{grammar, most_visits, Env, Saved as Kept}
 use Rattle.runs.specs.Events.{letter}
 use Rattle.runs.specs.Machine.{Open, Control, before, inside, after, Configuration as Standing, Answer, took, refused, step}
 use Rattle.runs.specs.Spells.{passes_at}
-use Rattle.calls.specs.Names.{same_name}
-use Rattle.calls.specs.Limits.{silent, output_of}
+use Rattle.calls.specs.Limits.{silent}
 use Rattle.calls.specs.Call.{Result, after_writing, Runs}
 use Rattle.calls.proofs.Frame.{step_number}
 use Rattle.state.specs.declared.Saved.{Saved}
@@ -46,25 +43,18 @@ use Rattle.stretches.specs.Stretched.{StretchedAs, BlanksAs}
 use Rattle.ahead.specs.Ahead.{SameFrame, SameState, ProbedAs, OnwardAs}
 use Rattle.ahead.specs.declared.Tried.{Tried}
 
--- names that compare the same are the same
-and_both : (b c : Bool) → b && c ≡ true → (b ≡ true) × (c ≡ true)
-and_both true c e = (refl, e)
-and_both false c e = absurd (let z : ◌≡◌ {A = ℕ} 0 1 = cc in omega arith)
-
-pub same_list : (a b : List ℕ) → same_name a b ≡ true → a ≡ b
-same_list [] [] e = refl
-same_list [] (y ∷ b) e = absurd (let z : ◌≡◌ {A = ℕ} 0 1 = cc in omega arith)
-same_list (x ∷ a) [] e = absurd (let z : ◌≡◌ {A = ℕ} 0 1 = cc in omega arith)
-same_list (x ∷ a) (y ∷ b) e =
-    let h = and_both (eqb x y) (same_name a b) e in
-    ap₂ (λ (u : ℕ) (l : List ℕ). u ∷ l) (eqb-true x y h.0) (same_list a b h.1)
-
 -- a test that says no tells nothing
 pub not_told : {P : Type 0} → false ≡ true → P
 not_told e = absurd (let z : ◌≡◌ {A = ℕ} 0 1 = cc in omega arith)
 
-pub set_told : (a b : Saved) (r : Bool) → a.echo ≡ b.echo → r ≡ same_name a.values b.values → r ≡ true → a ≡ b
-set_told a b r e f g = ap₂ (λ (v : List ℕ) (o : Bool). record { values = v; echo = o }) (same_list a.values b.values (sym f ∙ g)) e
+pub echo_told : (a b : Bool) → beq a b ≡ true → a ≡ b
+echo_told true true e = refl
+echo_told false false e = refl
+echo_told true false e = not_told e
+echo_told false true e = not_told e
+
+pub set_told : (a b : Saved) → a.echo ≡ b.echo → a.values ≡ b.values → a ≡ b
+set_told a b e f = ap₂ (λ (v : List ℕ) (o : Bool). record { values = v; echo = o }) f e
 
 pub take_more : {X : Type 0} (l m : List X) (i : ℕ) (z : X) → i < length l → i < length m → take i l ≡ take i m → get_or l i z ≡ get_or m i z → take (i + 1) l ≡ take (i + 1) m
 take_more {X = X} l m i z h k e f =
@@ -80,11 +70,11 @@ wide_off on e = rw e
 pub frame_told : (f g : Frame) (n : ℕ) → n ≡ f.«open» → f.production ≡ g.production → f.place ≡ g.place → f.«open» ≡ g.«open» → take n f.saved ≡ take n g.saved → SameFrame f g
 frame_told f g n e p q o t = record { production = p; place = q; as_many = o; sets = subst (λ (m : ℕ). take m f.saved ≡ take m g.saved) e t }
 
-pub state_told : (z y : Live) (r : Bool) → r ≡ same_name z.values y.values → r ≡ true → z.echo ≡ y.echo → (f g : Frame) → f ≡ z.top → g ≡ y.top → SameFrame f g → (b : List ℕ) →
+pub state_told : (z y : Live) → z.values ≡ y.values → z.echo ≡ y.echo → (f g : Frame) → f ≡ z.top → g ≡ y.top → SameFrame f g → (b : List ℕ) →
     SameState (full z b) (full y b)
-state_told z y r e h o f g p q s b =
+state_told z y e o f g p q s b =
     record {
-      values = same_list z.values y.values (sym e ∙ h);
+      values = e;
       echo = o;
       top = λ d d'. subst (λ (u : Frame). SameFrame u (top_of (full y b))) (p ∙ sym (top_full z b d)) (subst (SameFrame f) (q ∙ sym (top_full y b d')) s);
     }

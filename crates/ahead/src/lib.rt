@@ -13,7 +13,6 @@ ghost use Rattle.ahead.specs.Ahead.{SameFrame, SameState, ProbedAs, OnwardAs};
 
 use layout::Layout;
 use live::Live;
-use lookups::same_name;
 use state::{Frame, Saved};
 use steps::Run;
 use stretches::{Stretch, blanks, characters};
@@ -34,18 +33,7 @@ pub struct Tried {
 fn same_set(a: Saved, b: Saved) -> bool
     ensures { result ≡ true → a ≡ b }
 {
-    let v = a.values;
-    let w = b.values;
-    if a.echo {
-        if !b.echo {
-            return false;
-        }
-        return same_name(&v, &w);
-    }
-    if b.echo {
-        return false;
-    }
-    same_name(&v, &w)
+    a.echo == b.echo && a.values == b.values
 }
 
 // Whether the first n sets are the same.
@@ -53,14 +41,10 @@ fn same_sets(a: [Saved; Frame::SETS], b: [Saved; Frame::SETS], n: usize) -> bool
     requires { n ≤ most_sets }
     ensures { result ≡ true → take n a ≡ take n b }
 {
-    let mut i = 0;
-    while i < n {
-        let x = a[i];
-        let y = b[i];
-        if !same_set(x, y) {
+    for i in 0..n {
+        if !same_set(a[i], b[i]) {
             return false;
         }
-        i += 1;
     }
     true
 }
@@ -91,21 +75,10 @@ fn same_frame(f: Frame, g: Frame) -> bool
 fn same_state(z: Live, y: Live) -> bool
     ensures { result ≡ true → (b : List ℕ) → SameState (full z b) (full y b) }
 {
-    let v = z.values;
-    let w = y.values;
-    if !same_name(&v, &w) {
+    if z.echo != y.echo {
         return false;
     }
-    if z.echo {
-        if !y.echo {
-            return false;
-        }
-        return same_frame(z.top(), y.top());
-    }
-    if y.echo {
-        return false;
-    }
-    same_frame(z.top(), y.top())
+    z.values == y.values && same_frame(z.top(), y.top())
 }
 
 fn not_steady() -> Tried

@@ -5,7 +5,7 @@ use mathlib.Core.Path.{◌≡◌, refl, sym, ap, ap₂, ◌∙◌, subst}
 use mathlib.Core.Bool.{Bool, true, false, not, cond}
 use mathlib.Core.List.{List, [], ◌∷◌, ◌++◌, map, append_assoc, append-nil}
 use Prim.Native.Nat.{ℕ, zero, suc, ◌+◌, ◌-◌, ◌*◌, ◌^◌, ◌≤◌, ◌<◌}
-use native.Mathlib.Nat.{mul-suc, mul-zero}
+use native.Mathlib.Nat.{mul-suc}
 use native.Mathlib.Omega.{arith}
 use lib.Dec.{eqb}
 use lib.ListN.{length, take, drop, get_or, set, replicate, length-append, length-map, length-replicate, replicate-append-replicate, drop_of_length-le}
@@ -18,9 +18,9 @@ use Rattle.layout.specs.Layout.{byte_at}
 use Rattle.state.specs.declared.Frame.{Frame}
 use Rattle.state.specs.declared.Heading.{Heading}
 use Rattle.state.specs.declared.State.{State}
-use Rattle.state.specs.Bounds.{most_sets, set_width, frame_width, head_width, stack_width, state_width}
+use Rattle.state.specs.Bounds.{most_sets, set_width, frame_width, head_width, state_width}
 use Rattle.state.specs.Bytes.{gathered, saved_at, frame_at, used_at, saved_bytes, each_bytes, frame_bytes, heading_bytes, bytes_of, heading_from, state_from, Wrote, SizedFrame, Sized}
-use Rattle.state.specs.Changes.{bare_saved, bare_frame, bare_from, tidy_frame, heading_of, tidied}
+use Rattle.state.specs.Changes.{bare_saved, bare_frame, bare_from, tidy_frame, tidied}
 use Rattle.state.specs.Meaning.{Every, none, more, Shaped}
 use Rattle.state.proofs.Gathered.{length_gathered, take_gathered, get_D_gathered}
 use Rattle.state.proofs.Tidy.{bare_is, bare_twice, all_alike, bare_sized, tidy_sized}

@@ -58,11 +58,9 @@ fn tidy_frames(bytes: &mut [u8], n: usize) -> usize
     ensures { Wrote (frame_width * n) bytes.old head_width (each_bytes frame_bytes (gathered (used_at bytes.old) frame_width head_width n)) bytes.new result }
 {
     let mut next = State::HEAD;
-    let mut i = 0;
-    while i < n {
+    for _ in 0..n {
         let f = used_at(bytes, next);
         next = put_frame(bytes, next, f);
-        i = i + 1;
     }
     next
 }
@@ -85,10 +83,8 @@ fn put_frames_in_use(live: Live, bytes: &mut [u8]) -> usize
 fn clear_from(memory: &mut [u8], at: usize)
     ensures { memory.new ≡ put true memory.old at (replicate (length memory.old - at) 0) }
 {
-    let mut i = at;
-    while i < memory.len() {
-        memory[i] = 0;
-        i = i + 1;
+    if at < memory.len() {
+        memory[at..].fill(0);
     }
 }
 

@@ -78,11 +78,11 @@ found s from line i here h e low inv on =
     record { low = low; high = omega arith; place = omega arith; on = sym same ∙ on }
 
 pub ended : (s : List ℕ) (from line i here : ℕ) → length s ≤ i → i ≤ length s → from ≤ i → i + before_tag (drop i s) ≡ from + before_tag (drop from s)
-    → tag_line (drop i s) here ≡ tag_line (drop from s) line → NextTag s from line (record { at = i; line = here })
+    → tag_line (drop i s) here ≡ tag_line (drop from s) line → NextTag s from line (record { at = length s; line = here })
 unfolding before_tag tag_line
 ended s from line i here end high low inv on =
     let none : drop i s ≡ [] = drop_of_length-le s {i = i} end in
-    record { low = low; high = high; place = omega (arith, ap before_tag none); on = sym (ap (λ l. tag_line l here) none) ∙ on }
+    record { low = omega arith; high = omega arith; place = omega (arith, ap before_tag none); on = sym (ap (λ l. tag_line l here) none) ∙ on }
 
 -- the bytes before a tag change no lines, and the tag does
 

@@ -57,10 +57,8 @@ impl Tail {
         ensures { result ≡ tail_after self passed.now }
     {
         let mut bytes = [0u8; Tail::MOST];
-        let mut j = 0;
-        while j < Tail::MOST {
+        for j in 0..Tail::MOST {
             bytes[Tail::MOST - 1 - j] = self.from_end(passed, j);
-            j += 1;
         }
         Tail {
             length: at_most_kept(at_most_kept(self.length) + at_most_kept(passed.len())),
@@ -81,14 +79,12 @@ fn is_empty_tag(bytes: &[u8], from: usize) -> bool
     ensures { result ≡ is_empty_tag (drop from bytes.now) }
 {
     let mut last = 0;
-    let mut i = from;
-    while i < bytes.len() {
+    for i in from..bytes.len() {
         let b = bytes[i];
         if b == b'>' {
             return last == b'/';
         }
         last = b;
-        i += 1;
     }
     false
 }
@@ -138,8 +134,7 @@ fn to_tag(bytes: &[u8], from: usize, line: u64) -> TagAt
     ensures { NextTag bytes.now from line result }
 {
     let mut here = line;
-    let mut i = from;
-    while i < bytes.len() {
+    for i in from..bytes.len() {
         let b = bytes[i];
         if b == b'<' {
             return TagAt { at: i, line: here };
@@ -149,9 +144,11 @@ fn to_tag(bytes: &[u8], from: usize, line: u64) -> TagAt
                 here = wrapping_add_u64(here, 1);
             }
         }
-        i += 1;
     }
-    TagAt { at: i, line: here }
+    TagAt {
+        at: bytes.len(),
+        line: here,
+    }
 }
 
 // Past a tag of a kind: an element that it opens began on that line. Answers how many are open then; no more than there is room for ever are.
@@ -207,6 +204,7 @@ impl Lines {
         let mut depth = self.depth;
         let mut here = line;
         let mut i = 0;
+        // A while: each step goes on behind the tag that it found, which no range gives.
         while i < passed.len() {
             let tag = to_tag(passed, i, here);
             here = tag.line;

@@ -12,7 +12,7 @@ use Rattle.lent.proofs.Laws.{nothing_put, put_length}
 use Rattle.output.proofs.Writing.{put_then}
 use Rattle.sheet.specs.Tags.{tag_record}
 use Rattle.encoding.specs.Distinct.{run_together}
-use Rattle.stores.specs.Rows.{ends_from, RowsIn}
+use Rattle.stores.specs.Rows.{ends_from, RowsIn, HasRows}
 use Rattle.stores.proofs.Mentioning.{one_store}
 use Rattle.packing.specs.Packed.{tags_section}
 use Rattle.binding.specs.Bound.{ShortNames, TagRows, TagsPut}
@@ -32,12 +32,14 @@ pub record TagsLeft (bytes ends : List ℕ) (count : ℕ) (memory : List ℕ) (a
   pub short_left : ShortNames back
   pub rest : (after : List ℕ) (r : ℕ) → PutAs true now n (tags_section back) after r → PutAs true memory at (tags_section l) after r
 
--- the name that is next
-pub record NextName (bytes ends : List ℕ) (i from : ℕ) : Type 0 where
-  pub there : i < length ends
-  pub low : from ≤ get_or ends i 0
-  pub high : get_or ends i 0 ≤ length bytes
-  pub short : get_or ends i 0 - from ≤ longest_name
+-- the name that is next, which ends at `to`
+pub record NextName (bytes : List ℕ) (from to : ℕ) : Type 0 where
+  pub low : from ≤ to
+  pub high : to ≤ length bytes
+  pub short : to - from ≤ longest_name
+
+pub has_rows : (bytes ends : List ℕ) (count : ℕ) → TagRows bytes ends count → HasRows bytes ends count
+has_rows bytes ends count t = record { rows = t.rows; are = t.are }
 
 -- the store's rows are short, whichever they are called
 pub short_all : (bytes ends : List ℕ) (count : ℕ) → TagRows bytes ends count → (l : List (List ℕ)) → RowsIn bytes ends count l → ShortNames l
@@ -99,16 +101,10 @@ module _ (bytes ends : List ℕ) (count : ℕ) (memory : List ℕ) (at : ℕ) wh
     next_inside : (h : Ahead) → from + length h.row ≤ length bytes
     next_inside h = omega (arith, sym (length-drop from bytes), ap length h.parted, length-append h.row (run_together h.back ++ h.free_bytes), h.inside)
 
-    next_of : Ahead → NextName bytes ends i from
-    next_of h = record {
-      there = omega (arith, sym (length-drop i ends), ap length h.ends_left);
-      low = omega (arith, end_is h);
-      high = omega (arith, end_is h, next_inside h);
-      short = omega (arith, end_is h, h.short_row);
-    }
-
-    pub next_name : TagsLeft bytes ends count memory at l i from n now → i < count → NextName bytes ends i from
-    next_name h s = next_of (ahead h s)
+    pub next_name : TagsLeft bytes ends count memory at l i from n now → i < count → (to : ℕ) → to ≡ get_or ends i 0 → NextName bytes from to
+    next_name left s to t =
+        let h = ahead left s in
+        record { low = omega (arith, t, end_is h); high = omega (arith, t, end_is h, next_inside h); short = omega (arith, t, end_is h, h.short_row) }
 
     passed : (h : Ahead) (to n' : ℕ) (now' : List ℕ) → to ≡ get_or ends i 0 → PutAs true now n (tag_record (take (to - from) (drop from bytes))) now' n'
         → TagsLeft bytes ends count memory at l (i + 1) to n' now'

@@ -11,14 +11,11 @@ pub fn put_tags(bytes: &[u8], ends: &[usize], count: usize, memory: &mut [u8], a
     requires at_bound { at + 2048 < 2 ^ 64 }
     ensures { TagsPut bytes.now ends.now count memory.old at memory.new result }
 {
-    let mut i = 0;
     let mut from = 0;
     let mut n = at;
-    while i < count {
-        let to = ends[i];
-        n = records::put_tag(memory, n, &bytes[from..to]);
-        from = to;
-        i += 1;
+    for to in &ends[..count] {
+        n = records::put_tag(memory, n, &bytes[from..*to]);
+        from = *to;
     }
     n
 }

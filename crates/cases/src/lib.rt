@@ -7,6 +7,9 @@ ghost use Rattle.io.specs.Counts.{IsPrefixLen};
 ghost use Rattle.tells.specs.Tells.{Tells};
 ghost use Rattle.cases.specs.Kept.{AllAre};
 
+// Standard output, as io numbers it.
+pub const STDOUT_FILENO: i32 = 1;
+
 // A number that was read, and where the line goes on.
 #[derive(Clone, Copy)]
 pub struct Read {
@@ -18,26 +21,11 @@ pub struct Read {
 pub fn digit(b: u8) -> u8
     ensures { result < 16 }
 {
-    if b < b'0' {
-        return 0;
+    match b {
+        b'0'..=b'9' => b - b'0',
+        b'a'..=b'f' => b - b'a' + 10,
+        _ => 0,
     }
-    if b <= b'9' {
-        return b - b'0';
-    }
-    if b < b'a' {
-        return 0;
-    }
-    if b <= b'f' {
-        return b - b'a' + 10;
-    }
-    0
-}
-
-fn wide(b: u8) -> u64
-    ensures value { result ≡ b }
-    ensures upper_bound { result < 256 }
-{
-    b as u64
 }
 
 // A digit more, of a number that stays within its type.
@@ -45,14 +33,13 @@ fn longer(value: u64, b: u8) -> u64 {
     if value >= 0x1000000000000000 {
         return value;
     }
-    16 * value + wide(digit(b))
+    16 * value + u64::from(digit(b))
 }
 
 // The number from a byte on, up to a space or the line's end.
 pub fn read_number(line: &[u8], at: usize) -> Read {
     let mut value = 0;
-    let mut i = at;
-    while i < line.len() {
+    for i in at..line.len() {
         if line[i] == b' ' {
             return Read {
                 value: value,
@@ -60,28 +47,22 @@ pub fn read_number(line: &[u8], at: usize) -> Read {
             };
         }
         value = longer(value, line[i]);
-        i += 1;
     }
     Read {
         value: value,
-        next: i,
+        next: at.max(line.len()),
     }
 }
 
 // The bytes from one on to the line's end, two digits each, stored from a place on; answers where they end.
 pub fn read_bytes(line: &[u8], at: usize, memory: &mut [u8], to: usize) -> usize {
     let mut n = to;
-    let mut i = at;
-    while n < memory.len() {
-        if i >= line.len() {
+    for pair in line[at.min(line.len())..].chunks_exact(2) {
+        if n >= memory.len() {
             return n;
         }
-        if line.len() - i < 2 {
-            return n;
-        }
-        memory[n] = 16 * digit(line[i]) + digit(line[i + 1]);
+        memory[n] = 16 * digit(pair[0]) + digit(pair[1]);
         n += 1;
-        i += 2;
     }
     n
 }
@@ -90,25 +71,14 @@ pub fn read_bytes(line: &[u8], at: usize, memory: &mut [u8], to: usize) -> usize
 pub fn fill(memory: &mut [u8], b: u8)
     ensures { AllAre b memory.new }
 {
-    let mut i = 0;
-    while i < memory.len() {
-        memory[i] = b;
-        i += 1;
-    }
+    memory.fill(b);
 }
 
 // Whether every byte from one on is as lent.
 pub fn is_kept(memory: &[u8], from: usize, lent: u8) -> bool
     ensures { Tells (AllAre lent (drop from memory.now)) result }
 {
-    let mut i = from;
-    while i < memory.len() {
-        if memory[i] != lent {
-            return false;
-        }
-        i += 1;
-    }
-    true
+    memory.iter().skip(from).all(|b| *b == lent)
 }
 
 // Marks stay below this.
@@ -119,48 +89,38 @@ pub fn mark(before: u64, bytes: &[u8]) -> u64
     ensures { result < 4294967296 }
 {
     let mut m = before % MARKS;
-    let mut i = 0;
-    while i < bytes.len() {
-        m = (31 * m + wide(bytes[i]) + 1) % MARKS;
-        i += 1;
+    for b in bytes {
+        m = (31 * m + u64::from(*b) + 1) % MARKS;
     }
     m
 }
 
-// More than any byte: there is none left.
-const END: u64 = 256;
-
-fn next_byte(fd: i32) -> u64 {
+// None where there is none left.
+fn next_byte(fd: i32) -> Option<u8> {
     let mut one = [0u8; 1];
     let n = io::read_full(fd, &mut one);
     if n == 0 {
-        return END;
+        return None;
     }
-    wide(one[0])
+    Some(one[0])
 }
 
 // Reads up to the line's end, and answers how many bytes the line has; none where the file ends.
 pub fn read_line(fd: i32, line: &mut [u8]) -> usize
     ensures { IsPrefixLen result line.new }
 {
-    let mut n = 0;
-    while n < line.len() {
-        let b = next_byte(fd);
-        if b > 255 {
-            return n;
+    for n in 0..line.len() {
+        match next_byte(fd) {
+            None | Some(b'\n') => return n,
+            Some(b) => line[n] = b,
         }
-        if b == 10 {
-            return n;
-        }
-        line[n] = b as u8;
-        n += 1;
     }
-    n
+    line.len()
 }
 
 // What a line asks for: its first byte, 0 where it has none.
 pub fn letter(line: &[u8]) -> u8 {
-    if line.len() == 0 { 0 } else { line[0] }
+    line.first().copied().unwrap_or(0)
 }
 
 // Stores the bytes that a line gives, from the place that it gives on.
@@ -171,5 +131,5 @@ pub fn change(line: &[u8], memory: &mut [u8]) {
 
 // One more, of a count that stays within its type.
 pub fn one_more(n: u64) -> u64 {
-    if n < u64::MAX { n + 1 } else { n }
+    n.saturating_add(1)
 }

@@ -55,14 +55,12 @@ fn say_tags(s: &[u8], l: Layout, sums: &[u8]) -> bool
     requires sums_len { length sums.now ≡ sum_cells }
 {
     let mut some = false;
-    let mut t = 0;
-    while t < l.tags {
+    for t in 0..l.tags {
         if sums[t] > 0 {
             say_joint(some);
             say_tag(s, l, t);
             some = true;
         }
-        t += 1;
     }
     some
 }

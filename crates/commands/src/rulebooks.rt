@@ -29,14 +29,7 @@ fn failed(number: u64) -> Loaded {
 
 // Whether some bytes are a text: no sheet past number 2 is without a byte 0, and no text of rules holds one.
 pub(crate) fn is_text(bytes: &[u8]) -> bool {
-    let mut i = 0;
-    while i < bytes.len() {
-        if bytes[i] == 0 {
-            return false;
-        }
-        i += 1;
-    }
-    bytes.len() > 0
+    !bytes.is_empty() && !bytes.contains(&0)
 }
 
 // Says why a text of rules has no sheet.

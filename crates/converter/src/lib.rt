@@ -199,6 +199,7 @@ fn run_live(
 {
     let mut at = 0;
     let mut run = Run { at: 0, live: live };
+    // A loop: each step goes on by the token that was read, which no range gives.
     loop {
         let cursor = Cursor { at: at };
         let answer = read_on(cursor, part, ended);

@@ -1,6 +1,7 @@
 -- What the array of open parentheses is as a list, and what each answer of a move comes to. Assumes nothing.
 use mathlib.Core.Path.{◌≡◌, refl, sym, ◌∙◌, ap, subst}
 use mathlib.Core.Bool.{Bool, true, false, ◌&&◌, and-true, and-false}
+use Rattle.std.specs.Prelude.{Option as Taken, Some, None}
 use mathlib.Core.Option.{Option, none, some}
 use mathlib.Core.List.{List, [], ◌∷◌, map}
 use Prim.Native.Nat.{ℕ, zero, suc, ◌+◌, ◌-◌, ◌≤◌, ◌<◌}
@@ -18,12 +19,11 @@ use Rattle.sketches.specs.declared.Point.{Point}
 use Rattle.sketches.specs.declared.Point.TheVariants.{Wants, InFront, After, Behind, Over, Closed}
 use Rattle.sketches.specs.declared.Move.{Move}
 use Rattle.sketches.specs.Figures.{bare, inner_of, just_opened, figure, lone, nodes_with, depth_with}
-use Rattle.sketches.specs.Moves.{Sketch, sketched, opened_if, closed_in, emptied_in, after_move_lem, sketch_if, nodes_there, depth_there, keeps, sketch_fits}
+use Rattle.sketches.specs.Moves.{Sketch, sketched, opened_if, closed_in, emptied_in, after_move_lem, nodes_there, depth_there, keeps, sketch_fits}
 use Rattle.paces.specs.Small.{tight, loose, vast, SmallFigure, SmallSurround, SmallParen, SmallPoint}
 use Rattle.paces.specs.Made.{HeldIs}
 use Rattle.drafts.specs.declared.Size.{Size}
 use Rattle.drafts.specs.declared.Draft.{Draft}
-use Rattle.drafts.specs.declared.Stepped.{Stepped}
 use Rattle.drafts.specs.Drafted.{stacked, sketch_of, SteppedIs, SoundDraft, SmallMove, SizeIs}
 
 -- how long a field that is an array of structs is: its relation speaks of the mapped list
@@ -70,15 +70,20 @@ opened_no d p h =
 empty_stack : (d : Draft) → d.«open» ≡ 0 → stacked d.around d.«open» ≡ []
 empty_stack d h = ap (stacked d.around) h
 
-pub closed_last : (d : Draft) (e : Figure) (r : Stepped) → d.«open» ≡ 0 → SteppedIs (after_move_lem (sketch_of d) (Move.To (Closed e.nodes))) r → SteppedIs (after_move_lem (sketch_of d) (Move.Closed e)) r
+-- what is said of a step's answer is said of its equals
+stepped_as : (o p : Option Sketch) (r : Taken Draft) → o ≡ p → SteppedIs p r → SteppedIs o r
+stepped_as o p None h s = h ∙ s
+stepped_as o p (Some d) h s = h ∙ s
+
+pub closed_last : (d : Draft) (e : Figure) (r : Taken Draft) → d.«open» ≡ 0 → SteppedIs (after_move_lem (sketch_of d) (Move.To (Closed e.nodes))) r → SteppedIs (after_move_lem (sketch_of d) (Move.Closed e)) r
 closed_last d e r h s =
     let a = empty_stack d h in
-    ap (λ x. closed_in x e (sketch_of d)) a ∙ ap (λ x. some (sketched (Closed e.nodes) x d.productions d.earlier)) (sym a) ∙ s
+    stepped_as _ _ r (ap (λ x. closed_in x e (sketch_of d)) a ∙ ap (λ x. some (sketched (Closed e.nodes) x d.productions d.earlier)) (sym a)) s
 
-pub emptied_last : (d : Draft) (r : Stepped) → d.«open» ≡ 0 → SteppedIs (after_move_lem (sketch_of d) (Move.To (Closed 0))) r → SteppedIs (after_move_lem (sketch_of d) Move.Emptied) r
+pub emptied_last : (d : Draft) (r : Taken Draft) → d.«open» ≡ 0 → SteppedIs (after_move_lem (sketch_of d) (Move.To (Closed 0))) r → SteppedIs (after_move_lem (sketch_of d) Move.Emptied) r
 emptied_last d r h s =
     let a = empty_stack d h in
-    ap (λ x. emptied_in x (sketch_of d)) a ∙ ap (λ x. some (sketched (Closed 0) x d.productions d.earlier)) (sym a) ∙ s
+    stepped_as _ _ r (ap (λ x. emptied_in x (sketch_of d)) a ∙ ap (λ x. some (sketched (Closed 0) x d.productions d.earlier)) (sym a)) s
 
 one_less : (ps : List Paren) (n : ℕ) → (n ≡ 0 → ⊥) → stacked ps n ≡ get_or ps (n - 1) blank ∷ stacked ps (n - 1)
 one_less ps zero h = absurd (h refl)
@@ -92,8 +97,8 @@ pub emptied_more : (d : Draft) → (d.«open» ≡ 0 → ⊥) → after_move_lem
 emptied_more d h = ap (λ x. emptied_in x (sketch_of d)) (one_less d.around d.«open» h)
 
 -- of a move by what it is
-pub moved_as : (d : Draft) (m n : Move) (r : Stepped) → m ≡ n → SteppedIs (after_move_lem (sketch_of d) n) r → SteppedIs (after_move_lem (sketch_of d) m) r
-moved_as d m n r h s = ap (after_move_lem (sketch_of d)) h ∙ s
+pub moved_as : (d : Draft) (m n : Move) (r : Taken Draft) → m ≡ n → SteppedIs (after_move_lem (sketch_of d) n) r → SteppedIs (after_move_lem (sketch_of d) m) r
+moved_as d m n r h s = stepped_as _ _ r (ap (after_move_lem (sketch_of d)) h) s
 
 pub ready_opened : (m : Move) (p : Paren) → SmallMove m → m ≡ Move.Opened p → SmallParen tight p
 ready_opened m p h e = subst SmallMove e h

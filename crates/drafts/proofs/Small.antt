@@ -1,11 +1,9 @@
 -- From a small place every move is ready to be made, and leads to numbers that can be counted with. Assumes nothing.
-use mathlib.Core.Path.{◌≡◌, refl, sym, ◌∙◌, ap, subst}
 use mathlib.Core.Bool.{Bool, true, false, ◌||◌, true≢false}
-use Prim.Native.Nat.{ℕ, ◌+◌, ◌≤◌, max}
+use Prim.Native.Nat.{ℕ, ◌+◌, ◌≤◌}
 use native.Mathlib.Omega.{arith}
 use Rattle.sketches.specs.declared.Figure.{Figure}
 use Rattle.sketches.specs.declared.Beside.{Beside}
-use Rattle.sketches.specs.declared.Surround.{Surround}
 use Rattle.sketches.specs.declared.Paren.{Paren}
 use Rattle.sketches.specs.declared.Point.{Point}
 use Rattle.sketches.specs.declared.Point.TheVariants.{Beginning, FirstWord, Named, Defined, OwnFront, WantsTag, Tagged, Wants, InFront, After, Behind, Over, Closed, OwnBack, Complete}
@@ -13,8 +11,8 @@ use Rattle.sketches.specs.declared.Inside.{Inside}
 use Rattle.sketches.specs.declared.Outside.{Outside}
 use Rattle.sketches.specs.declared.Move.{Move}
 use Rattle.sketches.specs.Figures.{figure, beside, bare, just_opened, lone, joined_if, joined_to, whole_in, clash, fronted_by}
-use Rattle.sketches.specs.Moves.{inside_of, outside_of, move_if, unless, wanted, dotted, barred, shut, backed_by, behind_operand, finishing, choice, move_of}
-use Rattle.paces.specs.Small.{tight, loose, SmallFigure, SmallBeside, SmallSurround, SmallParen, SmallPoint}
+use Rattle.sketches.specs.Moves.{inside_of, outside_of, move_if, unless, wanted, behind_operand, finishing, choice, move_of}
+use Rattle.paces.specs.Small.{tight, loose, SmallFigure, SmallBeside, SmallParen, SmallPoint}
 use Rattle.drafts.specs.Drafted.{SmallMove}
 
 joined_small : (t : Bool) (n d : ℕ) (e : Figure) (x : ℕ) → n ≤ 32 → d ≤ 32 → SmallFigure x e

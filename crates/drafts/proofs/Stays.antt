@@ -1,9 +1,10 @@
 -- What a move leads to can be counted with, and where it keeps the limits of a text it is small again. Assumes nothing.
 use mathlib.Core.Path.{◌≡◌, refl, sym, ◌∙◌, ap, subst}
 use mathlib.Core.Bool.{Bool, true, false, ◌&&◌, true≢false}
+use Rattle.std.specs.Prelude.{Some, None}
 use mathlib.Core.Option.{Option, none, some}
 use mathlib.Core.List.{List, [], ◌∷◌}
-use Prim.Native.Nat.{ℕ, suc, ◌+◌, ◌≤◌, ◌<◌, max}
+use Prim.Native.Nat.{ℕ, ◌+◌, ◌≤◌, ◌<◌}
 use native.Mathlib.Omega.{arith}
 use lib.Dec.{ltb}
 use lib.ListN.{length}
@@ -18,15 +19,14 @@ use Rattle.sketches.specs.declared.Paren.{Paren}
 use Rattle.sketches.specs.declared.Point.{Point}
 use Rattle.sketches.specs.declared.Point.TheVariants.{Beginning, FirstWord, Named, Defined, OwnFront, WantsTag, Tagged, Wants, InFront, After, Behind, Over, Closed, OwnBack, Complete}
 use Rattle.sketches.specs.declared.Move.{Move}
-use Rattle.sketches.specs.Figures.{bit_of, figure, beside, surround, lone, joined_if, joined_to, whole_in, starred_if, sealed_by, held_in, nodes_with, depth_with, fronting, beyond_if, beyond, inner_of, just_opened}
-use Rattle.sketches.specs.Moves.{Sketch, sketched, opened_if, closed_in, emptied_in, after_move_lem, nodes_there, depth_there, keeps, sketch_fits, sketch_if, where_fit, move_of, program_at, text_ends, unbraced, unbraced_sketch}
+use Rattle.sketches.specs.Figures.{bit_of, figure, beside, lone, joined_if, joined_to, whole_in, sealed_by, held_in, nodes_with, depth_with, fronting, beyond_if, beyond, inner_of, just_opened}
+use Rattle.sketches.specs.Moves.{Sketch, sketched, opened_if, closed_in, emptied_in, after_move_lem, nodes_there, depth_there, sketch_fits, sketch_if, where_fit, step_sketch, move_of, program_at, text_ends, unbraced, unbraced_sketch}
 use Rattle.paces.specs.Small.{tight, loose, Counted, SmallFigure, SmallBeside, SmallSurround, SmallParen, SmallPoint, AllSmall, SmallSketch}
 use Rattle.drafts.specs.declared.Draft.{Draft}
-use Rattle.drafts.specs.declared.Stepped.{Stepped}
 use Rattle.drafts.specs.declared.Place.{Place}
-use Rattle.drafts.specs.Drafted.{stacked, sketch_of, SteppedIs, SoundDraft, SmallMove, SmallUncounted, DraftStepIs, DraftIs, plainly, reading, PointIs}
+use Rattle.drafts.specs.Drafted.{stacked, sketch_of, SoundDraft, SmallMove, SmallUncounted, DraftStepIs, DraftIs, plainly, reading, PointIs}
 use Rattle.drafts.proofs.Laws.{stacked_length}
-use Rattle.drafts.proofs.Small.{looser, ready_move}
+use Rattle.drafts.proofs.Small.{ready_move}
 
 -- what lies around, one part further in
 bit_small : (b : Bool) → bit_of b ≤ 1
@@ -168,36 +168,33 @@ led_some : (o : Option Sketch) (k : Sketch) → Led o → o ≡ some k → Count
 led_some none k l e = let y : ◌≡◌ {A = ℕ} 0 1 = cc in absurd (omega arith)
 led_some (some x) k (there y c) e = let z : y ≡ k = cc in subst Countable z c
 
-pub countable : (d : Draft) (kind : ℕ) (m : Move) (s : Stepped) → (kind < kinds) × SoundDraft d → m ≡ move_of d.point kind → SteppedIs (after_move_lem (sketch_of d) m) s → s.taken ≡ true → Countable (sketch_of s.draft)
-countable d kind m s h e t y =
-    led_some (after_move_lem (sketch_of d) m) (sketch_of s.draft)
+countable : (d : Draft) (kind : ℕ) (m : Move) (k : Draft) → (kind < kinds) × SoundDraft d → m ≡ move_of d.point kind → after_move_lem (sketch_of d) m ≡ some (sketch_of k) → Countable (sketch_of k)
+countable d kind m k h e t =
+    led_some (after_move_lem (sketch_of d) m) (sketch_of k)
     (led (sketch_of d) m h.1.small (subst (λ n. n ≤ tight) (sym (stacked_length d.around d.«open»)) h.1.few_open) (asks_after_move d kind m h e).1)
-    (t ∙ ap (λ b. sketch_if b (sketch_of s.draft)) y)
+    t
 
-pub asks_fits : (d : Draft) (kind : ℕ) (m : Move) (s : Stepped) → (kind < kinds) × SoundDraft d → m ≡ move_of d.point kind → SteppedIs (after_move_lem (sketch_of d) m) s → s.taken ≡ true → SmallPoint loose s.draft.point × (s.draft.earlier ≤ loose)
-asks_fits d kind m s h e t y = let c = countable d kind m s h e t y in (c.point, c.earlier)
+pub asks_fits : (d : Draft) (kind : ℕ) (m : Move) (k : Draft) → (kind < kinds) × SoundDraft d → m ≡ move_of d.point kind → after_move_lem (sketch_of d) m ≡ some (sketch_of k) → SmallPoint loose k.point × (k.earlier ≤ loose)
+asks_fits d kind m k h e t = let c = countable d kind m k h e t in (c.point, c.earlier)
 
-pub step_taken : (d : Draft) (kind : ℕ) (m : Move) (s : Stepped) (f : Bool) → (kind < kinds) × SoundDraft d → m ≡ move_of d.point kind → SteppedIs (after_move_lem (sketch_of d) m) s → s.taken ≡ true → f ≡ sketch_fits (sketch_of s.draft) → f ≡ true
-    → DraftStepIs d kind s
-step_taken d kind m s f h e t y g z =
-    let c = countable d kind m s h e t y in
+-- the step by what the move leads to
+stepped_by : (d : Draft) (kind : ℕ) (m : Move) (o : Option Sketch) → m ≡ move_of d.point kind → after_move_lem (sketch_of d) m ≡ o → step_sketch (sketch_of d) kind ≡ where_fit o
+stepped_by d kind m o e t = ap (λ x. where_fit (after_move_lem (sketch_of d) x)) (sym e) ∙ ap where_fit t
+
+pub step_taken : (d : Draft) (kind : ℕ) (m : Move) (k : Draft) (f : Bool) → (kind < kinds) × SoundDraft d → m ≡ move_of d.point kind → after_move_lem (sketch_of d) m ≡ some (sketch_of k) → f ≡ sketch_fits (sketch_of k) → f ≡ true
+    → DraftStepIs d kind (Some k)
+step_taken d kind m k f h e t g z =
+    let c = countable d kind m k h e t in
     record {
-      same = ap (λ x. where_fit (after_move_lem (sketch_of d) x)) (sym e) ∙ ap where_fit (t ∙ ap (λ b. sketch_if b (sketch_of s.draft)) y) ∙ ap (λ b. sketch_if b (sketch_of s.draft)) (sym g ∙ z ∙ sym y);
-      sound = record { few_open = subst (λ n. n ≤ tight) (stacked_length s.draft.around s.draft.«open») c.few; small = small_again (sketch_of s.draft) c (sym g ∙ z) };
+      same = stepped_by d kind m _ e t ∙ ap (λ b. sketch_if b (sketch_of k)) (sym g ∙ z);
+      sound = record { few_open = subst (λ n. n ≤ tight) (stacked_length k.around k.«open») c.few; small = small_again (sketch_of k) c (sym g ∙ z) };
     }
 
-pub step_unfit : (d : Draft) (kind : ℕ) (m : Move) (s : Stepped) (f : Bool) → (kind < kinds) × SoundDraft d → m ≡ move_of d.point kind → SteppedIs (after_move_lem (sketch_of d) m) s → s.taken ≡ true → f ≡ sketch_fits (sketch_of s.draft) → f ≡ false
-    → DraftStepIs d kind (record { taken = false; draft = d })
-step_unfit d kind m s f h e t y g z = record {
-  same = ap (λ x. where_fit (after_move_lem (sketch_of d) x)) (sym e) ∙ ap where_fit (t ∙ ap (λ b. sketch_if b (sketch_of s.draft)) y) ∙ ap (λ b. sketch_if b (sketch_of s.draft)) (sym g ∙ z);
-  sound = h.1;
-}
+pub step_unfit : (d : Draft) (kind : ℕ) (m : Move) (k : Draft) (f : Bool) → m ≡ move_of d.point kind → after_move_lem (sketch_of d) m ≡ some (sketch_of k) → f ≡ sketch_fits (sketch_of k) → f ≡ false → DraftStepIs d kind None
+step_unfit d kind m k f e t g z = record { same = stepped_by d kind m _ e t ∙ ap (λ b. sketch_if b (sketch_of k)) (sym g ∙ z); sound = tt }
 
-pub step_refused : (d : Draft) (kind : ℕ) (m : Move) (s : Stepped) → (kind < kinds) × SoundDraft d → m ≡ move_of d.point kind → SteppedIs (after_move_lem (sketch_of d) m) s → s.taken ≡ false → DraftStepIs d kind (record { taken = false; draft = d })
-step_refused d kind m s h e t y = record {
-  same = ap (λ x. where_fit (after_move_lem (sketch_of d) x)) (sym e) ∙ ap where_fit (t ∙ ap (λ b. sketch_if b (sketch_of s.draft)) y);
-  sound = h.1;
-}
+pub step_refused : (d : Draft) (kind : ℕ) (m : Move) → m ≡ move_of d.point kind → after_move_lem (sketch_of d) m ≡ none → DraftStepIs d kind None
+step_refused d kind m e t = record { same = stepped_by d kind m _ e t; sound = tt }
 
 -- the place of a point, and the point behind a program
 pub place_plain : (p q : Point) (e : Bool) (r : Place) → p ≡ q → r ≡ plainly p e → program_at q ≡ none → e ≡ text_ends q → q ≡ unbraced q → PointIs p r

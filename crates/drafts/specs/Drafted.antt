@@ -1,5 +1,5 @@
 -- The sketch that a draft is, and what a step of it says. Assumes nothing.
-use Rattle.std.specs.Prelude.{◌≡◌, Bool, true, false, List, [], ◌∷◌, ℕ, zero, suc, ◌≤◌, length, get_or}
+use Rattle.std.specs.Prelude.{Option as Taken, Some, None, IfSome, ◌≡◌, Bool, true, false, List, [], ◌∷◌, ℕ, zero, suc, ◌≤◌, length, get_or}
 use Rattle.std.proofs.Math.Option.{Option, none, some}
 use Rattle.programs.specs.Limits.{Visit}
 use Rattle.programs.specs.Parsed.{which_visit}
@@ -8,9 +8,8 @@ use Rattle.sketches.specs.declared.Point.{Point}
 use Rattle.sketches.specs.declared.Point.TheVariants.{Beginning, FirstWord, Named, Defined, OwnFront, WantsTag, Tagged, Wants, InFront, After, Behind, Over, Closed, OwnBack, Complete}
 use Rattle.sketches.specs.declared.Move.{Move}
 use Rattle.sketches.specs.Figures.{bare, just_opened}
-use Rattle.sketches.specs.Moves.{Sketch, sketched, sketch_if, step_sketch, nodes_there, depth_there, program_at, unbraced, text_ends}
+use Rattle.sketches.specs.Moves.{Sketch, sketched, step_sketch, nodes_there, depth_there, program_at, unbraced, text_ends}
 use Rattle.drafts.specs.declared.Draft.{Draft}
-use Rattle.drafts.specs.declared.Stepped.{Stepped}
 use Rattle.drafts.specs.declared.Place.{Place}
 use Rattle.paces.specs.Small.{tight, loose, Counted, SmallFigure, SmallParen, SmallPoint, SmallSketch}
 
@@ -22,8 +21,9 @@ stacked ps (suc n) = get_or ps n (just_opened bare) ∷ stacked ps n
 abbrev pub sketch_of : Draft → Sketch
 sketch_of d = sketched d.point (stacked d.around d.open) d.productions d.earlier
 
-abbrev pub SteppedIs : Option Sketch → Stepped → Type 0
-SteppedIs o r = o ≡ sketch_if r.taken (sketch_of r.draft)
+abbrev pub SteppedIs : Option Sketch → Taken Draft → Type 0
+SteppedIs o None = o ≡ none
+SteppedIs o (Some d) = o ≡ some (sketch_of d)
 
 pub record SoundDraft (d : Draft) : Type 0 where
   pub few_open : d.open ≤ tight
@@ -60,10 +60,10 @@ pub record SizeIs (p : Point) (unclosed : ℕ) (nodes depth : ℕ) : Type 0 wher
   pub nodes_are : (ps : List Paren) → length ps ≡ unclosed → nodes ≡ nodes_there p ps
   pub depth_is : (ps : List Paren) → length ps ≡ unclosed → depth ≡ depth_there p ps
 
--- a token of a kind, outside programs; where it is not taken the draft stays small too
-pub record DraftStepIs (d : Draft) (kind : ℕ) (r : Stepped) : Type 0 where
+-- a token of a kind, outside programs: the draft behind it, where it is taken
+pub record DraftStepIs (d : Draft) (kind : ℕ) (r : Taken Draft) : Type 0 where
   pub same : SteppedIs (step_sketch (sketch_of d) kind) r
-  pub sound : SoundDraft r.draft
+  pub sound : IfSome r SoundDraft
 
 pub record DraftIs (k : Sketch) (d : Draft) : Type 0 where
   pub same : sketch_of d ≡ k

@@ -21,32 +21,22 @@ pub struct Draft {
     pub earlier: usize,
 }
 
-// Whether a token was taken, and where the reader stands then.
-#[derive(Clone, Copy)]
-pub struct Stepped {
-    pub taken: bool,
-    pub draft: Draft,
-}
-
 // Another point, with the same around it.
-fn to(d: Draft, p: sketches::Point) -> Stepped
+fn to(d: Draft, p: sketches::Point) -> Option<Draft>
     ensures { SteppedIs (after_move_lem (sketch_of d) (Move.To p)) result }
 {
     let around = d.around;
-    Stepped {
-        taken: true,
-        draft: Draft {
-            point: p,
-            around: around,
-            open: d.open,
-            productions: d.productions,
-            earlier: d.earlier,
-        },
-    }
+    Some(Draft {
+        point: p,
+        around: around,
+        open: d.open,
+        productions: d.productions,
+        earlier: d.earlier,
+    })
 }
 
 // A pair of parentheses inside one.
-fn opened(d: Draft, p: sketches::Paren) -> Stepped
+fn opened(d: Draft, p: sketches::Paren) -> Option<Draft>
     requires { SmallParen tight p }
     ensures { SteppedIs (after_move_lem (sketch_of d) (Move.Opened p)) result }
 {
@@ -61,25 +51,19 @@ fn opened(d: Draft, p: sketches::Paren) -> Stepped
             cat: paces::moves::NOTHING,
             surround: m,
         };
-        return Stepped {
-            taken: true,
-            draft: Draft {
-                point: sketches::Point::Wants(true, q),
-                around: around,
-                open: open + 1,
-                productions: d.productions,
-                earlier: d.earlier,
-            },
-        };
+        return Some(Draft {
+            point: sketches::Point::Wants(true, q),
+            around: around,
+            open: open + 1,
+            productions: d.productions,
+            earlier: d.earlier,
+        });
     }
-    Stepped {
-        taken: false,
-        draft: d,
-    }
+    None
 }
 
 // A pair closed around a tree.
-fn closed(d: Draft, e: sketches::Figure) -> Stepped
+fn closed(d: Draft, e: sketches::Figure) -> Option<Draft>
     requires { d.open ≤ tight }
     ensures { SteppedIs (after_move_lem (sketch_of d) (Move.Closed e)) result }
 {
@@ -89,59 +73,47 @@ fn closed(d: Draft, e: sketches::Figure) -> Stepped
         return to(d, sketches::Point::Closed(e.nodes));
     }
     let p = around[open - 1];
-    Stepped {
-        taken: true,
-        draft: Draft {
-            point: sketches::Point::After(e, p),
-            around: around,
-            open: open - 1,
-            productions: d.productions,
-            earlier: d.earlier,
-        },
-    }
+    Some(Draft {
+        point: sketches::Point::After(e, p),
+        around: around,
+        open: open - 1,
+        productions: d.productions,
+        earlier: d.earlier,
+    })
 }
 
 // The tag's own pair closed around nothing.
-fn emptied(d: Draft) -> Stepped
+fn emptied(d: Draft) -> Option<Draft>
     ensures { SteppedIs (after_move_lem (sketch_of d) Move.Emptied) result }
 {
     if d.open == 0 {
         return to(d, sketches::Point::Closed(0));
     }
-    Stepped {
-        taken: false,
-        draft: d,
-    }
+    None
 }
 
 // The next production, behind one of so many nodes.
-fn next(d: Draft, n: usize) -> Stepped
+fn next(d: Draft, n: usize) -> Option<Draft>
     requires { (d.productions ≤ loose) × ((d.earlier ≤ loose) × (n ≤ loose)) }
     ensures { SteppedIs (after_move_lem (sketch_of d) (Move.Next n)) result }
 {
     let around = d.around;
-    Stepped {
-        taken: true,
-        draft: Draft {
-            point: sketches::Point::Named,
-            around: around,
-            open: d.open,
-            productions: d.productions + 1,
-            earlier: d.earlier + n,
-        },
-    }
+    Some(Draft {
+        point: sketches::Point::Named,
+        around: around,
+        open: d.open,
+        productions: d.productions + 1,
+        earlier: d.earlier + n,
+    })
 }
 
 // What a move makes of a draft.
-fn after_move(d: Draft, m: sketches::Move) -> Stepped
+fn after_move(d: Draft, m: sketches::Move) -> Option<Draft>
     requires { SoundDraft d × SmallMove m }
     ensures { SteppedIs (after_move_lem (sketch_of d) m) result }
 {
     match m {
-        sketches::Move::Refused => Stepped {
-            taken: false,
-            draft: d,
-        },
+        sketches::Move::Refused => None,
         sketches::Move::To(p) => to(d, p),
         sketches::Move::Opened(p) => opened(d, p),
         sketches::Move::Closed(e) => closed(d, e),
@@ -255,23 +227,14 @@ pub fn fresh() -> Draft
 }
 
 // A token of a kind, outside programs.
-pub fn step(d: Draft, kind: usize) -> Stepped
+pub fn step(d: Draft, kind: usize) -> Option<Draft>
     requires { (kind < kinds) × SoundDraft d }
     ensures { DraftStepIs d kind result }
 {
     let p = d.point;
     let m = paces::moves::move_of(p, kind);
-    let s = after_move(d, m);
-    if s.taken {
-        let e = s.draft;
-        if fits(e) {
-            return s;
-        }
-    }
-    Stepped {
-        taken: false,
-        draft: d,
-    }
+    let e = after_move(d, m)?;
+    if fits(e) { Some(e) } else { None }
 }
 
 // What a point says besides: whether a program is being read there, whether for the second visit, whether a text may end there, and the point

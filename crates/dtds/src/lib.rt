@@ -119,8 +119,7 @@ fn over(
     ensures { DeclaredAs text.now area.old result.number result.count area.new }
 {
     let mut s = scans::fresh();
-    let mut at = 0;
-    while at < text.len() {
+    for at in 0..text.len() {
         s = stride(
             text,
             at,
@@ -138,7 +137,6 @@ fn over(
                 count: at,
             };
         }
-        at += 1;
     }
     settle(
         text,

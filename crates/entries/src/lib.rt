@@ -21,12 +21,10 @@ pub fn put_nodes(memory: &mut [u8], at: usize, pairs: &[u8]) -> usize
     requires { at + 3 * length pairs.now < 2 ^ 64 }
     ensures { PutAs true memory.old at (node_records pairs.now) memory.new result }
 {
-    let mut i = 0;
     let mut n = at;
-    while i + 1 < pairs.len() {
-        let row = [pairs[i], pairs[i + 1], 255, 255, 255, 255];
+    for pair in pairs.chunks_exact(2) {
+        let row = [pair[0], pair[1], 255, 255, 255, 255];
         n = lent::put_bytes(memory, n, &row, true);
-        i += 2;
     }
     n
 }

@@ -3,34 +3,22 @@ use text::Decoded;
 use words::say;
 use wrong::byte;
 
-// Where the name ends that starts at a byte.
-fn past_name(f: &[u8], from: usize) -> usize {
-    let mut i = from;
-    while i < f.len() {
-        if !text::name_byte(f[i]) {
+// Where the bytes of a kind end that start at a byte.
+fn past<F: Fn(u8) -> bool>(f: &[u8], from: usize, is_of_kind: F) -> usize
+    requires { F.IsAlwaysCallable is_of_kind }
+{
+    for i in from..f.len() {
+        if !is_of_kind(f[i]) {
             return i;
         }
-        i += 1;
     }
-    i
-}
-
-// Where the white space ends that starts at a byte.
-fn past_blanks(f: &[u8], from: usize) -> usize {
-    let mut i = from;
-    while i < f.len() {
-        if !text::blank(f[i]) {
-            return i;
-        }
-        i += 1;
-    }
-    i
+    from.max(f.len())
 }
 
 // A tag's name and white space, and then something else than its end.
 fn say_of_tag(f: &[u8], from: usize) {
-    let end = past_name(f, from);
-    let next = past_blanks(f, end);
+    let end = past(f, from, text::name_byte);
+    let next = past(f, end, text::blank);
     if (end < next) & text::name_first(byte(f, next)) {
         say(b"It is a tag with an attribute, and tags here have none: take the attribute out.\n");
         return;

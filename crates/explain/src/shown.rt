@@ -25,38 +25,36 @@ fn show_by_number(fd: i32, b: u8) -> Step
     }
 }
 
-// A number of bytes from 1 to 4.
-fn one_to_four(n: usize) -> usize
-    ensures lower_bound { 1 ≤ result }
-    ensures upper_bound { result ≤ 4 }
-{
-    if n < 1 {
-        return 1;
-    }
-    if n > 4 {
-        return 4;
-    }
-    n
-}
-
 // The characters that are not seen, or not as themselves, from the first to the last of each range: controls and the no-break space, line and paragraph ends with the
 // narrow no-break space, and what Unicode says to show nothing for (Default_Ignorable_Code_Point): marks of width 0, of direction and of a sign's other form.
-const UNSEEN: [u32; 38] = [
-    0, 0x1F, 0x7F, 0xA0, 0xAD, 0xAD, 0x34F, 0x34F, 0x61C, 0x61C, 0x115F, 0x1160, 0x17B4, 0x17B5,
-    0x180B, 0x180F, 0x200B, 0x200F, 0x2028, 0x202F, 0x2060, 0x206F, 0x3164, 0x3164, 0xFE00, 0xFE0F,
-    0xFEFF, 0xFEFF, 0xFFA0, 0xFFA0, 0xFFF0, 0xFFF8, 0x1BCA0, 0x1BCA3, 0x1D173, 0x1D17A, 0xE0000,
-    0xE0FFF,
+const UNSEEN: [(u32, u32); 19] = [
+    (0, 0x1F),
+    (0x7F, 0xA0),
+    (0xAD, 0xAD),
+    (0x34F, 0x34F),
+    (0x61C, 0x61C),
+    (0x115F, 0x1160),
+    (0x17B4, 0x17B5),
+    (0x180B, 0x180F),
+    (0x200B, 0x200F),
+    (0x2028, 0x202F),
+    (0x2060, 0x206F),
+    (0x3164, 0x3164),
+    (0xFE00, 0xFE0F),
+    (0xFEFF, 0xFEFF),
+    (0xFFA0, 0xFFA0),
+    (0xFFF0, 0xFFF8),
+    (0x1BCA0, 0x1BCA3),
+    (0x1D173, 0x1D17A),
+    (0xE0000, 0xE0FFF),
 ];
 
 // Whether a character is seen, and as itself.
 fn is_seen(c: u32) -> bool {
-    let ranges = UNSEEN;
-    let mut i = 0;
-    while i < 37 {
-        if (ranges[i] <= c) & (c <= ranges[i + 1]) {
+    for (first, last) in UNSEEN {
+        if (first <= c) & (c <= last) {
             return false;
         }
-        i += 2;
     }
     true
 }
@@ -84,7 +82,7 @@ fn show_one(fd: i32, f: &[u8]) -> Step
     let m = files::within(n, f);
     tell(fd, &f[..m]);
     Step {
-        bytes: one_to_four(n),
+        bytes: n.clamp(1, 4),
         columns: 1,
     }
 }
@@ -96,17 +94,18 @@ fn step_within(shown: usize, left: usize) -> usize
     ensures lower_bound { 1 ≤ result }
     ensures upper_bound { result ≤ left }
 {
-    if shown < left { shown } else { left }
+    shown.min(left)
 }
 
 // Shows some bytes, and answers in how many columns.
 pub fn show(fd: i32, f: &[u8]) -> usize {
     let mut columns = 0;
-    let mut i = 0;
-    while i < f.len() {
-        let step = show_one(fd, &f[i..]);
+    let mut left = f;
+    // A while: each step goes on behind what it showed, which no range gives.
+    while !left.is_empty() {
+        let step = show_one(fd, left);
         columns = wrapping_add_usize(columns, step.columns);
-        i += step_within(step.bytes, f.len() - i);
+        left = &left[step_within(step.bytes, left.len())..];
     }
     columns
 }

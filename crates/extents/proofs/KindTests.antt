@@ -4,10 +4,10 @@ use mathlib.Core.Bool.{Bool, true, false, not, ◌||◌, ◌&&◌}
 use Prim.Native.Nat.{ℕ}
 use native.Mathlib.Omega.{arith}
 use lib.Dec.{eqb}
-use borrow.Author.Tests.{eq-eqb, ne_eqb}
+use borrow.Author.Tests.{ne_eqb}
 use Rattle.programs.specs.Limits.{is_second}
 use Rattle.programs.specs.Parsed.{which_visit}
-use Rattle.outlines.specs.Kinds.{is_target, is_operand, is_plain, is_short_item, is_long_item}
+use Rattle.outlines.specs.Kinds.{is_target, is_operand, is_plain}
 
 pub target_plain : (b : Bool) (k : ℕ) → k ≡ 2 → true ≡ is_target (which_visit b) k
 target_plain b k e = subst (λ x. true ≡ is_target (which_visit b) x) (sym e) refl
@@ -57,9 +57,3 @@ plain_off false k e = subst (λ x. true ≡ is_plain (which_visit false) x) (sym
 
 pub no_plain : (b : Bool) (k : ℕ) → (k ≡ 13 → ⊥) → (k ≡ 11 → ⊥) → (k ≡ 12 → ⊥) → false ≡ is_plain (which_visit b) k
 no_plain b k f g h = rw (ne_eqb k 13 f, ne_eqb k 11 g, ne_eqb k 12 h)
-
-pub first_of : (k n : ℕ) (b : Bool) → k ≡ n → true ≡ (eqb k n || b)
-first_of k n b e = rw (eq-eqb k n e)
-
-pub not_first : (k n : ℕ) (b : Bool) → (k ≡ n → ⊥) → b ≡ (eqb k n || b)
-not_first k n b f = rw (ne_eqb k n f)

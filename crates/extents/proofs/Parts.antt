@@ -1,9 +1,9 @@
 -- Laws of parts and of what lies around them: one for each answer of the code. Assumes nothing.
 use mathlib.Core.Path.{◌≡◌, refl, sym, ◌∙◌, ap, ap₂, subst}
-use mathlib.Core.Bool.{Bool, true, false}
+use mathlib.Core.Bool.{true, false}
 use mathlib.Core.Option.{Option, none, some}
 use mathlib.Core.List.{List, [], ◌∷◌, map}
-use Prim.Native.Nat.{ℕ, zero, suc, ◌+◌, ◌*◌, ◌-◌, ◌≤◌, ◌<◌, max}
+use Prim.Native.Nat.{ℕ, zero, suc, ◌+◌, ◌*◌, ◌-◌, ◌≤◌, ◌<◌}
 use native.Mathlib.Omega.{arith}
 use lib.ListN.{length, length-map, get_or}
 use Rattle.outlines.specs.Extents as outlines
@@ -20,7 +20,6 @@ use Rattle.extents.specs.declared.Margin.{Margin}
 use Rattle.extents.specs.declared.Layer.{Layer}
 use Rattle.extents.specs.declared.Layer.TheVariants.{Among, Then, Else}
 use Rattle.extents.specs.declared.Around.{Around}
-use Rattle.extents.specs.declared.Closed.{Closed}
 use Rattle.extents.specs.Held.{ExtentIs, SmallExtent, extent_of, side_of, margin_of, layer_of, around_of, bare_around, bare_margin, layers_at, margins_at, most_around, most_margins, is_among, ClosedIs}
 use Rattle.extents.proofs.Stacks.{top}
 

@@ -115,28 +115,19 @@ pub fn is_plain(kind: usize, second: bool) -> bool
 pub fn is_short_item(kind: usize) -> bool
     ensures { result ≡ is_short_item kind }
 {
-    if kind == 6 {
-        return true;
-    }
-    kind == 7
+    matches!(kind, 6 | 7)
 }
 
 pub fn is_long_item(kind: usize) -> bool
     ensures { result ≡ is_long_item kind }
 {
-    if kind == 8 {
-        return true;
-    }
-    kind == 9
+    matches!(kind, 8 | 9)
 }
 
 pub fn both(a: bool, b: bool) -> bool
     ensures { result ≡ (a && b) }
 {
-    if a {
-        return b;
-    }
-    false
+    a && b
 }
 
 // c and d, c or d.
@@ -228,9 +219,7 @@ pub fn wrap_all(layers: [Around; Around::MOST], n: usize, p: Extent) -> Extent
     ensures { extent_of result ≡ wrapped_in (layers_at layers n) (extent_of p) }
 {
     let mut e = p;
-    let mut i = n;
-    while 0 < i {
-        i = i - 1;
+    for i in (0..n).rev() {
         let a = layers[i];
         let l = a.layer;
         e = wrap(l, e);
@@ -241,11 +230,7 @@ pub fn wrap_all(layers: [Around; Around::MOST], n: usize, p: Extent) -> Extent
 pub fn is_list(l: Layer) -> bool
     ensures { result ≡ is_among (layer_of l) }
 {
-    match l {
-        Layer::Among(b) => true,
-        Layer::Then(c) => false,
-        Layer::Else(c, q) => false,
-    }
+    matches!(l, Layer::Among(_))
 }
 
 // The list in which the place lies, and how many layers lie around that.
@@ -256,9 +241,7 @@ pub fn close(layers: [Around; Around::MOST], n: usize, p: Extent) -> Closed
     ensures { ClosedIs layers n (extent_of p) result }
 {
     let mut e = p;
-    let mut i = n;
-    while 0 < i {
-        i = i - 1;
+    for i in (0..n).rev() {
         let a = layers[i];
         let l = a.layer;
         e = wrap(l, e);
@@ -277,9 +260,7 @@ pub fn margin_all(margins: [Margin; Margin::MOST], n: usize, c: Extent) -> Exten
     ensures { (extent_of result ≡ with_margins (margins_at margins n) (extent_of c)) × ExtentUnder 200000 (extent_of result) }
 {
     let mut e = c;
-    let mut i = n;
-    while 0 < i {
-        i = i - 1;
+    for i in (0..n).rev() {
         let m = margins[i];
         let o = m.or_left;
         e = pair_with(o, up_to_and(m, e));

@@ -76,11 +76,9 @@ fn t_faults_of(
     ensures { PartPut s.now (λ g. t_faults_of (tag_count s.now) g m) 256 write list.old at list.new result }
 {
     let mut n = at;
-    let mut t = 0;
-    while t < l.tags {
+    for t in 0..l.tags {
         let alike = known[64 * m + t];
         n = put_entry(list, n, 8, m, t, 0, alike > 1, write);
-        t += 1;
     }
     n
 }
@@ -93,10 +91,8 @@ fn t_faults(s: &[u8], l: Layout, known: &[u8], list: &mut [u8], at: usize, write
     ensures { PartPut s.now (λ g. t_faults (tag_count s.now) g) 16384 write list.old at list.new result }
 {
     let mut n = at;
-    let mut m = 0;
-    while m < NONTERMINALS {
+    for m in 0..NONTERMINALS {
         n = t_faults_of(s, l, known, list, n, m, write);
-        m += 1;
     }
     n
 }
@@ -120,11 +116,9 @@ fn s_faults_by_tag(
     ensures { PartPut s.now (λ g. s_by_tag (tag_count s.now) (tags_of g) (content_of g q) q p) 256 write list.old at list.new result }
 {
     let mut n = at;
-    let mut t = 0;
-    while t < l.tags {
+    for t in 0..l.tags {
         let sum = sums[t];
         n = put_entry(list, n, 9, q, p, t, sum > 1, write);
-        t += 1;
     }
     n
 }
@@ -176,10 +170,8 @@ fn s_faults_of(
 {
     let atoms = atoms_of(s, l, q);
     let mut n = at;
-    let mut p = 0;
-    while p <= atoms {
+    for p in 0..atoms + 1 {
         n = s_faults_at(s, l, known, list, n, q, p, write);
-        p += 1;
     }
     n
 }
@@ -193,10 +185,8 @@ fn s_faults(s: &[u8], l: Layout, known: &[u8], list: &mut [u8], at: usize, write
     ensures { PartPut s.now (λ g. s_faults_from (tag_count s.now) (tags_of g) 0 g) 557568 write list.old at list.new result }
 {
     let mut n = at;
-    let mut q = 0;
-    while q < l.productions {
+    for q in 0..l.productions {
         n = s_faults_of(s, l, known, list, n, q, write);
-        q += 1;
     }
     n
 }

@@ -59,14 +59,12 @@ fn is_numbered(text: &[u8]) -> bool {
 fn reason_end(text: &[u8]) -> usize
     ensures { IsPrefixLen result text.now }
 {
-    let mut i = 0;
-    while i < text.len() {
-        if text[i] == 0 || is_numbered(&text[i..]) {
+    for (i, b) in text.iter().enumerate() {
+        if *b == 0 || is_numbered(&text[i..]) {
             return within(i, text);
         }
-        i += 1;
     }
-    within(i, text)
+    within(text.len(), text)
 }
 
 // Puts an error's text into memory of zeros, as far as it fits.
@@ -88,10 +86,7 @@ pub fn fail(what: &[u8], why: Error) {
 
 // A file's name as text. One that is no UTF-8 names no file here.
 fn name_text(path: &[u8]) -> Result<&str> {
-    match std::str::from_utf8(path) {
-        Ok(text) => Ok(text),
-        Err(_) => Err(Error::from_raw_os_error(NO_NAME)),
-    }
+    std::str::from_utf8(path).map_err(|_| Error::from_raw_os_error(NO_NAME))
 }
 
 fn open_file(rt: HostRuntime, path: &[u8]) -> Result<File> {
@@ -175,10 +170,7 @@ impl Opened {
             Some(file) => file.read_at(memory, at),
             None => Err(Error::from_raw_os_error(NOT_OPEN)),
         };
-        match got {
-            Ok(n) => within(n, memory),
-            Err(_) => within(0, memory),
-        }
+        within(got.unwrap_or(0), memory)
     }
 
     // Goes back to the file's start, and answers whether that was done: never where there is no file.
@@ -234,6 +226,7 @@ pub fn fill(file: &mut Opened, memory: &mut [u8], from: usize) -> Filled
     ensures { IsPrefixLen result.held memory.new }
 {
     let mut held = from;
+    // A while: each turn goes on by as much as was read, which no range gives.
     while held < memory.len() {
         let got = file.read(&mut memory[held..]);
         let more = got.unwrap_or(0);
@@ -260,14 +253,11 @@ pub fn move_to_front(memory: &mut [u8], from: usize, end: usize) -> usize
     if end > memory.len() {
         return 0;
     }
-    let mut i = 0;
-    let mut next = from;
-    while next < end {
-        memory[i] = memory[next];
-        i += 1;
-        next += 1;
+    if end < from {
+        return 0;
     }
-    i
+    memory.copy_within(from..end, 0);
+    end - from
 }
 
 // A number of bytes at the start of the memory: n, or all of them where there are not so many.
@@ -275,7 +265,7 @@ pub fn within(n: usize, memory: &[u8]) -> usize
     ensures prefix_len { IsPrefixLen result memory.now }
     ensures value { result ≡ min n (length memory.now) }
 {
-    if n < memory.len() { n } else { memory.len() }
+    n.min(memory.len())
 }
 
 // The whole of a file, as far as the memory has room for it: how many bytes. A file that cannot be read is told on standard error.
@@ -317,13 +307,8 @@ fn letter(b: u8) -> u8 {
 
 // Puts letters in place of a name's last six bytes.
 fn put_letters(name: &mut [u8], drawn: &[u8]) {
-    let mut i = 0;
-    while i < drawn.len() {
-        if i < name.len() {
-            let at = name.len() - 1 - i;
-            name[at] = letter(drawn[i]);
-        }
-        i += 1;
+    for (place, b) in name.iter_mut().rev().zip(drawn) {
+        *place = letter(*b);
     }
 }
 
@@ -345,8 +330,7 @@ fn create_temp(rt: HostRuntime, name: &mut [u8]) -> Result<File> {
     if name.len() == 0 {
         return Err(Error::from_raw_os_error(NO_NAME));
     }
-    let mut tries = 0;
-    while tries < TRIES {
+    for _ in 0..TRIES {
         match try_name(rt, name) {
             Ok(file) => return Ok(file),
             Err(why) => {
@@ -355,7 +339,6 @@ fn create_temp(rt: HostRuntime, name: &mut [u8]) -> Result<File> {
                 }
             }
         }
-        tries += 1;
     }
     Err(Error::from_raw_os_error(TAKEN))
 }
@@ -389,14 +372,10 @@ pub fn new_beside(rt: HostRuntime, path: &[u8], name: &mut [u8]) -> New
 fn folder(path: &[u8]) -> usize
     ensures { IsPrefixLen result path.now }
 {
-    let mut end = path.len();
-    while end > 0 {
-        if path[end - 1] == b'/' {
-            return end;
-        }
-        end -= 1;
+    match path.iter().rposition(|b| *b == b'/') {
+        Some(i) => i + 1,
+        None => 0,
     }
-    0
 }
 
 // Opens the folder of what has the name `path`, as a file that can only be synced.
@@ -434,13 +413,10 @@ pub fn put_in_place(rt: HostRuntime, file: &mut Opened, name: &[u8], path: &[u8]
         return false;
     }
     file.close();
-    match rename(rt, name, path) {
-        Ok(()) => {}
-        Err(why) => {
-            let _ = remove(rt, name);
-            fail(path, why);
-            return false;
-        }
+    if let Err(why) = rename(rt, name, path) {
+        let _ = remove(rt, name);
+        fail(path, why);
+        return false;
     }
     sync_folder(rt, path);
     true
@@ -449,8 +425,7 @@ pub fn put_in_place(rt: HostRuntime, file: &mut Opened, name: &[u8], path: &[u8]
 // Closes the new file and takes it away.
 pub fn take_away(rt: HostRuntime, file: &mut Opened, name: &[u8]) {
     file.close();
-    match remove(rt, name) {
-        Ok(()) => {}
-        Err(why) => fail(name, why),
+    if let Err(why) = remove(rt, name) {
+        fail(name, why);
     }
 }

@@ -1,6 +1,6 @@
 -- When a state handed in fits a sheet's grammar: number 29 of document 01. Nothing is asked of frames and sets that are not in use.
 -- Assumes nothing.
-use Rattle.std.specs.Prelude.{◌≡◌, cond, List, [], ◌∷◌, ◌⊎◌, ℕ, zero, suc, ◌+◌, ◌^◌, ◌≤◌, T, ltb, eqb, length, take}
+use Rattle.std.specs.Prelude.{◌≡◌, cond, List, [], ◌∷◌, ◌⊎◌, ℕ, zero, suc, ◌+◌, ◌≤◌, T, ltb, eqb, length, take}
 use Rattle.std.proofs.Math.Option.{Option, none, some}
 use Rattle.expressions.specs.Expr.{Atom, nonterminal, anychar, Exp, atom, cat, alt, star, empty, atoms, Content, nothing, tree}
 use Rattle.expressions.specs.Grammar.{Production, content_of}

@@ -144,14 +144,7 @@ fn spot_of(s: &[u8], l: Layout, q: usize, p: usize) -> Spot
 fn values_fit(values: [u8; State::ATTRIBUTES]) -> bool
     ensures { Tells (Every Value values) result }
 {
-    let mut i = 0;
-    while i < State::ATTRIBUTES {
-        if State::HIGHEST < values[i] {
-            return false;
-        }
-        i += 1;
-    }
-    true
+    values.iter().all(|value| *value <= State::HIGHEST)
 }
 
 // Whether the values of the first n sets fit.
@@ -159,14 +152,10 @@ fn sets_fit(sets: [Saved; Frame::SETS], n: usize) -> bool
     requires { n ≤ most_sets }
     ensures { Tells (Every SetFits (take n sets)) result }
 {
-    let mut i = 0;
-    while i < n {
-        let set = sets[i];
-        let values = set.values;
-        if !values_fit(values) {
+    for set in &sets[..n] {
+        if !values_fit(set.values) {
             return false;
         }
-        i += 1;
     }
     true
 }
@@ -221,17 +210,13 @@ fn frames_fit(s: &[u8], l: Layout, state: &[u8], n: usize) -> bool
     ensures { FramesTold s.now (take n (state_from state.now).frames) result }
 {
     let mut may = l.start;
-    let mut next = State::HEAD;
-    let mut i = 0;
-    while i < n {
-        let f = frame_at(state, next);
+    for i in 0..n {
+        let f = frame_at(state, State::HEAD + Frame::BYTES * i);
         let fitted = frame_fits(s, l, may, f);
         if !fitted.ok {
             return false;
         }
         may = fitted.child;
-        next += Frame::BYTES;
-        i += 1;
     }
     true
 }

@@ -6,7 +6,7 @@
 ghost use Rattle.std.specs.Prelude.{◌+◌, ◌≤◌, length};
 ghost use Rattle.text.specs.Chars.{Char};
 
-use cases::digit;
+use cases::{STDOUT_FILENO, digit};
 use tokens::{Answer, Cursor, Event};
 
 fn main() {
@@ -22,22 +22,24 @@ fn run(s: &[u8], front: &mut [u8], out: &mut [u8])
     requires { length front.old ≤ 4096 }
 {
     let mut len = 0;
-    let mut i = 0;
-    while i < s.len() {
-        if s[i] == b'\n' {
-            show(&front[..len], out);
-            len = 0;
-            i += 1;
-        } else {
-            if s.len() - i < 2 {
-                return;
+    let mut left = s;
+    // A loop: a line's end is one byte and a byte of a front two, so no chunks and no range give the steps.
+    loop {
+        match left {
+            [b'\n', rest @ ..] => {
+                show(&front[..len], out);
+                len = 0;
+                left = rest;
             }
-            if len == front.len() {
-                return;
+            [high, low, rest @ ..] => {
+                if len == front.len() {
+                    return;
+                }
+                front[len] = digit(*high) * 16 + digit(*low);
+                len += 1;
+                left = rest;
             }
-            front[len] = digit(s[i]) * 16 + digit(s[i + 1]);
-            len += 1;
-            i += 2;
+            _ => return,
         }
     }
 }
@@ -100,12 +102,12 @@ fn character(c: u32, literal: bool, next: usize, out: &mut [u8])
 
 // A character, whether it stood there itself, and the next cursor.
 fn stood(c: u32, literal: bool, next: usize) {
-    io::write_all(1, b"character ");
-    io::print_decimal(1, c as u64);
+    io::write_all(STDOUT_FILENO, b"character ");
+    io::print_decimal(STDOUT_FILENO, c as u64);
     if literal {
-        io::write_all(1, b" itself");
+        io::write_all(STDOUT_FILENO, b" itself");
     } else {
-        io::write_all(1, b" by reference");
+        io::write_all(STDOUT_FILENO, b" by reference");
     }
     number(b" next ", next);
 }
@@ -116,13 +118,13 @@ fn refused(answer: Answer) {
         Answer::Token(_, _) => {}
         Answer::Waiting(event, next) => waiting(event, next.at),
         Answer::Begun => {
-            io::write_all(1, b"begun 16 27\n");
+            io::write_all(STDOUT_FILENO, b"begun 16 27\n");
         }
         Answer::Bad => {
-            io::write_all(1, b"bad 20\n");
+            io::write_all(STDOUT_FILENO, b"bad 20\n");
         }
         Answer::Long => {
-            io::write_all(1, b"long 21\n");
+            io::write_all(STDOUT_FILENO, b"long 21\n");
         }
     }
 }
@@ -132,38 +134,32 @@ fn waiting(event: Event, next: usize) {
     let Event::Character(c, literal) = event else {
         return;
     };
-    io::write_all(1, b"waiting 16 or ");
+    io::write_all(STDOUT_FILENO, b"waiting 16 or ");
     stood(c, literal, next);
-    io::write_all(1, b"\n");
+    io::write_all(STDOUT_FILENO, b"\n");
 }
 
 // A tag's kind, where its name stands, how long it is, and the next cursor.
 fn numbers(kind: &[u8], from: usize, len: usize, next: usize) {
-    io::write_all(1, kind);
+    io::write_all(STDOUT_FILENO, kind);
     number(b" at ", from);
     number(b" long ", len);
     number(b" next ", next);
 }
 
 fn number(name: &[u8], n: usize) {
-    io::write_all(1, name);
-    io::print_decimal(1, n as u64);
+    io::write_all(STDOUT_FILENO, name);
+    io::print_decimal(STDOUT_FILENO, n as u64);
 }
 
 // The first n bytes of what was written, and the line's end.
 fn hex(out: &[u8], n: usize) {
-    io::write_all(1, b" writes ");
+    io::write_all(STDOUT_FILENO, b" writes ");
     if out.len() < n {
         return;
     }
-    let mut i = 0;
-    while i < n {
-        io::print_hex(1, wide(out[i]), 2);
-        i += 1;
+    for b in &out[..n] {
+        io::print_hex(STDOUT_FILENO, u64::from(*b), 2);
     }
-    io::write_all(1, b"\n");
-}
-
-fn wide(b: u8) -> u64 {
-    b as u64
+    io::write_all(STDOUT_FILENO, b"\n");
 }

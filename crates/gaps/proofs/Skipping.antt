@@ -1,11 +1,16 @@
 -- Laws of gaps, read byte by byte. Assumes nothing.
 use mathlib.Core.Path.{◌≡◌, refl, sym, ◌∙◌, ap, subst}
-use mathlib.Core.Bool.{Bool, true, false}
+use mathlib.Core.Bool.{Bool, true, false, cond}
 use mathlib.Core.List.{List, [], ◌∷◌, ◌++◌, append_assoc, append-nil}
-use Prim.Native.Nat.{ℕ, zero, suc, ◌+◌, ◌≤◌, ◌<◌}
+use Prim.Native.Nat.{ℕ, suc, ◌+◌, ◌≤◌, ◌<◌}
 use native.Mathlib.Omega.{arith}
 use lib.ListN.{length, take, drop, get_or, length-append, length-drop, take-append-drop}
-use lib.Seq.{take-suc, take_at, drop-cons, length-take-le, take_all}
+use lib.Dec.{ltb}
+use lib.Seq.{take-suc, take_at, drop-cons, drop-drop, get_or-drop, length-take-le, take_all}
+use borrow.Author.Tests.{ltb-true, ltb-false}
+use Rattle.std.specs.Prelude.{not, Option, Some, None}
+use Rattle.std.specs.List.{position_or_len}
+use Rattle.std.proofs.lemmas.List.Sums.{passes_at_first, prefix_len-le-length}
 use Rattle.text.specs.Names.{blank, All}
 use Rattle.notation.specs.Gaps.{in_comment, Gap, white, comment, Ending, gap, open_comment}
 use Rattle.notation.proofs.Rows.{all_snoc}
@@ -39,6 +44,63 @@ going_more x from i g l e = record {
 
 pub going_stops : (x : List ℕ) (from i : ℕ) → Going x from i → (i < length x → in_comment (get_or x i 0) ≡ false) → CommentRun x from i
 going_stops x from i g s = record { low = g.low; high = g.high; run = g.run; held = g.held; split = g.split; long = g.long; stops = s }
+
+-- the first byte that a comment may not hold, as the library's search finds it
+abbrev pub in_none : ℕ → Bool
+in_none b = not (in_comment b)
+
+held_before : (y : List ℕ) → All in_comment (take (position_or_len in_none y) y)
+held_before [] = tt
+held_before (b ∷ y) = on (held_before y) (in_comment b) refl
+  where
+    on : All in_comment (take (position_or_len in_none y) y) → (h : Bool) → in_comment b ≡ h → All in_comment (take (cond (not (not h)) (1 + position_or_len in_none y) 0) (b ∷ y))
+    on ih true e = let k : suc (position_or_len in_none y) ≡ 1 + position_or_len in_none y = omega arith in subst (λ n. All in_comment (take n (b ∷ y))) k (e, ih)
+    on ih false e = tt
+
+run_before : (x : List ℕ) (from p : ℕ) → from ≤ length x → p ≡ position_or_len in_none (drop from x) → p ≤ length (drop from x) → Going x from (from + p)
+run_before x from p h e k =
+    let y : List ℕ = drop from x in
+    record {
+      low = omega arith;
+      high = omega (arith, length-drop from x);
+      run = take p y;
+      held = subst (λ n. All in_comment (take n y)) (sym e) (held_before y);
+      split = sym (take-append-drop p y) ∙ ap (λ z. take p y ++ z) (drop-drop p from x);
+      long = ap (λ n. from + n) (length-take-le p y k);
+    }
+
+refused : (b : Bool) → not b ≡ true → b ≡ false
+refused true e = sym e
+refused false e = refl
+
+module _ (x : List ℕ) (from : ℕ) (inside : from ≤ length x) where
+  abbrev pub place : ℕ
+  place = position_or_len in_none (drop from x)
+
+  stops_there : place < length (drop from x) → CommentRun x from (from + place)
+  stops_there l =
+      going_stops x from (from + place) (run_before x from place inside refl (omega arith))
+      (λ h. refused _ (ap in_none (sym (get_or-drop from x place 0)) ∙ passes_at_first in_none (drop from x) 0 l))
+
+  goes_through : length (drop from x) ≤ place → CommentRun x from (length x)
+  goes_through l =
+      let k : from + place ≡ length x = omega (arith, prefix_len-le-length (λ b. not (in_none b)) (drop from x), length-drop from x) in
+      subst (CommentRun x from) k (going_stops x from (from + place) (run_before x from place inside refl (omega (arith, length-drop from x))) (λ h. absurd (omega arith)))
+
+  module _ (r : Option ℕ) (found : r ≡ cond (ltb place (length (drop from x))) (Some place) None) where
+    pub run_to : (n : ℕ) → r ≡ Some n → CommentRun x from (from + n)
+    run_to n e = on (ltb place (length (drop from x))) refl (sym found ∙ e)
+      where
+        on : (b : Bool) → ltb place (length (drop from x)) ≡ b → cond b (Some place) None ≡ Some n → CommentRun x from (from + n)
+        on true t q = let same : place ≡ n = cc in subst (λ k. CommentRun x from (from + k)) same (stops_there (ltb-true _ _ t))
+        on false t q = cc
+
+    pub run_whole : r ≡ None → CommentRun x from (length x)
+    run_whole e = on (ltb place (length (drop from x))) refl (sym found ∙ e)
+      where
+        on : (b : Bool) → ltb place (length (drop from x)) ≡ b → ◌≡◌ {A = Option ℕ} (cond b (Some place) None) None → CommentRun x from (length x)
+        on true t q = cc
+        on false t q = goes_through (ltb-false _ _ t)
 
 -- gaps
 gap_append : {g : List ℕ} (h : List ℕ) → Gap g → Gap h → Gap (g ++ h)

@@ -28,15 +28,10 @@ fn comment_end(x: &[u8], from: usize) -> usize
     requires { from ≤ length x.now }
     ensures { CommentRun x.now from result }
 {
-    let mut i = from;
-    while i < x.len() {
-        if in_comment(x[i]) {
-            i += 1;
-        } else {
-            return i;
-        }
+    match x[from..].iter().position(|b| !in_comment(*b)) {
+        Some(n) => from + n,
+        None => x.len(),
     }
-    i
 }
 
 // What stands in front of the next token.
@@ -44,6 +39,7 @@ pub fn skip(x: &[u8]) -> Skipped
     ensures { SkippedIs x.now result }
 {
     let mut i = 0;
+    // A while: a step goes over a whole comment, as far as that was read, which no range gives.
     while i < x.len() {
         let b = x[i];
         if text::blank(b) {

@@ -74,9 +74,8 @@ fn keep_productions(s: &[u8], l: Layout, bytes: &mut [u8], ends: &mut [usize], c
     requires has_rows { HasRows bytes.old ends.old count }
     ensures { KeptAs (EachStrings s.now (first_program_of s.now) (second_program_of s.now) (production_count s.now)) bytes.old ends.old count result bytes.new ends.new }
 {
-    let mut q = 0;
     let mut n = count;
-    while q < l.productions {
+    for q in 0..l.productions {
         let first = layout::first_program_of(s, l, q);
         let second = layout::second_program_of(s, l, q);
         let kept = keep_both(s, l, first, second, bytes, ends, n);
@@ -84,7 +83,6 @@ fn keep_productions(s: &[u8], l: Layout, bytes: &mut [u8], ends: &mut [usize], c
             return kept;
         }
         n = kept.count;
-        q += 1;
     }
     Kept { ok: true, count: n }
 }
@@ -95,9 +93,8 @@ fn keep_nodes(s: &[u8], l: Layout, bytes: &mut [u8], ends: &mut [usize], count: 
     requires has_rows { HasRows bytes.old ends.old count }
     ensures { KeptAs (EachStrings s.now (first_program_of_node s.now) (second_program_of_node s.now) (node_count s.now)) bytes.old ends.old count result bytes.new ends.new }
 {
-    let mut i = 0;
     let mut n = count;
-    while i < l.nodes {
+    for i in 0..l.nodes {
         let first = layout::first_program_of_node(s, l, i);
         let second = layout::second_program_of_node(s, l, i);
         let kept = keep_both(s, l, first, second, bytes, ends, n);
@@ -105,7 +102,6 @@ fn keep_nodes(s: &[u8], l: Layout, bytes: &mut [u8], ends: &mut [usize], count: 
             return kept;
         }
         n = kept.count;
-        i += 1;
     }
     Kept { ok: true, count: n }
 }

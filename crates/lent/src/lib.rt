@@ -22,11 +22,9 @@ pub fn put_bytes(memory: &mut [u8], at: usize, new: &[u8], write: bool) -> usize
     ensures { PutAs write memory.old at new.now memory.new result }
 {
     let mut n = at;
-    let mut j = 0;
-    while j < new.len() {
-        put_byte(memory, n, new[j], write);
-        n = n + 1;
-        j = j + 1;
+    for b in new {
+        put_byte(memory, n, *b, write);
+        n += 1;
     }
     n
 }

@@ -197,9 +197,7 @@ impl Nest {
             return size;
         }
         let around = self.around;
-        let mut i = open;
-        while 0 < i {
-            i = i - 1;
+        for i in (0..open).rev() {
             let l = around[i];
             size = behind_size(l, size);
         }

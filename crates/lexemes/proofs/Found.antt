@@ -10,12 +10,12 @@ use lib.ListN.{length, take, drop, get_or, take-append-drop}
 use lib.Seq.{take-take}
 use Rattle.text.specs.Names.{name_byte}
 use Rattle.programs.specs.Bounds.{bounds, attributes_in, values_in}
-use Rattle.notation.specs.Tokens.{Dollar, plain, left, right, TextToken, nonterminal, value, attribute, name, start_tag, end_tag, empty_tag, string, word, Keyword, CHAR, ECHO, ECHO-OFF, REJECT, PRINT, IF, THEN, ELSE, BEGIN, END, AND, OR, NOT, EMPTY, sign, Sign, DEFINED, ASSIGNED, OPEN, CLOSE, BRACE, UNBRACE, DOT, BAR, STAR, SEMICOLON, EQUALS, decimal, all_in_quotes, token_bytes, TagName}
+use Rattle.notation.specs.Tokens.{Dollar, plain, left, right, TextToken, nonterminal, value, attribute, name, start_tag, end_tag, empty_tag, string, word, Keyword, CHAR, ECHO, ECHO-OFF, REJECT, PRINT, IF, THEN, ELSE, BEGIN, END, AND, OR, NOT, EMPTY, sign, Sign, DEFINED, ASSIGNED, OPEN, CLOSE, BRACE, UNBRACE, DOT, BAR, STAR, SEMICOLON, EQUALS, decimal, token_bytes, TagName}
 use Rattle.notation.specs.Spelled.{word_byte, joins, MayFollow}
 use Rattle.lexing.specs.declared.Tried.{Tried}
 use Rattle.lexemes.specs.declared.Lexeme.{Lexeme}
 use Rattle.lexing.specs.Front.{WholeToken, BeginsToken, Stuck}
-use Rattle.lexing.specs.Reads.{Stops, stops_at, nothing, Spelt, BeginsSpelling, Halts, ReadIs, whole, halts, OneSpelling, NumberBehind, NameSpelling, TagSpelling, StringSpelling}
+use Rattle.lexing.specs.Reads.{Stops, stops_at, nothing, BeginsSpelling, ReadIs, whole, halts, OneSpelling, NumberBehind, NameSpelling, TagSpelling, StringSpelling}
 use Rattle.lexemes.specs.Kinds.{kinds, mark_number, word_number, sign_number, token_kind, token_number, TokenFits, OfKind, MayIf, MarkedKind, TriedIs, a_token, no_token, Lexed}
 
 -- a sort of spellings is that of some tokens

@@ -94,13 +94,11 @@ pub fn lex(x: &[u8], may: [bool; 35]) -> Lexeme
     ensures { Lexed may x.now result }
 {
     let mut best = 0;
-    let mut k = 0;
-    while k < 35 {
-        match of_kind(x, k, may[k]) {
+    for (k, allowed) in may.iter().enumerate() {
+        match of_kind(x, k, *allowed) {
             lexing::Tried::Whole(n, len) => return Lexeme::Token(k, n, len),
             lexing::Tried::Stuck(j) => best = lexing::larger(best, j),
         }
-        k += 1;
     }
     Lexeme::Stuck(best)
 }

@@ -1,28 +1,27 @@
 -- Laws of characters and of strings as they are written. Assumes nothing.
 use mathlib.Core.Path.{◌≡◌, refl, sym, ◌∙◌, ap, ap₂, subst}
 use mathlib.Core.Logic.{◌⊎◌, inl, inr}
-use mathlib.Core.Bool.{Bool, true, false, cond, ◌||◌}
+use mathlib.Core.Bool.{Bool, true, false}
 use mathlib.Core.List.{List, [], ◌∷◌, ◌++◌, append_assoc, append-nil, append_cancel_left, head-eq_of_cons-eq, tail-eq_of_cons-eq}
-use Prim.Native.Nat.{ℕ, zero, suc, ◌+◌, ◌-◌, ◌/◌, ◌%◌, ◌≤◌, ◌<◌}
+use Prim.Native.Nat.{ℕ, zero, suc, ◌+◌, ◌-◌, ◌/◌, ◌≤◌, ◌<◌}
 use native.Mathlib.Omega.{arith}
 use native.Mathlib.Decide.{dec_le, ℕ_discrete}
-use lib.Dec.{ltb, eqb}
 use lib.ListN.{length, take, drop, get_or, length-append, length-drop, take-append-drop}
-use lib.Seq.{take_all, take_at, take-suc, take-add, take-append-add, drop-drop, drop-cons, length-take-le, take-length}
-use borrow.Author.Tests.{lt-ltb, le-ltb, eq-eqb, eqb-true, ne_eqb}
+use lib.Seq.{take_all, take_at, take-add, drop-cons, length-take-le}
+use borrow.Author.Tests.{lt-ltb, le-ltb, ne_eqb}
 use Rattle.text.specs.declared.Decoded.{Decoded}
 use Rattle.text.specs.declared.Decoded.TheVariants.{Whole, Begun, Bad}
 use Rattle.text.specs.Chars.{Char, utf8, DecodedIs}
 use Rattle.text.specs.Characters.{AllChar, utf8s}
-use Rattle.text.proofs.Shapes.{cons≢[], shape1, shape2, shape3, shape4, Range, range, char_most, char_low}
+use Rattle.text.proofs.Shapes.{shape1, shape2, shape3, shape4, Range, range, char_low}
 use Rattle.text.proofs.Unique.{decoded_one}
 use Rattle.text.proofs.Decoding.{begun0}
 use Rattle.notation.specs.Tokens.{in_quotes, all_in_quotes, StringOf}
 use Rattle.notation.proofs.Rows.{splits, utf8_some}
-use Rattle.notation.proofs.Strings.{unescaped, Form, by_escape, as_itself, form, escaped_one, no_quote}
+use Rattle.notation.proofs.Strings.{escaped_one, no_quote}
 use Rattle.lexing.specs.declared.Tried.{Tried}
 use Rattle.lexing.specs.Reads.{Stops, nothing, Spelt, BeginsSpelling, Halts, ReadIs, whole, halts, CharSpelling, width_of, escape_byte, PieceSpelling, StringSpelling}
-use Rattle.lexing.proofs.Spellings.{part, part_is, last_taken}
+use Rattle.lexing.proofs.Spellings.{part, part_is}
 
 any_stops : (y : List ℕ) → Stops nothing y
 any_stops [] = tt
@@ -32,14 +31,8 @@ any_stops (z ∷ y) = refl
 pub none_read : (y : List ℕ) → DecodedIs (take 0 y) Begun
 none_read y = begun0
 
-front_part : (y : List ℕ) (n : ℕ) → take (n - 0) (drop 0 y) ≡ take n y
-front_part y n = ap (λ z. take z y) (less n)
-  where
-    less : (n : ℕ) → n - 0 ≡ n
-    less n = omega arith
-
-pub decoded_as : (y : List ℕ) (n : ℕ) (r v : Decoded) → r ≡ v → DecodedIs (take (n - 0) (drop 0 y)) r → DecodedIs (take n y) v
-decoded_as y n r v e h = subst (λ z. DecodedIs z v) (front_part y n) (subst (DecodedIs (take (n - 0) (drop 0 y))) e h)
+pub decoded_as : (y : List ℕ) (n : ℕ) (r v : Decoded) → r ≡ v → DecodedIs (take n y) r → DecodedIs (take n y) v
+decoded_as y n r v e h = subst (DecodedIs (take n y)) e h
 
 pub character_found : (y : List ℕ) (j c n : ℕ) → DecodedIs (take j y) (Whole c n) → ReadIs CharSpelling nothing y (Tried.Whole n n)
 character_found y j c n (h, (v, e), l) = whole {n = n} {k = n} (record {

@@ -6,18 +6,16 @@ use mathlib.Core.List.{List, [], ◌∷◌, ◌++◌, append_assoc, append-nil, 
 use Prim.Native.Nat.{ℕ, zero, suc, ◌+◌, ◌-◌, ◌/◌, ◌%◌, ◌≤◌, ◌<◌, max}
 use native.Mathlib.Omega.{arith}
 use native.Mathlib.Decide.{dec_le, ℕ_discrete}
-use lib.Dec.{ltb}
 use lib.ListN.{length, take, drop, get_or, length-append, length-drop, take-append-drop}
-use lib.Seq.{take-suc, take_all, take_at, take-take, take-append-add, get_or_at, get_or-append-add, get_or-drop, drop-cons, drop-drop, take-add, length-take-le, get_or-take}
+use lib.Seq.{take-suc, take_at, take-take, take-append-add, get_or_at, get_or-drop, drop-cons, drop-drop, take-add, length-take-le, get_or-take}
 use borrow.Author.Tests.{lt-ltb, le-ltb}
-use Rattle.text.specs.Chars.{pick}
 use Rattle.text.specs.Names.{name_first, name_byte, All, Name}
 use Rattle.text.proofs.NameLaws.{name_all}
 use Rattle.notation.specs.Tokens.{decimal, TagName}
 use Rattle.notation.proofs.Rows.{get_d_front, all_snoc}
 use Rattle.lexing.specs.declared.Tried.{Tried}
 use Rattle.lexing.specs.Reads.{Common, Stops, stops_at, nothing, Spelt, BeginsSpelling, Halts, ReadIs, whole, halts, OneSpelling, NumberBehind, NameRun, NameSpelling, TagSpelling}
-use Rattle.lexing.proofs.Spellings.{part, part_is, all_of, last_taken}
+use Rattle.lexing.proofs.Spellings.{all_of, last_taken}
 
 clash : {A : Type 0} → ◌≡◌ {A = Bool} true false → A
 clash e = absurd (let z : ◌≡◌ {A = ℕ} 0 1 = cc in omega arith)

@@ -1,15 +1,15 @@
 -- Laws of spellings: what is common, what does not go on. Assumes nothing.
 use mathlib.Core.Path.{◌≡◌, refl, sym, ◌∙◌, ap, subst}
 use mathlib.Core.Bool.{Bool, true, false}
-use mathlib.Core.List.{List, [], ◌∷◌, ◌++◌, append_assoc, append-nil, head-eq_of_cons-eq, tail-eq_of_cons-eq}
+use mathlib.Core.List.{List, [], ◌∷◌, ◌++◌, append-nil}
 use Prim.Native.Nat.{ℕ, zero, suc, ◌+◌, ◌-◌, ◌≤◌, ◌<◌}
 use native.Mathlib.Omega.{arith}
 use lib.ListN.{length, take, drop, get_or, length-append, length-drop, take-append-drop}
-use lib.Seq.{take-append-le, take-append-add, get_or-append-add, get_or-drop, drop-drop, drop-cons, take-suc, take-append_seam, take_at, take_all, get_or-append_seam, get_or_at, length-take-le}
+use lib.Seq.{take-append-le, take-append-add, get_or-append-add, get_or-drop, drop-cons, take-suc, take_at, take_all, get_or_at, length-take-le}
 use Rattle.notation.specs.Spelled.{word_byte}
 use Rattle.notation.proofs.Rows.{get_d_front}
 use Rattle.lexing.specs.declared.Tried.{Tried}
-use Rattle.lexing.specs.Reads.{Common, Stops, stops_at, Spelt, BeginsSpelling, Halts, ReadIs, whole, halts, OneSpelling}
+use Rattle.lexing.specs.Reads.{Common, Stops, stops_at, Halts, ReadIs, whole, halts, OneSpelling}
 
 -- the loop of what is common
 pub same_more : (x w : List ℕ) (i : ℕ) → take i x ≡ take i w → i < length x → i < length w → get_or x i 0 ≡ get_or w i 0 → take (i + 1) x ≡ take (i + 1) w

@@ -1,5 +1,5 @@
 -- What is read of bytes that may begin with one of some spellings: a whole one with its number, or how many bytes begin one. Assumes nothing.
-use Rattle.std.specs.Prelude.{◌≡◌, Bool, true, false, cond, ◌||◌, List, [], ◌∷◌, ◌++◌, ℕ, zero, suc, ◌≤◌, ◌<◌, ltb, eqb, length, take, get_or}
+use Rattle.std.specs.Prelude.{◌≡◌, Bool, true, false, cond, ◌||◌, List, [], ◌∷◌, ◌++◌, ℕ, suc, ◌≤◌, ◌<◌, ltb, eqb, length, take, get_or}
 use Rattle.limits.specs.Limits.{longest_name}
 use Rattle.text.specs.Names.{name_first, name_byte, Name}
 use Rattle.text.specs.Chars.{Char, utf8}

@@ -27,18 +27,15 @@ pub fn word_byte(b: u8) -> bool
 fn common(x: &[u8], w: &[u8]) -> usize
     ensures { Common x.now w.now result }
 {
-    let mut i = 0;
-    while i < w.len() {
+    for (i, b) in w.iter().enumerate() {
         if i == x.len() {
             return i;
         }
-        if x[i] == w[i] {
-            i += 1;
-        } else {
+        if x[i] != *b {
             return i;
         }
     }
-    i
+    w.len()
 }
 
 // What is spelled a and then b, and has the number n. `joins`: no letter, digit or _ may follow it.
@@ -70,10 +67,7 @@ fn fixed(x: &[u8], a: &[u8], b: &[u8], joins: bool, n: usize) -> Tried
 pub fn larger(a: usize, b: usize) -> usize
     ensures { result ≡ max a b }
 {
-    if a < b {
-        return b;
-    }
-    a
+    a.max(b)
 }
 
 // What is spelled a and then the number n, which is under 100.
@@ -95,13 +89,11 @@ pub fn numbered(x: &[u8], a: &[u8], count: usize) -> Tried
     ensures { ReadIs (NumberBehind a.now count) (stops_at true) x.now result }
 {
     let mut best = 0;
-    let mut n = 0;
-    while n < count {
+    for n in 0..count {
         match one_number(x, a, n) {
             Tried::Whole(m, k) => return Tried::Whole(m, k),
             Tried::Stuck(k) => best = larger(best, k),
         }
-        n += 1;
     }
     Tried::Stuck(best)
 }
@@ -114,18 +106,15 @@ fn name_run(x: &[u8]) -> usize
         return 0;
     }
     if text::name_first(x[0]) {
-        let mut i = 1;
-        while i < 15 {
+        for i in 1..15 {
             if i == x.len() {
                 return i;
             }
-            if text::name_byte(x[i]) {
-                i += 1;
-            } else {
+            if !text::name_byte(x[i]) {
                 return i;
             }
         }
-        return i;
+        return 15;
     }
     0
 }
@@ -173,16 +162,15 @@ pub fn tag(x: &[u8], a: &[u8], b: &[u8]) -> Tried
 fn one_character(y: &[u8]) -> Tried
     ensures { ReadIs CharSpelling nothing y.now result }
 {
-    let mut j = 0;
-    while j < y.len() {
+    for j in 0..y.len() {
         let to = j + 1;
-        match text::decode(&y[0..to]) {
+        match text::decode(&y[..to]) {
             text::Decoded::Whole(_, n) => return Tried::Whole(n, n),
-            text::Decoded::Begun => j = to,
+            text::Decoded::Begun => {}
             text::Decoded::Bad => return Tried::Stuck(j),
         }
     }
-    Tried::Stuck(j)
+    Tried::Stuck(y.len())
 }
 
 // How many bytes the character has that begins with the byte.
@@ -260,6 +248,7 @@ pub fn string(x: &[u8]) -> Tried
     }
     let mut i = 1;
     let mut n = 0;
+    // A while: each step goes on by as many bytes as the character was written with, which no range gives.
     while i < x.len() {
         if x[i] == 34 {
             return Tried::Whole(n, i + 1);

@@ -92,11 +92,9 @@ fn put_lines(s: &[u8], l: Layout, out: &mut [u8], at: usize, write: bool) -> usi
     requires most_of_atext_bound { at + most_of_a_text ≤ farthest + 4 }
     ensures { LinesPut s.now (record { write = write; lent = out.old; at = at }) result out.new }
 {
-    let mut q = 0;
     let mut n = at;
-    while q < l.productions {
+    for q in 0..l.productions {
         n = put_line(s, l, q, out, n, write);
-        q += 1;
     }
     n
 }

@@ -14,21 +14,12 @@ use layout::Layout;
 // What no tag and no production is.
 const MISSING: usize = 256;
 
-// Names are compared by bytes: their lengths first, then up to the first byte that differs.
+// Names are compared by bytes.
+#[tactic(auto, using(crate::proofs::Names::same_pointwise))]
 pub fn same_name(a: &[u8], b: &[u8]) -> bool
     ensures { result ≡ same_name a.now b.now }
 {
-    if a.len() != b.len() {
-        return false;
-    }
-    let mut i = 0;
-    while i < a.len() {
-        if a[i] != b[i] {
-            return false;
-        }
-        i += 1;
-    }
-    true
+    a == b
 }
 
 // Whether a tag's 16 bytes have this name: their first is the name's length, and the name follows.
@@ -49,15 +40,12 @@ pub fn tag_named(s: &[u8], l: Layout, name: &[u8]) -> usize
     requires { LaidOut s.now l }
     ensures { TagFound s.now name.now result }
 {
-    let count = l.tags;
-    let mut t = 0;
-    while t < count {
+    for t in 0..l.tags {
         let at = l.tags_at + 16 * t;
         let end = at + 16;
         if has_name(&s[at..end], name) {
             return t;
         }
-        t += 1;
     }
     MISSING
 }
@@ -67,15 +55,12 @@ pub fn production_for(s: &[u8], l: Layout, n: usize, t: usize) -> usize
     requires { LaidOut s.now l }
     ensures { ProductionFound s.now n t result }
 {
-    let count = l.productions;
-    let mut q = 0;
-    while q < count {
+    for q in 0..l.productions {
         let nonterminal = layout::nonterminal_of(s, l, q);
         let tag = layout::tag_number_of(s, l, q);
         if (n == nonterminal) & (t == tag) {
             return q;
         }
-        q += 1;
     }
     MISSING
 }
@@ -93,12 +78,10 @@ pub fn blanks_pass(s: &[u8], l: Layout, q: usize) -> bool
     }
     let first = layout::first_node_of(s, l, q);
     let past = first + count;
-    let mut i = first;
-    while i < past {
+    for i in first..past {
         if layout::kind_of(s, l, i) == 2 {
             return false;
         }
-        i += 1;
     }
     true
 }

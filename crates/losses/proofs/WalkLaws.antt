@@ -1,10 +1,10 @@
 -- Laws of the lines of a second reading: one byte more, more bytes after others, and the line of the next byte.
 -- Assumes nothing.
-use Rattle.std.proofs.Common.{◌≡◌, ℕ, ◌+◌, ◌%◌, ◌^◌, ◌<◌, ◌≤◌, Bool, true, false, cond, not, ◌&&◌, ◌||◌, eqb, List, [], ◌∷◌, ◌++◌, length, get_or, take, sym, refl, ap, ◌∙◌, subst, append_assoc, append-nil, mod-eq_of_lt, add-one, arith, take_all, take-suc, eqb-true}
+use Rattle.std.proofs.Common.{◌≡◌, ℕ, ◌+◌, ◌^◌, ◌<◌, ◌≤◌, Bool, true, false, cond, not, ◌&&◌, ◌||◌, eqb, List, [], ◌∷◌, ◌++◌, length, get_or, take, sym, refl, ap, ◌∙◌, subst, append_assoc, append-nil, mod-eq_of_lt, add-one, arith, take_all, take-suc, eqb-true}
 use Rattle.places.specs.Lines.{ends_line, how_many, line_ends}
 use Rattle.behind.specs.Lines.{line_on}
 use Rattle.behind.specs.Wholes.{ends_in_return}
-use Rattle.losses.specs.Walks.{next_line, HasRead, ReadsOn, NextIsBehind}
+use Rattle.losses.specs.Walks.{HasRead, ReadsOn, NextIsBehind}
 use Rattle.losses.specs.declared.rereading.Walk.{Walk}
 
 abbrev one : Bool → ℕ

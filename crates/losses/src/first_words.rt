@@ -6,69 +6,35 @@ use words::say;
 // The most bytes that are shown.
 const SHOWN: usize = 40;
 
-// Whether some bytes begin with a word.
-fn begins(f: &[u8], word: &[u8]) -> bool {
-    let mut i = 0;
-    while i < word.len() {
-        if wrong::byte(f, i) != word[i] {
-            return false;
-        }
-        i += 1;
-    }
-    true
-}
-
-// Where the white space ends that starts at a byte.
-fn past_blanks(f: &[u8], from: usize) -> usize {
-    let mut i = from;
-    while i < f.len() {
-        if !text::blank(f[i]) {
-            return i;
-        }
-        i += 1;
-    }
-    i
-}
-
 // How many bytes a title's start tag has that some bytes begin with; 0 where they do not.
 fn title_tag(f: &[u8]) -> usize
     ensures { result ≤ length f.now }
 {
-    if !begins(f, b"<title") {
+    let Some(rest) = f.strip_prefix(b"<title") else {
         return 0;
+    };
+    match rest.iter().position(|b| !text::blank(*b)) {
+        Some(blanks) if rest[blanks] == b'>' => f.len() - rest.len() + blanks + 1,
+        _ => 0,
     }
-    let end = past_blanks(f, 6);
-    if wrong::byte(f, end) != b'>' {
-        return 0;
-    }
-    if end < f.len() { end + 1 } else { 0 }
 }
 
 // Where the text of the first title starts, or the bytes end.
 fn title_in(f: &[u8]) -> usize
     ensures { result ≤ length f.now }
 {
-    let mut i = 0;
-    while i < f.len() {
+    for i in 0..f.len() {
         let n = title_tag(&f[i..]);
         if n > 0 {
             return i + n;
         }
-        i += 1;
     }
-    i
+    f.len()
 }
 
 // How many bytes come before the next tag, or the end.
 fn to_tag(f: &[u8]) -> usize {
-    let mut i = 0;
-    while i < f.len() {
-        if f[i] == b'<' {
-            return i;
-        }
-        i += 1;
-    }
-    i
+    f.iter().position(|b| *b == b'<').unwrap_or(f.len())
 }
 
 fn say_start(f: &[u8]) {

@@ -123,33 +123,17 @@ fn tell_stretch(file: &mut Opened, part: &mut [u8], s: Stretch, mark: &[u8], fro
 // Every stretch, one after another.
 fn tell_each(file: &mut Opened, part: &mut [u8], report: &[u8], mark: &[u8]) -> Walk {
     let mut w = Walk::start();
-    let mut i = 0;
-    while i < report.len() {
-        w = tell_stretch(file, part, stretch_in(&report[i..]), mark, w);
-        i = next_entry(i, report.len());
+    for entry in report.chunks(ENTRY) {
+        w = tell_stretch(file, part, stretch_in(entry), mark, w);
     }
     w
 }
 
-// Where the next entry starts, or the report ends.
-fn next_entry(i: usize, end: usize) -> usize
-    requires { i < end }
-    ensures lower_bound { i < result }
-    ensures upper_bound { result ≤ end }
-{
-    if end - i < ENTRY {
-        return end;
-    }
-    i + ENTRY
-}
-
 // Every stretch by its bytes alone.
 fn tell_bytes(report: &[u8]) {
-    let mut i = 0;
-    while i < report.len() {
+    for entry in report.chunks(ENTRY) {
         say(b"Dropped: ");
-        say_bytes(stretch_in(&report[i..]));
-        i = next_entry(i, report.len());
+        say_bytes(stretch_in(entry));
     }
 }
 

@@ -111,10 +111,8 @@ fn through(bytes: &[u8], mark: &[u8], from: Walk) -> Walk
     ensures { ReadsOn from bytes.now result }
 {
     let mut w = from;
-    let mut i = 0;
-    while i < bytes.len() {
-        w = w.past(bytes[i], mark);
-        i += 1;
+    for b in bytes {
+        w = w.past(*b, mark);
     }
     w
 }
@@ -141,6 +139,7 @@ pub(crate) fn read_some(file: &mut Opened, part: &mut [u8], n: u64) -> usize
 pub(crate) fn pass(file: &mut Opened, part: &mut [u8], n: u64, mark: &[u8], from: Walk) -> Walk {
     let mut w = from;
     let mut left = n;
+    // A while: each step passes as many bytes as could be read, which no range gives.
     while left > 0 {
         let held = read_some(file, part, left);
         if held == 0 {
@@ -170,14 +169,11 @@ pub(crate) fn pass_stretch(
 
 // How many bytes of a tag that some bytes begin with are its < and its name.
 fn name_end(tag: &[u8]) -> usize {
-    let mut i = 1;
-    while i < tag.len() {
-        if !text::name_byte(tag[i]) {
-            return i;
-        }
-        i += 1;
-    }
-    i
+    1 + tag
+        .iter()
+        .skip(1)
+        .take_while(|b| text::name_byte(**b))
+        .count()
 }
 
 // The furthest that a file is read again from.

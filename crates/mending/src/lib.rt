@@ -29,13 +29,11 @@ fn begins(front: &[u8], k: usize) -> bool
 // The tokens that may stand where these bytes are all that stands of one, and whether the text may end there.
 fn say_tokens(front: &[u8], may: [bool; 35], ends: bool) {
     say(b"There may stand:");
-    let mut k = 0;
-    while k < 35 {
-        if may[k] & begins(front, k) {
+    for (k, stands) in may.iter().enumerate() {
+        if *stands & begins(front, k) {
             say(b" ");
             say_kind(k);
         }
-        k += 1;
     }
     if ends & (front.len() == 0) {
         say(b" (or the text may end)");
@@ -72,7 +70,7 @@ pub fn say_where(text: &[u8], place: usize) {
 
 // Whether a byte is a letter, a digit or an underscore: words are of these.
 fn is_of_word(b: u8) -> bool {
-    text::name_first(b) | ((48 <= b) & (b <= 57))
+    text::name_first(b) | b.is_ascii_digit()
 }
 
 // Whether a byte joins two parts of a row.

@@ -1,6 +1,7 @@
 // The names in a text of declarations that is right, in the order in which they stand. Words between signs and white space are names, but for ELEMENT, EMPTY and
 // PCDATA, which stand where no name does.
-ghost use Rattle.std.specs.Prelude.{◌≤◌, length};
+ghost use Rattle.std.specs.Prelude.{◌≡◌, ◌-◌, ◌≤◌, IfSome, length};
+ghost use Rattle.std.specs.Iterator.{at_most};
 
 use lookups::same_name;
 use words::tell;
@@ -47,25 +48,11 @@ fn behind(spot: Spot) -> Spot {
 
 // Whether it is the name of the element that is declared.
 pub(crate) fn is_own(w: Word) -> bool {
-    let spot = w.spot;
-    match spot {
-        Spot::Keyword => false,
-        Spot::Own => true,
-        Spot::Content => false,
-        Spot::Model => false,
-        Spot::Hash => false,
-    }
+    matches!(w.spot, Spot::Own)
 }
 
 fn is_name(w: Word) -> bool {
-    let spot = w.spot;
-    match spot {
-        Spot::Keyword => false,
-        Spot::Own => true,
-        Spot::Content => false,
-        Spot::Model => true,
-        Spot::Hash => false,
-    }
+    matches!(w.spot, Spot::Own | Spot::Model)
 }
 
 // Where a word ends of which all before a byte was seen.
@@ -74,14 +61,10 @@ fn word_end(text: &[u8], at: usize) -> usize
     ensures lower_bound { at ≤ result }
     ensures upper_bound { result ≤ length text.now }
 {
-    let mut end = at;
-    while end < text.len() {
-        if !text::name_byte(text[end]) {
-            return end;
-        }
-        end += 1;
+    match text[at..].iter().position(|b| !text::name_byte(*b)) {
+        Some(more) => at + more,
+        None => text.len(),
     }
-    end
 }
 
 // The first word from a byte on; none, which has no bytes, at the end.
@@ -92,8 +75,7 @@ fn next_word(text: &[u8], at: usize, from: Spot) -> Word
     ensures to_in_bounds { result.to ≤ length text.now }
 {
     let mut spot = from;
-    let mut i = at;
-    while i < text.len() {
+    for i in at..text.len() {
         if text::name_byte(text[i]) {
             return Word {
                 from: i,
@@ -102,11 +84,10 @@ fn next_word(text: &[u8], at: usize, from: Spot) -> Word
             };
         }
         spot = turned(spot, text[i]);
-        i += 1;
     }
     Word {
-        from: i,
-        to: i,
+        from: text.len(),
+        to: text.len(),
         spot: spot,
     }
 }
@@ -119,6 +100,7 @@ fn next_name(text: &[u8], at: usize, from: Spot) -> Word
     ensures to_in_bounds { result.to ≤ length text.now }
 {
     let mut w = next_word(text, at, from);
+    // A while: each step goes on behind the word that it found, which no range gives.
     while w.from < w.to {
         if is_name(w) {
             return w;
@@ -129,26 +111,72 @@ fn next_name(text: &[u8], at: usize, from: Spot) -> Word
     w
 }
 
-pub(crate) fn first_name(text: &[u8]) -> Word
-    ensures from_le_to { result.from ≤ result.to }
-    ensures to_in_bounds { result.to ≤ length text.now }
-{
-    next_name(text, 0, Spot::Keyword)
+// The names from a place on, in the order in which they stand.
+#[derive(Drop)]
+pub(crate) struct Names<'a> {
+    text: &'a [u8],
+    at: usize,
+    spot: Spot,
 }
 
-// The name behind another.
-pub(crate) fn after(text: &[u8], w: Word) -> Word
-    requires { w.to ≤ length text.now }
-    ensures to_le_from { w.to ≤ result.from }
+impl<'a> Iterator for Names<'a> {
+    type Item = Word;
+
+    ghost can_next = { λ s. s.at ≤ length s.text.now };
+
+    ghost next_gives = { λ old r new. (new.text.now ≡ old.text.now) × IfSome r (λ w. (w.from ≤ w.to) × (w.to ≤ length old.text.now)) };
+
+    ghost remaining = { λ s. at_most (length s.text.now - s.at) };
+
+    fn next(&mut self) -> Option<Word> {
+        let w = next_name(self.text, self.at, self.spot);
+        if w.from == w.to {
+            return None;
+        }
+        self.at = w.to;
+        self.spot = behind(w.spot);
+        Some(w)
+    }
+}
+
+// All names.
+pub(crate) fn all_names(text: &[u8]) -> Names<'_>
+    ensures at_start { result.at ≡ 0 }
+    ensures same_text { result.text.now ≡ text.now }
+{
+    Names {
+        text: text,
+        at: 0,
+        spot: Spot::Keyword,
+    }
+}
+
+// The names behind another.
+pub(crate) fn names_behind(text: &[u8], w: Word) -> Names<'_>
+    ensures at_end { result.at ≡ w.to }
+    ensures same_text { result.text.now ≡ text.now }
+{
+    Names {
+        text: text,
+        at: w.to,
+        spot: behind(w.spot),
+    }
+}
+
+// No name: it has no bytes, and stands at the end.
+pub(crate) fn no_name(text: &[u8]) -> Word
     ensures from_le_to { result.from ≤ result.to }
     ensures to_in_bounds { result.to ≤ length text.now }
 {
-    let spot = w.spot;
-    next_name(text, w.to, behind(spot))
+    Word {
+        from: text.len(),
+        to: text.len(),
+        spot: Spot::Content,
+    }
 }
 
 // Whether two names are spelled alike.
-fn is_same(text: &[u8], a: Word, b: Word) -> bool
+pub(crate) fn is_same(text: &[u8], a: Word, b: Word) -> bool
     requires from_le_to { a.from ≤ a.to }
     requires to_in_bounds { a.to ≤ length text.now }
     requires from_le_to_2 { b.from ≤ b.to }
@@ -161,24 +189,19 @@ fn is_same(text: &[u8], a: Word, b: Word) -> bool
     same_name(&text[first..end], &text[other_first..other_end])
 }
 
-// From one name on, the first that is spelled like another; of elements that are declared alone, or of all.
-fn alike_from(text: &[u8], start: Word, w: Word, own: bool) -> Word
-    requires from_le_to { start.from ≤ start.to }
-    requires to_in_bounds { start.to ≤ length text.now }
-    requires from_le_to_2 { w.from ≤ w.to }
-    requires to_in_bounds_2 { w.to ≤ length text.now }
-    ensures from_le_from { start.from ≤ result.from }
-    ensures from_le_to_3 { result.from ≤ result.to }
-    ensures to_in_bounds_3 { result.to ≤ length text.now }
+// Of some names of a text, the first that is spelled like another; of elements that are declared alone, or of all.
+fn alike(text: &[u8], names: Names<'_>, w: Word, own: bool) -> Option<Word>
+    requires at_in_bounds { names.at ≤ length text.now }
+    requires same_text { names.text.now ≡ text.now }
+    requires from_le_to { w.from ≤ w.to }
+    requires to_in_bounds { w.to ≤ length text.now }
 {
-    let mut e = start;
-    while e.from < e.to {
+    for e in names {
         if (is_own(e) | !own) & is_same(text, e, w) {
-            return e;
+            return Some(e);
         }
-        e = after(text, e);
     }
-    e
+    None
 }
 
 // Whether a name was not mentioned before.
@@ -186,8 +209,10 @@ pub(crate) fn is_new(text: &[u8], w: Word) -> bool
     requires from_le_to { w.from ≤ w.to }
     requires to_in_bounds { w.to ≤ length text.now }
 {
-    let e = alike_from(text, first_name(text), w, false);
-    e.from == w.from
+    match alike(text, all_names(text), w, false) {
+        Some(e) => e.from == w.from,
+        None => false,
+    }
 }
 
 // Whether an element with this name is declared.
@@ -195,19 +220,7 @@ pub(crate) fn is_declared(text: &[u8], w: Word) -> bool
     requires from_le_to { w.from ≤ w.to }
     requires to_in_bounds { w.to ≤ length text.now }
 {
-    let e = alike_from(text, first_name(text), w, true);
-    e.from < e.to
-}
-
-// The next declaration of an element with this name.
-pub(crate) fn again(text: &[u8], w: Word) -> Word
-    requires from_le_to { w.from ≤ w.to }
-    requires to_in_bounds { w.to ≤ length text.now }
-    ensures to_le_from { w.to ≤ result.from }
-    ensures from_le_to_2 { result.from ≤ result.to }
-    ensures to_in_bounds_2 { result.to ≤ length text.now }
-{
-    alike_from(text, after(text, w), w, true)
+    alike(text, all_names(text), w, true).is_some()
 }
 
 // Whether this is the first of several declarations of an element.
@@ -215,9 +228,11 @@ pub(crate) fn begins_several(text: &[u8], w: Word) -> bool
     requires from_le_to { w.from ≤ w.to }
     requires to_in_bounds { w.to ≤ length text.now }
 {
-    let first = alike_from(text, first_name(text), w, true);
-    let next = again(text, w);
-    (first.from == w.from) & (next.from < next.to)
+    let next = alike(text, names_behind(text, w), w, true);
+    match alike(text, all_names(text), w, true) {
+        Some(first) => (first.from == w.from) & next.is_some(),
+        None => false,
+    }
 }
 
 // The name of the element that is declared behind q others; none, which has no bytes, where there are not so many.
@@ -226,17 +241,15 @@ pub(crate) fn declaration(text: &[u8], q: usize) -> Word
     ensures to_in_bounds { result.to ≤ length text.now }
 {
     let mut left = q;
-    let mut w = first_name(text);
-    while w.from < w.to {
+    for w in all_names(text) {
         if is_own(w) {
             if left == 0 {
                 return w;
             }
             left -= 1;
         }
-        w = after(text, w);
     }
-    w
+    no_name(text)
 }
 
 // The name of an element as it is written.

@@ -1,9 +1,9 @@
 // What is said of declarations whose rules were printed: that they pass; or by name and line what is to be mended.
-ghost use Rattle.std.specs.Prelude.{◌+◌, ◌<◌, ◌≤◌, length};
+ghost use Rattle.std.specs.Prelude.{◌≤◌, length};
 
 use crate::names::{
-    Word, after, again, begins_several, declaration, first_name, is_declared, is_new, is_own,
-    tell_name,
+    Word, all_names, begins_several, declaration, is_declared, is_new, is_own, is_same,
+    names_behind, no_name, tell_name,
 };
 use places::Place;
 use std::num::wrapping_add_usize;
@@ -50,15 +50,7 @@ fn tell_joint(some: bool, joint: &[u8]) {
 
 // How many declarations there are.
 fn declarations(text: &[u8]) -> usize {
-    let mut n = 0;
-    let mut w = first_name(text);
-    while w.from < w.to {
-        if is_own(w) {
-            n = wrapping_add_usize(n, 1);
-        }
-        w = after(text, w);
-    }
-    n
+    all_names(text).filter(|w| is_own(*w)).count()
 }
 
 fn tell_passes(text: &[u8]) {
@@ -112,8 +104,7 @@ fn first_missing(text: &[u8]) -> Missing
     ensures to_in_bounds { result.word.to ≤ length text.now }
 {
     let mut number = 0;
-    let mut w = first_name(text);
-    while w.from < w.to {
+    for w in all_names(text) {
         if is_new(text, w) {
             if !is_declared(text, w) {
                 return Missing {
@@ -123,10 +114,9 @@ fn first_missing(text: &[u8]) -> Missing
             }
             number = wrapping_add_usize(number, 1);
         }
-        w = after(text, w);
     }
     Missing {
-        word: w,
+        word: no_name(text),
         number: number,
     }
 }
@@ -136,8 +126,7 @@ fn tell_other_missing(text: &[u8], first: Word, before: usize)
     requires { first.to ≤ length text.now }
 {
     let mut number = before;
-    let mut w = after(text, first);
-    while w.from < w.to {
+    for w in names_behind(text, first) {
         if is_new(text, w) {
             number = wrapping_add_usize(number, 1);
             if !is_declared(text, w) {
@@ -145,7 +134,6 @@ fn tell_other_missing(text: &[u8], first: Word, before: usize)
                 tell_missing(text, w, number);
             }
         }
-        w = after(text, w);
     }
 }
 
@@ -171,40 +159,33 @@ fn tell_several(text: &[u8], w: Word)
     tell_element(text, w);
     complain(b", at ");
     tell_line_of(text, w);
-    let mut e = again(text, w);
-    while e.from < e.to {
-        complain(b" and ");
-        tell_line_of(text, e);
-        e = again(text, e);
+    for e in names_behind(text, w) {
+        if is_own(e) & is_same(text, e, w) {
+            complain(b" and ");
+            tell_line_of(text, e);
+        }
     }
 }
 
 fn tell_repeated(text: &[u8]) {
     complain(b"An element is declared more than once: ");
     let mut some = false;
-    let mut w = first_name(text);
-    while w.from < w.to {
+    for w in all_names(text) {
         if is_own(w) & begins_several(text, w) {
             tell_joint(some, b"; ");
             tell_several(text, w);
             some = true;
         }
-        w = after(text, w);
     }
     complain(b". Keep one of its declarations.\n");
 }
 
-// Whether the entry of a list of faults at i is the first of rule S and its production.
-fn begins_production(list: &[u8], i: usize) -> bool
-    requires { i + 3 < length list.now }
-{
-    if list[i] != RULE_S {
-        return false;
+// The production that an entry of a list of faults names, where it is of rule S.
+fn production_in(entry: &[u8]) -> Option<u8> {
+    match entry {
+        [rule, production, ..] if *rule == RULE_S => Some(*production),
+        _ => None,
     }
-    if i < 4 {
-        return true;
-    }
-    (list[i - 4] != RULE_S) | (list[i - 3] != list[i + 1])
 }
 
 // The element of a production, which is the declaration behind as many.
@@ -219,19 +200,17 @@ fn tell_declaration(text: &[u8], q: u8) {
 // The elements of the first `count` faults of a list that are of rule S.
 fn tell_elements(text: &[u8], list: &[u8], count: usize) {
     let mut some = false;
-    let mut i = 0;
-    let mut done = 0;
-    while done < count {
-        if list.len() - i < 4 {
-            return;
+    let mut before = None;
+    for entry in list.chunks_exact(4).take(count) {
+        let here = production_in(entry);
+        if here != before {
+            if let Some(production) = here {
+                tell_joint(some, b", ");
+                tell_declaration(text, production);
+                some = true;
+            }
         }
-        if begins_production(list, i) {
-            tell_joint(some, b", ");
-            tell_declaration(text, list[i + 1]);
-            some = true;
-        }
-        i += 4;
-        done += 1;
+        before = here;
     }
 }
 

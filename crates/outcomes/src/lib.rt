@@ -44,13 +44,9 @@ fn say_front(tail: Tail, bytes: &[u8]) {
 fn productions_of(z: State) -> [u8; State::DEPTH]
     ensures { 32 ≡ length result }
 {
-    let frames = z.frames;
     let mut productions = [0u8; State::DEPTH];
-    let mut i = 0;
-    while i < State::DEPTH {
-        let frame = frames[i];
+    for (i, frame) in z.frames.iter().enumerate() {
         productions[i] = frame.production;
-        i += 1;
     }
     productions
 }
@@ -65,10 +61,7 @@ fn say_open_elements(sheet: &[u8], z: State, lines: Lines) {
 
 // Whether something else has to come: instead of what is no token, of an end tag that is another's, of what may not come, of an end that comes too early.
 fn is_misplaced(number: usize) -> bool {
-    match number {
-        20..=23 | 27 => true,
-        _ => false,
-    }
+    matches!(number, 20..=23 | 27)
 }
 
 // What may come instead, in the innermost open element.
@@ -85,9 +78,7 @@ fn say_instead(sheet: &[u8], number: usize, z: State) {
 
 // Whether some bytes start with a byte order mark.
 fn is_marked(bytes: &[u8]) -> bool {
-    (wrong::byte(bytes, 0) == 0xEF)
-        & (wrong::byte(bytes, 1) == 0xBB)
-        & (wrong::byte(bytes, 2) == 0xBF)
+    bytes.starts_with(b"\xEF\xBB\xBF")
 }
 
 // A byte order mark is a character like any other, and comes before the root.

@@ -1,12 +1,14 @@
 -- Laws of the text of a page: a byte behind it, 0s behind it, a byte in among the others. Assumes nothing.
-use mathlib.Core.Path.{◌≡◌, refl, sym, ◌∙◌, ap, ap₂}
+use mathlib.Core.Path.{◌≡◌, refl, sym, ◌∙◌, ap, ap₂, subst}
 use mathlib.Core.List.{List, [], ◌∷◌, ◌++◌, append-nil, append_assoc}
 use Prim.Native.Nat.{ℕ, zero, suc, ◌+◌, ◌-◌, ◌≤◌, ◌<◌}
 use native.Mathlib.Omega.{arith}
-use native.Mathlib.Numerals.{sub-one, add-one}
+use native.Mathlib.Numerals.{add-one}
 use borrow.Author.Tests.{lt-ltb, le-ltb}
-use lib.ListN.{length, take, drop, set, get_or, replicate, length-append, drop_of_length-le}
-use lib.Seq.{take_all, take_at, length-take-le, take-suc-set, take-set-lt, drop-set-lt, drop-cons, get_or-take, take-take}
+use lib.ListN.{length, take, drop, set, replicate, length-append, length-drop}
+use lib.Seq.{take_all, take_at, drop_at, length-take-le, take-suc-set, take-set-lt, set_split, take-append-le, take-take, paste}
+use Rattle.std.proofs.lemmas.List.{replicate_more, drop-take}
+use Rattle.std.proofs.lemmas.List.Edits.{take-paste}
 use Rattle.limits.specs.Limits.{longest_program}
 use Rattle.strokes.specs.Strokes.{written_on, inserted_at}
 
@@ -32,28 +34,8 @@ module _ (bs : List ℕ) (n : ℕ) (whole : length bs ≡ longest_program) where
       ∙ sym (take_all longest_program (take n bs ++ b ∷ []) (omega (arith, length-append (take n bs) (b ∷ []), length-take-le n bs (omega arith)))))
 
 -- 0s one by one
-pub zeros_on : (xs ys zs : List ℕ) (n : ℕ) → ys ≡ written_on xs (0 ∷ []) → 0 < n → written_on xs (replicate n 0) ≡ zs → written_on ys (replicate (n - 1) 0) ≡ zs
-zeros_on xs ys zs zero e h g = absurd (omega arith)
-zeros_on xs ys zs (suc n) e h g = rw sub-one (ap (λ z. written_on z (replicate n 0)) e ∙ (written_twice xs (0 ∷ []) (replicate n 0) ∙ g))
-
-pub zeros_over : (xs zs : List ℕ) (n : ℕ) → length xs ≤ longest_program → n ≤ 0 → written_on xs (replicate n 0) ≡ zs → xs ≡ zs
-zeros_over xs zs zero h g e = none_written xs h ∙ e
-zeros_over xs zs (suc n) h g e = absurd (omega arith)
-
--- each byte behind the place goes one on
-pub carried_on : (bs zs : List ℕ) (i n c d : ℕ) → i < n → n ≤ length bs → d ≡ get_or bs i 0 → take i bs ++ c ∷ drop i (take n bs) ≡ zs
-    → take (i + 1) (set bs i c) ++ d ∷ drop (i + 1) (take n (set bs i c)) ≡ zs
-carried_on bs zs i n c d h g e f =
-    rw (add-one i) (ap₂ (λ x y. x ++ d ∷ y) (take-suc-set bs i c (omega arith)) (ap (drop (suc i)) (take-set-lt n bs i c h) ∙ drop-set-lt (suc i) (take n bs) i c (omega arith))
-    ∙ (append_assoc (take i bs) (c ∷ []) (d ∷ drop (suc i) (take n bs))
-    ∙ (ap (λ z. take i bs ++ c ∷ z) (ap (λ z. z ∷ drop (suc i) (take n bs)) (e ∙ sym (get_or-take n bs i 0 h)) ∙ sym (drop-cons (take n bs) i 0 (omega (arith, length-take-le n bs g)))) ∙ f)))
-
-pub carried_over : (bs zs : List ℕ) (i n c : ℕ) → n ≤ i → i ≤ n → n < length bs → take i bs ++ c ∷ drop i (take n bs) ≡ zs → take (n + 1) (set bs n c) ≡ zs
-carried_over bs zs i n c h g k e =
-    let same : i ≡ n = omega arith in
-    rw (add-one n) (take-suc-set bs n c k
-    ∙ (ap (λ z. take n bs ++ c ∷ z) (sym (drop_of_length-le (take n bs) {i = n} (omega (arith, length-take-le n bs (omega arith)))))
-    ∙ (ap (λ m. take m bs ++ c ∷ drop m (take n bs)) (sym same) ∙ e)))
+pub zeros_more : (xs ys zs : List ℕ) (n : ℕ) → zs ≡ written_on ys (0 ∷ []) → ys ≡ written_on xs (replicate n 0) → zs ≡ written_on xs (replicate (n + 1) 0)
+zeros_more xs ys zs n e h = e ∙ (ap (λ z. written_on z (0 ∷ [])) h ∙ (written_twice xs (replicate n 0) (0 ∷ []) ∙ ap (written_on xs) (replicate_more n 0)))
 
 module _ (bs : List ℕ) (n at b : ℕ) (whole : length bs ≡ longest_program) (short : n ≤ longest_program) where
   long : length (take n bs) ≡ n
@@ -68,3 +50,19 @@ module _ (bs : List ℕ) (n at b : ℕ) (whole : length bs ≡ longest_program) 
   pub put_in_is : n < longest_program → at ≤ n → take at bs ++ b ∷ drop at (take n bs) ≡ inserted_at at b (take n bs)
   put_in_is h g =
       rw (lt-ltb (length (take n bs)) longest_program (omega (arith, long)), le-ltb (length (take n bs)) at (omega (arith, long))) (ap (λ z. z ++ b ∷ drop at (take n bs)) (sym (take-take at n bs g)))
+
+  -- each byte behind the place goes one on
+  pub moved_in : n < longest_program → at ≤ n → take (n + 1) (set (paste bs (at + 1) (drop at bs) (n - at)) at b) ≡ inserted_at at b (take n bs)
+  moved_in h g =
+      let moved : List ℕ = paste bs (at + 1) (drop at bs) (n - at) in
+      let rest : List ℕ = take (n - at) (drop at bs) in
+      let all : List ℕ = take (at + 1) bs ++ rest in
+      let f : length (take (at + 1) bs) ≡ at + 1 = length-take-le (at + 1) bs (omega arith) in
+      let k : at + 1 + (n - at) ≡ n + 1 = omega arith in
+      let t : take (n + 1) moved ≡ all = subst (λ m. take m moved ≡ all) k (take-paste bs (at + 1) (drop at bs) (n - at) (omega arith) (omega (arith, length-drop at bs))) in
+      let split : set all at b ≡ take at all ++ b ∷ drop (suc at) all = set_split all at b (omega (arith, length-append (take (at + 1) bs) rest)) in
+      let front : take at all ≡ take at bs = take-append-le at (take (at + 1) bs) rest (omega arith) ∙ take-take at (at + 1) bs (omega arith) in
+      let back : drop (suc at) all ≡ rest = drop_at (take (at + 1) bs) rest (suc at) (omega arith) in
+      let j : at + (n - at) ≡ n = omega arith in
+      let same : rest ≡ drop at (take n bs) = sym (drop-take at (n - at) bs) ∙ ap (λ m. drop at (take m bs)) j in
+      take-set-lt (n + 1) moved at b (omega arith) ∙ ap (λ z. set z at b) t ∙ split ∙ ap₂ (λ u v. u ++ b ∷ v) front (back ∙ same) ∙ put_in_is h g

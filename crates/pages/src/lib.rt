@@ -74,10 +74,8 @@ impl Page {
         ensures { PageIs (written_on (page_text self) (replicate n 0)) result }
     {
         let mut page = self;
-        let mut left = n;
-        while 0 < left {
+        for _ in 0..n {
             page = page.push(0);
-            left = left - 1;
         }
         page
     }
@@ -95,15 +93,8 @@ impl Page {
             return self;
         }
         let mut bytes = self.bytes;
-        let mut carried = b;
-        let mut i = at;
-        while i < len {
-            let next = bytes[i];
-            bytes[i] = carried;
-            carried = next;
-            i = i + 1;
-        }
-        bytes[len] = carried;
+        bytes.copy_within(at..len, at + 1);
+        bytes[at] = b;
         Page {
             bytes: bytes,
             len: len + 1,
@@ -198,17 +189,15 @@ impl Stack {
     {
         let items = self.items;
         let mut zeros = 0;
-        let mut i = self.count;
-        while 0 < i {
-            let m = items[i - 1];
+        for i in (0..self.count).rev() {
+            let m = items[i];
             if m == 0 {
                 return Ends {
                     zeros: zeros,
-                    left: i,
+                    left: i + 1,
                 };
             }
-            zeros = zeros + zeros_of(m);
-            i = i - 1;
+            zeros += zeros_of(m);
         }
         Ends {
             zeros: zeros,
@@ -223,17 +212,15 @@ impl Stack {
     {
         let items = self.items;
         let mut zeros = 1;
-        let mut i = self.count;
-        while 0 < i {
-            let m = items[i - 1];
+        for i in (0..self.count).rev() {
+            let m = items[i];
             if m != 1 {
                 return Ends {
                     zeros: zeros,
-                    left: i,
+                    left: i + 1,
                 };
             }
-            zeros = zeros + 1;
-            i = i - 1;
+            zeros += 1;
         }
         Ends {
             zeros: zeros,

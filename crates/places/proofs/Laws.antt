@@ -1,6 +1,10 @@
 -- Laws of lines and columns: what one byte more changes in a count, and the last line of bytes that are put together.
 -- Assumes nothing.
 use Rattle.std.proofs.Common.{◌≡◌, ℕ, zero, suc, ◌+◌, ◌-◌, ◌%◌, ◌^◌, ◌<◌, ◌≤◌, Bool, true, false, cond, not, ◌&&◌, ◌||◌, eqb, List, [], ◌∷◌, ◌++◌, length, get_or, drop, sym, refl, ap, ◌∙◌, subst, mod-eq_of_lt, add-one, arith, length-append, length-drop, drop_of_length-le, drop-cons, le-ltb, lt-ltb, eq-eqb, ne_eqb, eqb-true}
+use Rattle.std.specs.List.{position, position_or_len, count_by}
+use Rattle.std.specs.Prelude.{Option, Some, None, unwrap_or}
+use Rattle.std.proofs.Common.{ltb, ltb-false}
+use Rattle.std.proofs.lemmas.List.Recursion.{is_count_by, is_position_or_len}
 use lib.Seq.{drop-length, drop-append_seam}
 use borrow.Author.Tests.{eqb-false}
 use Rattle.places.specs.Lines.{goes_on, line_feed_first, ends_line, how_many, line_ends, last_line, LastLineAt, starts, characters_in, leading, LeadingIs, character_start, uncut, UncutIs, PlaceIs}
@@ -70,25 +74,44 @@ module _ (test : ℕ → List ℕ → Bool) where
   unfolding how_many
   counts_all s i n end inv = omega (arith, ap (how_many test) (drop_of_length-le s {i = i} end))
 
--- the bytes at the start that keep a test, one byte on, and where they end
+-- the bytes at the start that keep a test end where the first is that does not
 
 module _ (test : ℕ → Bool) where
-  rest_at : (s : List ℕ) (i : ℕ) → i < length s → leading test (drop i s) ≡ cond (test (get_or s i 0)) (1 + leading test (drop (suc i) s)) 0
+  leading_few : (s : List ℕ) → leading test s ≤ length s
   unfolding leading
-  rest_at s i h = ap (leading test) (drop-cons s i 0 h)
+  leading_few [] = omega arith
+  leading_few (b ∷ s) = by (test b) (leading_few s) where
+    by : (t : Bool) → leading test s ≤ length s → cond t (1 + leading test s) 0 ≤ suc (length s)
+    by true rest = omega arith
+    by false rest = omega arith
 
-  pub rest_on : (s : List ℕ) (i : ℕ) → i < length s → i + leading test (drop i s) ≡ leading test s → test (get_or s i 0) ≡ true
-      → i + 1 + leading test (drop (i + 1) s) ≡ leading test s
-  rest_on s i h inv e = rw (add-one i) (omega (arith, rest_at s i h ∙ ap (λ t. cond t (1 + leading test (drop (suc i) s)) 0) e))
-
-  pub rest_stops : (s : List ℕ) (i : ℕ) → i < length s → i + leading test (drop i s) ≡ leading test s → test (get_or s i 0) ≡ false → LeadingIs test s i
-  rest_stops s i h inv e =
-      let none : leading test (drop i s) ≡ 0 = rest_at s i h ∙ ap (λ t. cond t (1 + leading test (drop (suc i) s)) 0) e in
-      record { within = omega arith; count = omega arith }
-
-  pub rest_ends : (s : List ℕ) (i : ℕ) → i ≤ length s → length s ≤ i → i + leading test (drop i s) ≡ leading test s → LeadingIs test s i
+  first_outside : (s : List ℕ) → position_or_len (λ b. not (test b)) s ≡ leading test s
   unfolding leading
-  rest_ends s i h end inv = record { within = h; count = omega (arith, ap (leading test) (drop_of_length-le s {i = i} end)) }
+  first_outside s = sym (is_position_or_len (leading test) (λ b. not (test b)) refl (λ b s. by (test b) (leading test s)) s)
+    where
+      by : (t : Bool) (n : ℕ) → cond t (1 + n) 0 ≡ cond (not t) 0 (1 + n)
+      by true n = refl
+      by false n = refl
+
+  pub leading_is : (s : List ℕ) (o : Option ℕ) (r : ℕ) → o ≡ position (λ b. not (test b)) s → r ≡ unwrap_or o (length s) → LeadingIs test s r
+  leading_is s o r found else_all =
+      let n = position_or_len (λ b. not (test b)) s in
+      let same : r ≡ unwrap_or (cond (ltb n (length s)) (Some n) None) (length s) = else_all ∙ ap (λ o. unwrap_or o (length s)) found in
+      by (ltb n (length s)) refl same (first_outside s) (leading_few s)
+    where
+      by : (t : Bool) → ltb (position_or_len (λ b. not (test b)) s) (length s) ≡ t → r ≡ unwrap_or (cond t (Some (position_or_len (λ b. not (test b)) s)) None) (length s)
+          → position_or_len (λ b. not (test b)) s ≡ leading test s → leading test s ≤ length s → LeadingIs test s r
+      by true e same is few = record { within = omega arith; count = omega arith }
+      by false e same is few = let all : length s ≤ position_or_len (λ b. not (test b)) s = ltb-false (position_or_len (λ b. not (test b)) s) (length s) e in record { within = omega arith; count = omega arith }
+
+-- the characters are the bytes that go on none
+pub characters_counted : (s : List ℕ) → characters_in s ≡ count_by (λ b. not (goes_on b)) s
+unfolding how_many
+characters_counted s = is_count_by characters_in (λ b. not (goes_on b)) refl (λ b s. by (not (goes_on b)) (characters_in s)) s
+  where
+    by : (t : Bool) (n : ℕ) → cond t 1 0 + n ≡ cond t (1 + n) n
+    by true n = refl
+    by false n = omega arith
 
 -- the start of a character is sought from n backwards: it is found, it is one byte further back, and it is not there
 
@@ -150,9 +173,9 @@ last_at s j h none e =
     (last_from j s (omega arith) ∙ ap last_line parts ∙ last_behind (get_or s j 0) (drop (suc j) s) (omega (arith, ap line_ends parts))
     ∙ last_none (drop (suc j) s) none)
 
-pub last_found : (s : List ℕ) (i j : ℕ) → suc j ≡ i → i ≤ length s → line_ends (drop i s) ≡ 0 → ends_line (get_or s j 0) (drop (suc j) s) ≡ true → LastLineAt s i
+pub last_found : (s : List ℕ) (i j : ℕ) → suc j ≡ i → i ≤ length s → line_ends (drop i s) ≡ 0 → ends_line (get_or s j 0) (drop (suc j) s) ≡ true → LastLineAt s (j + 1)
 last_found s i j at h none e =
-    record { within = h; line = subst (λ k. drop k s ≡ last_line s) at (last_at s j (omega arith) (subst (λ k. line_ends (drop k s) ≡ 0) (sym at) none) e) }
+    rw (add-one j) (record { within = omega arith; line = last_at s j (omega arith) (subst (λ k. line_ends (drop k s) ≡ 0) (sym at) none) e })
 
 pub none_before : (s : List ℕ) (i j : ℕ) → suc j ≡ i → i ≤ length s → line_ends (drop i s) ≡ 0 → ends_line (get_or s j 0) (drop (suc j) s) ≡ false → line_ends (drop j s) ≡ 0
 none_before s i j at h none e = left ends_line s j (omega arith) e ∙ subst (λ k. line_ends (drop k s) ≡ 0) (sym at) none

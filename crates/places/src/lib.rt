@@ -2,7 +2,7 @@
 
 #![tactic(auto)]
 
-ghost use Rattle.std.specs.Prelude.{◌≡◌, suc, ◌-◌, ◌<◌, ◌≤◌, [], length, drop, slice_index};
+ghost use Rattle.std.specs.Prelude.{◌≡◌, suc, ◌<◌, ◌≤◌, [], length, drop, slice_index};
 ghost use Rattle.places.specs.Lines.{goes_on, ends_line, line_ends, LastLineAt, characters_in, GoesOnTo, LineGoesTo, in_line, UncutIs, PlaceIs, Passes};
 ghost use Rattle.places.specs.Shown.{ShownFrom};
 
@@ -52,12 +52,10 @@ pub fn ends_line(bytes: &[u8], i: usize) -> bool
 pub fn last_line(bytes: &[u8]) -> usize
     ensures { LastLineAt bytes.now result }
 {
-    let mut i = bytes.len();
-    while 0 < i {
-        if ends_line(bytes, i - 1) {
-            return i;
+    for i in (0..bytes.len()).rev() {
+        if ends_line(bytes, i) {
+            return i + 1;
         }
-        i -= 1;
     }
     0
 }
@@ -66,15 +64,7 @@ pub fn last_line(bytes: &[u8]) -> usize
 fn characters(bytes: &[u8]) -> u64
     ensures { result ≡ characters_in bytes.now }
 {
-    let mut n: u64 = 0;
-    let mut i = 0;
-    while i < bytes.len() {
-        if !goes_on(bytes[i]) {
-            n = wrapping_add_u64(n, 1);
-        }
-        i += 1;
-    }
-    n
+    bytes.iter().filter(|b| !goes_on(**b)).count() as u64
 }
 
 // How many lines end in some bytes.
@@ -82,12 +72,10 @@ pub fn line_ends(bytes: &[u8]) -> u64
     ensures { result ≡ line_ends bytes.now }
 {
     let mut n: u64 = 0;
-    let mut i = 0;
-    while i < bytes.len() {
+    for i in 0..bytes.len() {
         if ends_line(bytes, i) {
             n = wrapping_add_u64(n, 1);
         }
-        i += 1;
     }
     n
 }
@@ -131,14 +119,10 @@ impl Place {
 fn rest_of_character(bytes: &[u8]) -> usize
     ensures { GoesOnTo bytes.now result }
 {
-    let mut i = 0;
-    while i < bytes.len() {
-        if !goes_on(bytes[i]) {
-            return i;
-        }
-        i += 1;
-    }
-    i
+    bytes
+        .iter()
+        .position(|b| !goes_on(*b))
+        .unwrap_or(bytes.len())
 }
 
 // The most bytes that are shown of a line before a place, and behind it.
@@ -188,10 +172,8 @@ pub fn say_line_before(bytes: &[u8]) -> usize {
 
 // So many spaces.
 fn tell_spaces(fd: i32, n: usize) {
-    let mut i = 0;
-    while i < n {
+    for _ in 0..n {
         tell(fd, b" ");
-        i += 1;
     }
 }
 
@@ -205,28 +187,22 @@ pub fn say_mark(column: usize) {
     tell_mark(STDOUT_FILENO, column);
 }
 
-// A number, or the one before it.
-fn before(i: usize) -> usize
-    ensures { result ≡ i - 1 }
-{
-    if i == 0 { 0 } else { i - 1 }
-}
+// The bytes of the longest character.
+const LONGEST_CHARACTER: usize = 4;
 
-// As many of the first n bytes as cut no character: what is left out starts with one. No character has more than 4 bytes.
+// As many of the first n bytes as cut no character: what is left out starts with one.
 pub fn uncut(bytes: &[u8], n: usize) -> usize
     ensures { UncutIs bytes.now n result }
 {
     if bytes.len() <= n {
         return bytes.len();
     }
-    let mut left: usize = 4;
     let mut i = n;
-    while 0 < left {
+    for _passed in 0..LONGEST_CHARACTER {
         if !goes_on(bytes[i]) {
             return i;
         }
-        i = before(i);
-        left -= 1;
+        i = i.saturating_sub(1);
     }
     n
 }
@@ -242,14 +218,10 @@ fn in_line(b: u8) -> bool
 fn rest_of_line(bytes: &[u8]) -> usize
     ensures { LineGoesTo bytes.now result }
 {
-    let mut i = 0;
-    while i < bytes.len() {
-        if !in_line(bytes[i]) {
-            return i;
-        }
-        i += 1;
-    }
-    i
+    bytes
+        .iter()
+        .position(|b| !in_line(*b))
+        .unwrap_or(bytes.len())
 }
 
 fn tell_rest_of_line(fd: i32, bytes: &[u8]) {

@@ -89,6 +89,7 @@ pub fn find(text: &[u8], wanted: Wanted) -> Halt
         posts: 0,
     };
     let mut g = look(text, first);
+    // A while: each look goes on behind the token that it read, which no range gives.
     while g.going {
         let r = g.reader;
         if meets(m, wanted, g.kind, g.number) {

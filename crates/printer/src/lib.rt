@@ -51,11 +51,9 @@ fn put_characters(f: &[u8], out: &mut [u8], at: usize, write: bool) -> usize
     requires { at + 2 * length f.now ≤ farthest }
     ensures { PutAs write out.old at (all_in_string f.now) out.new result }
 {
-    let mut i = 0;
     let mut n = at;
-    while i < f.len() {
-        n = put_in_string(out, n, f[i], write);
-        i = i + 1;
+    for b in f {
+        n = put_in_string(out, n, *b, write);
     }
     n
 }

@@ -1,13 +1,13 @@
 -- Whole characters, one by one from the front: what is left is whole characters exactly when all was.
 -- Assumes nothing.
 use mathlib.Core.Path.{◌≡◌, refl, sym, ap, ◌∙◌, subst}
-use mathlib.Core.Bool.{Bool, true, false}
+use mathlib.Core.Bool.{Bool}
 use mathlib.Core.List.{List, [], ◌∷◌, ◌++◌, append_assoc, append-nil, append_cancel_left}
 use Prim.Native.Nat.{ℕ, ◌+◌, ◌-◌, ◌≤◌, ◌<◌}
 use native.Mathlib.Omega.{arith}
 use lib.ListN.{length, take, drop, length-append, length-drop}
 use lib.Seq.{take_all, drop-drop, drop-append_seam}
-use Rattle.text.specs.Chars.{Char, utf8, Starts, Begins, Apart, DecodedIs}
+use Rattle.text.specs.Chars.{Char, utf8, DecodedIs}
 use Rattle.text.specs.declared.Decoded.{Decoded}
 use Rattle.text.specs.declared.Decoded.TheVariants.{Whole, Begun, Bad}
 use Rattle.text.proofs.Unique.{char_one}

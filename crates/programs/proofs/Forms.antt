@@ -2,20 +2,20 @@
 -- Assumes nothing.
 use mathlib.Core.Path.{◌≡◌, refl, sym, ap, ap₂, ◌∙◌, subst}
 use mathlib.Core.Logic.{◌⊎◌, inl, inr, ⊎_elim}
-use mathlib.Core.Bool.{Bool, true, false, ◌&&◌}
-use mathlib.Core.List.{List, [], ◌∷◌, ◌++◌, append_assoc, head-eq_of_cons-eq, tail-eq_of_cons-eq}
-use Prim.Native.Nat.{ℕ, zero, suc, ◌+◌, ◌*◌, ◌-◌, ◌/◌, ◌%◌, ◌≤◌, ◌<◌, max}
+use mathlib.Core.Bool.{Bool, true, false}
+use mathlib.Core.List.{List, [], ◌∷◌, ◌++◌}
+use Prim.Native.Nat.{ℕ, zero, suc, ◌+◌, ◌*◌, ◌-◌, ◌/◌, ◌%◌, ◌≤◌, ◌<◌}
 use native.Mathlib.Omega.{arith}
 use native.Mathlib.Nat.{add_assoc, eq-or-lt_of_le}
 use lib.ListN.{length, get_or, drop}
 use Rattle.text.specs.Chars.{Starts}
-use Rattle.programs.specs.Program.{Operand, constant, current, recalled, operand_bytes, Condition, equal, negated, both, either, condition_bytes, Statement, become, copy, recall, reject, print_start, print_end, print_text, echo, branch, echo_byte, statement_bytes, Program, done, step, program_bytes}
+use Rattle.programs.specs.Program.{Operand, constant, current, recalled, operand_bytes, Condition, equal, negated, both, either, condition_bytes, Statement, become, copy, recall, reject, print_start, print_end, print_text, echo, branch, statement_bytes, Program, done, step, program_bytes}
 use Rattle.programs.specs.Bounds.{bounds}
-use Rattle.programs.specs.Limits.{Attribute, Value, OperandFits, ConditionFits, StatementFits, StatementsFit, Printable, Visit, first, second, operand_allowed, condition_allowed, statement_allowed, allowed, condition_nesting, statement_nesting, nesting}
-use Rattle.programs.specs.Parsed.{ParsedAs, whole, none, OperandAt, ConditionAt, StatementAt, PlainAt, ListAt, ConditionWithin, StatementWithin, ListWithin}
+use Rattle.programs.specs.Limits.{Attribute, Value, OperandFits, StatementFits, Printable, first, second, operand_allowed, condition_allowed, statement_allowed, allowed, statement_nesting}
+use Rattle.programs.specs.Parsed.{whole, none, OperandAt, ConditionAt, StatementAt, PlainAt, ListAt, ConditionWithin, StatementWithin, ListWithin}
 use Rattle.programs.specs.declared.Parsed.{Parsed}
 use Rattle.programs.specs.declared.Parsed.TheVariants.{Whole, Bad}
-use Rattle.programs.proofs.Agree.{OperandForm, operand_form, ConditionForm, condition_form, StatementForm, statement_form, not_closing}
+use Rattle.programs.proofs.Agree.{ConditionForm, condition_form, StatementForm, statement_form}
 use Rattle.programs.proofs.Reading.{Kind, Reads, then, no_first, marked, at_byte, after_byte, seen_as, byte_of, first_byte}
 
 abbrev pub operands : Kind

@@ -1,9 +1,9 @@
 -- Readings made of readings: one after another, after a first byte, and of one kind as of another. Over every kind that has bytes.
 -- Assumes nothing.
-use mathlib.Core.Path.{◌≡◌, refl, sym, ap, ◌∙◌, subst}
-use mathlib.Core.Bool.{Bool, true, false, ◌&&◌}
-use mathlib.Core.List.{List, [], ◌∷◌, ◌++◌, append_assoc, append_cancel_left, head-eq_of_cons-eq, tail-eq_of_cons-eq}
-use Prim.Native.Nat.{ℕ, zero, suc, ◌+◌, ◌-◌, ◌≤◌, ◌<◌}
+use mathlib.Core.Path.{◌≡◌, refl, sym, ap, ◌∙◌}
+use mathlib.Core.Bool.{Bool, ◌&&◌}
+use mathlib.Core.List.{List, ◌∷◌, ◌++◌, append_assoc, tail-eq_of_cons-eq}
+use Prim.Native.Nat.{ℕ, ◌+◌, ◌≤◌, ◌<◌}
 use native.Mathlib.Omega.{arith}
 use native.Mathlib.Numerals.{add-one}
 use native.Mathlib.Nat.{add-zero}
@@ -11,7 +11,6 @@ use lib.ListN.{length, get_or, drop, length-append, length-drop, get_or-append}
 use lib.Seq.{drop-cons, drop-drop, drop-append_seam, get_or-drop}
 use Rattle.text.specs.Chars.{Starts}
 use Rattle.programs.specs.Limits.{Visit, first, second}
-use Rattle.tells.specs.Tells.{Tells, holds, fails}
 use Rattle.programs.specs.Parsed.{ParsedAs, whole, none}
 use Rattle.programs.specs.declared.Parsed.{Parsed}
 use Rattle.programs.specs.declared.Parsed.TheVariants.{Whole, Bad}

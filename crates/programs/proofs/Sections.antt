@@ -3,15 +3,15 @@
 use mathlib.Core.Path.{◌≡◌, refl, sym, ap, ◌∙◌, subst}
 use mathlib.Core.Bool.{Bool, true, false, true≢false}
 use mathlib.Core.List.{List, [], ◌∷◌, ◌++◌, append_assoc, head-eq_of_cons-eq, tail-eq_of_cons-eq}
-use mathlib.Core.Option.{Option, none, some}
+use mathlib.Core.Option.{Option, some}
 use Prim.Native.Nat.{ℕ, ◌+◌, ◌-◌, ◌≤◌, ◌<◌, min}
 use native.Mathlib.Omega.{arith}
 use lib.ListN.{length, take, drop, length-append, length-take, length-drop, take-append-drop}
 use lib.Seq.{take-add, drop_at, length-take-le, take-append-add}
 use Rattle.text.specs.Chars.{Starts}
 use Rattle.programs.specs.Program.{Program, program_bytes}
-use Rattle.programs.specs.Limits.{IsProgram, Visit, first, second, allowed}
-use Rattle.programs.specs.Section.{back_to_back, AllPrograms, Fill, StartOf, FieldIs, no_program, names}
+use Rattle.programs.specs.Limits.{IsProgram, Visit, allowed}
+use Rattle.programs.specs.Section.{back_to_back, Fill, StartOf, FieldIs, no_program, names}
 use Rattle.tells.specs.Tells.{Tells, holds, fails}
 use Rattle.programs.specs.Parsed.{whole, ListAt, ProgramAt, Filled, which_visit, FieldTold}
 use Rattle.programs.specs.Parsed as parsed

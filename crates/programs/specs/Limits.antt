@@ -1,6 +1,6 @@
 -- Which programs a sheet may have: attributes, values, tag numbers, print ranges, nesting, length, and the visit that each statement and operand needs.
 -- Assumes nothing.
-use Rattle.std.specs.Prelude.{◌≡◌, Bool, true, false, ◌&&◌, List, [], ◌∷◌, ◌++◌, ℕ, suc, ◌+◌, ◌≤◌, ◌<◌, max, length, take, drop}
+use Rattle.std.specs.Prelude.{Bool, true, false, ◌&&◌, List, ℕ, suc, ◌+◌, ◌≤◌, ◌<◌, max, length, take, drop}
 use Rattle.limits.specs.Limits.{longest_program, deepest_program}
 use Rattle.text.specs.Characters.{WholeCharacters}
 use Rattle.programs.specs.Bounds.{Bounds, bounds, AttributeIn, ValueIn}

@@ -3,7 +3,7 @@ use Rattle.std.specs.Prelude.{◌≡◌, Bool, true, false, List, ℕ, ◌+◌, 
 use Rattle.std.proofs.Math.Option.{Option}
 use Rattle.text.specs.Chars.{Starts}
 use Rattle.tells.specs.Tells.{Tells}
-use Rattle.programs.specs.Program.{Operand, operand_bytes, Condition, condition_bytes, Statement, statement_bytes, Program, program_bytes}
+use Rattle.programs.specs.Program.{operand_bytes, Condition, condition_bytes, Statement, statement_bytes, Program, program_bytes}
 use Rattle.programs.specs.Limits.{OperandFits, ConditionFits, condition_nesting, StatementFits, StatementsFit, statement_nesting, nesting, IsProgram, Visit, first, second, operand_allowed, condition_allowed, statement_allowed, allowed}
 use Rattle.programs.specs.Section.{Fill, FieldIs}
 use Rattle.programs.specs.declared.Parsed.{Parsed}

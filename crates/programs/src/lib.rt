@@ -33,18 +33,6 @@ pub enum Parsed {
     Bad,
 }
 
-fn both(a: bool, b: bool) -> bool
-    ensures { result ≡ a && b }
-{
-    if a { b } else { false }
-}
-
-fn smaller(a: usize, b: usize) -> usize
-    ensures { result ≡ min a b }
-{
-    if a < b { a } else { b }
-}
-
 fn operand(s: &[u8], i: usize) -> Parsed
     ensures { OperandAt s.now i result }
 {
@@ -92,7 +80,7 @@ fn comparison(s: &[u8], i: usize, room: usize) -> Parsed
     let Parsed::Whole(n, c, d) = operand(s, j) else {
         return Parsed::Bad;
     };
-    Parsed::Whole(n, both(a, c), both(b, d))
+    Parsed::Whole(n, a & c, b & d)
 }
 
 fn condition(s: &[u8], i: usize, room: usize) -> Parsed
@@ -120,18 +108,19 @@ fn condition(s: &[u8], i: usize, room: usize) -> Parsed
     let Parsed::Whole(n, c, d) = condition(s, j, room - 1) else {
         return Parsed::Bad;
     };
-    Parsed::Whole(n, both(a, c), both(b, d))
+    Parsed::Whole(n, a & c, b & d)
 }
 
 fn whole_characters(f: &[u8]) -> bool
     ensures { Tells (WholeCharacters f.now) result }
 {
-    let mut i = 0;
-    while i < f.len() {
-        let text::Decoded::Whole(_, n) = text::decode(&f[i..]) else {
+    // A while: each step goes on past the character that it read, which no range gives.
+    let mut rest = f;
+    while !rest.is_empty() {
+        let text::Decoded::Whole(_, n) = text::decode(rest) else {
             return false;
         };
-        i += n;
+        rest = &rest[n..];
     }
     true
 }
@@ -166,12 +155,6 @@ fn two_numbers(s: &[u8], i: usize, a: u8, b: u8) -> bool
     true
 }
 
-fn wide(x: u8) -> usize
-    ensures { (result ≡ x) × (result < 256) }
-{
-    x as usize
-}
-
 // The number after the first byte is there, and the number of a tag.
 fn tag_number(s: &[u8], i: usize, tags: usize) -> bool
     requires { i < length s.now }
@@ -180,7 +163,7 @@ fn tag_number(s: &[u8], i: usize, tags: usize) -> bool
     if s.len() - i < 2 {
         return false;
     }
-    if tags <= wide(s[i + 1]) {
+    if tags <= usize::from(s[i + 1]) {
         return false;
     }
     true
@@ -194,9 +177,9 @@ fn text_range(s: &[u8], i: usize, strings: &[u8]) -> bool
     if s.len() - i < 4 {
         return false;
     }
-    let low = wide(s[i + 1]);
-    let high = wide(s[i + 2]);
-    let n = wide(s[i + 3]);
+    let low = usize::from(s[i + 1]);
+    let high = usize::from(s[i + 2]);
+    let n = usize::from(s[i + 3]);
     printable(strings, low + 256 * high, n)
 }
 
@@ -283,7 +266,7 @@ fn statement(s: &[u8], i: usize, tags: usize, strings: &[u8], room: usize) -> Pa
     let Parsed::Whole(n, e, f) = list(s, m, tags, strings, room - 1) else {
         return Parsed::Bad;
     };
-    Parsed::Whole(n, both(a, both(c, e)), both(b, both(d, f)))
+    Parsed::Whole(n, a & (c & e), b & (d & f))
 }
 
 // The statements from i on with the 0 that ends them.
@@ -303,7 +286,7 @@ fn list(s: &[u8], i: usize, tags: usize, strings: &[u8], room: usize) -> Parsed
     let Parsed::Whole(n, c, d) = list(s, j, tags, strings, room) else {
         return Parsed::Bad;
     };
-    Parsed::Whole(n, both(a, c), both(b, d))
+    Parsed::Whole(n, a & c, b & d)
 }
 
 // The program that lies at i. Only as many bytes are read as a program may have.
@@ -313,7 +296,7 @@ pub fn program(section: &[u8], i: usize, tags: usize, strings: &[u8]) -> Parsed
     if section.len() <= i {
         return Parsed::Bad;
     }
-    let e = i + smaller(section.len() - i, LONGEST);
+    let e = i + (section.len() - i).min(LONGEST);
     list(&section[0..e], i, tags, strings, DEEPEST)
 }
 
@@ -321,6 +304,7 @@ pub fn program(section: &[u8], i: usize, tags: usize, strings: &[u8]) -> Parsed
 pub fn programs_fill(section: &[u8], tags: usize, strings: &[u8]) -> bool
     ensures { Tells (Filled tags strings.now section.now) result }
 {
+    // A while: each step goes on past the program that it read, which no range gives.
     let mut i = 0;
     while i < section.len() {
         let Parsed::Whole(n, _, _) = program(section, i, tags, strings) else {
@@ -340,6 +324,7 @@ pub fn field_fits(section: &[u8], tags: usize, strings: &[u8], field: usize, sec
     if field == NONE {
         return true;
     }
+    // A while: each step goes on past the program that it read, which no range gives.
     let mut i = 0;
     while i < field {
         let Parsed::Whole(n, _, _) = program(section, i, tags, strings) else {

@@ -16,21 +16,16 @@ const LONGEST: usize = 15;
 
 // Whether a name is being read.
 fn is_in_name(station: Station) -> bool {
-    match station {
-        Station::Named => true,
-        Station::MixedName => true,
-        Station::InName => true,
-        _ => false,
-    }
+    matches!(
+        station,
+        Station::Named | Station::MixedName | Station::InName
+    )
 }
 
 // Whether a name is being read, or may begin.
 fn is_at_name(station: Station) -> bool {
     match station {
-        Station::Naming => true,
-        Station::Inside => true,
-        Station::Barred => true,
-        Station::Wants => true,
+        Station::Naming | Station::Inside | Station::Barred | Station::Wants => true,
         _ => is_in_name(station),
     }
 }

@@ -17,14 +17,10 @@ pub(crate) struct Reached {
 fn behind_opening(bytes: &[u8]) -> usize
     ensures { result ≤ length bytes.now }
 {
-    let mut i = bytes.len();
-    while 0 < i {
-        if bytes[i - 1] == b'<' {
-            return i;
-        }
-        i -= 1;
+    match bytes.iter().rposition(|b| *b == b'<') {
+        Some(i) => i + 1,
+        None => 0,
     }
-    0
 }
 
 // One byte further in a declaration, or behind it.
@@ -52,13 +48,7 @@ fn passed(r: Reached, b: u8) -> Reached {
 
 // Some bytes further.
 fn passed_all(from: Reached, bytes: &[u8]) -> Reached {
-    let mut r = from;
-    let mut i = 0;
-    while i < bytes.len() {
-        r = passed(r, bytes[i]);
-        i += 1;
-    }
-    r
+    bytes.iter().fold(from, |r, b| passed(r, *b))
 }
 
 // Behind a text that is right so far, in which < stands only where a declaration begins.
@@ -96,8 +86,7 @@ fn takes(h: Headway, b: u8) -> bool {
             is_within(strata::measure(next))
         }
         Fate::Over => true,
-        Fate::Refused => false,
-        Fate::Deep => false,
+        Fate::Refused | Fate::Deep => false,
     }
 }
 
@@ -148,15 +137,10 @@ fn tell_words(h: Headway) {
 
 // The signs ( ? * + , | ) > that may stand here.
 fn tell_signs(h: Headway) {
-    let signs: [u8; 8] = [40, 63, 42, 43, 44, 124, 41, 62];
-    let mut k = 0;
-    while k < 8 {
-        let sign = signs[k];
-        if takes(h, sign) {
-            let spaced: [u8; 2] = [32, sign];
-            complain(&spaced);
+    for sign in b"(?*+,|)>" {
+        if takes(h, *sign) {
+            complain(&[b' ', *sign]);
         }
-        k += 1;
     }
 }
 

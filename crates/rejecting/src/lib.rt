@@ -57,17 +57,15 @@ fn first_rejecting(s: &[u8], l: Layout, q: usize, line: &[u8], z: Live) -> usize
     requires well_formed { WellFormed s.now }
     ensures { (b : List ℕ) → FirstBracketAs s.now q line.now (full z b) result }
 {
-    let mut i = 0;
-    while i < line.len() {
+    for i in 0..line.len() {
         let end = i + 1;
         let mut unwritten = [0u8; 1];
         let done = acts::brackets(s, l, q, &line[..end], z, &mut unwritten, 0, false);
         if !done.ok {
             return i;
         }
-        i = end;
     }
-    i
+    line.len()
 }
 
 // The visit of a bracket by its byte, of which half is the node: an odd one closes it.

@@ -25,8 +25,7 @@ fn say_alike(s: &[u8], l: Layout, m: usize, t: usize)
     requires { LaidOut s.now l }
 {
     let mut some = false;
-    let mut q = 0;
-    while q < l.productions {
+    for q in 0..l.productions {
         if is_alike(s, l, q, m, t) {
             if some {
                 say(b", ");
@@ -34,7 +33,6 @@ fn say_alike(s: &[u8], l: Layout, m: usize, t: usize)
             say_number(q);
             some = true;
         }
-        q += 1;
     }
 }
 
@@ -42,12 +40,10 @@ fn say_alike(s: &[u8], l: Layout, m: usize, t: usize)
 fn say_places_alike(s: &[u8], l: Layout, m: usize, t: usize, text: &[u8])
     requires { LaidOut s.now l }
 {
-    let mut q = 0;
-    while q < l.productions {
+    for q in 0..l.productions {
         if is_alike(s, l, q, m, t) {
             crate::pointing::say_production(text, q);
         }
-        q += 1;
     }
 }
 
@@ -212,14 +208,7 @@ pub(crate) fn say_all(s: &[u8], l: Layout, list: &[u8], count: usize, text: &[u8
     requires laid_out { LaidOut s.now l }
     requires runs_inside { RunsInside s.now }
 {
-    let mut i = 0;
-    let mut done = 0;
-    while done < count {
-        if list.len() - i < 4 {
-            return;
-        }
-        say_entry(s, l, list, i, text);
-        i += 4;
-        done += 1;
+    for entry in 0..count.min(list.len() / 4) {
+        say_entry(s, l, list, 4 * entry, text);
     }
 }

@@ -62,11 +62,9 @@ fn say_missing(text: &[u8], n: usize) {
 
 // Every nonterminal of a text that has no production in its sheet.
 pub(crate) fn say_all_missing(text: &[u8], sheet: &[u8]) {
-    let mut n = 0;
-    while n < NONTERMINALS {
+    for n in 0..NONTERMINALS {
         if !wrong::is_produced(sheet, n) {
             say_missing(text, n);
         }
-        n += 1;
     }
 }

@@ -53,6 +53,7 @@ pub fn run_steps(
     };
     let mut here = stand;
     let mut deep = 0;
+    // A loop: each step goes on by what its turn read, which no range gives.
     loop {
         let turn = here.turn(s, l, g, part, start, end, p, stack, out, area, report);
         let place = turn.place;

@@ -18,10 +18,8 @@ use turns::Stand;
 pub fn clear(memory: &mut [u8], from: usize, to: usize)
     ensures { memory.new ≡ put true memory.old from (replicate (to - from) 0) }
 {
-    let mut i = from;
-    while i < to {
+    for i in from..to {
         lent::put_byte(memory, i, 0, true);
-        i = i + 1;
     }
 }
 

@@ -1,8 +1,8 @@
 -- A row is filled kind by kind, and what the place refuses by itself is refused. Assumes nothing.
 use mathlib.Core.Path.{◌≡◌, refl, sym, ◌∙◌, ap, subst}
-use mathlib.Core.Bool.{Bool, true, false, true≢false, cond, ◌||◌, ◌&&◌}
+use mathlib.Core.Bool.{Bool, true, false, true≢false, ◌||◌, ◌&&◌}
 use mathlib.Core.Option.{Option, none, some}
-use mathlib.Core.List.{List, ◌∷◌, []}
+use mathlib.Core.List.{List}
 use Prim.Native.Nat.{ℕ, ◌+◌, ◌≤◌, ◌<◌}
 use native.Mathlib.Omega.{arith}
 use lib.Dec.{eqb, ltb}
@@ -10,25 +10,23 @@ use lib.ListN.{length, get_or, set, length-set}
 use lib.Seq.{get_or-set_same, get_or-set_other}
 use borrow.Author.Tests.{ltb-true, ltb-false}
 use Rattle.programs.specs.Limits.{Visit}
-use Rattle.notation.specs.Tokens.{THEN, UNBRACE}
+use Rattle.notation.specs.Tokens.{THEN}
 use Rattle.reading.specs.Statements as reading
-use Rattle.lexemes.specs.Kinds.{kinds, sign_number}
+use Rattle.lexemes.specs.Kinds.{kinds}
 use Rattle.sketches.specs.declared.Move.{Move}
 use Rattle.sketches.specs.Figures.{present}
-use Rattle.sketches.specs.Moves.{Sketch, sketch_if, move_of, after_move_lem, where_fit, step_sketch}
+use Rattle.sketches.specs.Moves.{Sketch, move_of, after_move_lem, where_fit, step_sketch}
 use Rattle.drafts.specs.declared.Draft.{Draft}
-use Rattle.drafts.specs.declared.Stepped.{Stepped}
+use Rattle.std.specs.Prelude.{Option as Taken, Some, None, is_some}
 use Rattle.drafts.specs.Drafted.{sketch_of, DraftStepIs}
 use Rattle.outlines.specs.Kinds.{is_word, is_operand, is_short_item, is_long_item}
 use Rattle.outlines.specs.Extents.{Extent}
 use Rattle.outlines.specs.Conditions.{Margin, behind, read_condition}
-use Rattle.outlines.specs.Statements.{Outline, Layer, then_at, step_at, step_stage, ends_here}
-use Rattle.outlines.specs.Promises.{OutlineKeeps}
+use Rattle.outlines.specs.Statements.{Layer, then_at, step_at, step_stage, ends_here}
 use Rattle.extents.specs.Held.{extent_of, side_of}
 use Rattle.scripts.specs.declared.Stage.{Stage}
 use Rattle.scripts.specs.declared.Stage.TheVariants.{At, Assign, Operand, Item, Single, Equals, Other, Behind, Past}
 use Rattle.scripts.specs.declared.Script.{Script}
-use Rattle.scripts.specs.declared.Taken.{Taken}
 use Rattle.scripts.specs.Scripts as scripts
 use Rattle.scripts.specs.Scripts.{reading_place, stage_of, margins_in, layers_in, outline_of}
 use Rattle.rows.specs.Rows.{is_move, TextRow, could_start, could_be_operand, could_be_item, could_be, Marked, OutlineRow}
@@ -67,12 +65,9 @@ no_move k (Move.Next n) h = absurd (true≢false h)
 pub unmoved : (d : Draft) (k : ℕ) (b : Bool) → b ≡ is_move (move_of d.point k) → b ≡ false → MarkIn d k false
 unmoved d k b e h = sym (ap (λ o. present (where_fit o)) (no_move (sketch_of d) (move_of d.point k) (sym e ∙ h)))
 
-present_if : (b : Bool) (k : Sketch) → b ≡ present (sketch_if b k)
-present_if true k = refl
-present_if false k = refl
-
-pub moved : (d : Draft) (k : ℕ) (t : Stepped) → DraftStepIs d k t → MarkIn d k t.taken
-moved d k t h = present_if t.taken (sketch_of t.draft) ∙ sym (ap present h.same)
+pub moved : (d : Draft) (k : ℕ) (t : Taken Draft) → DraftStepIs d k t → MarkIn d k (is_some t)
+moved d k None h = sym (ap present h.same)
+moved d k (Some e) h = sym (ap present h.same)
 
 pub text_row : (d : Draft) (m : List Bool) (k : ℕ) → Filled (MarkIn d) m k → kinds ≤ k → TextRow d m
 text_row d m k h i = record { marks = λ j l. h.marks j (omega (arith, i, l)) }
@@ -150,9 +145,9 @@ untried v s k b e h = (
   λ o y. absurd (none_some (step_stage v (stage_of s.stage (margins_in s)) (layers_in s) k) o (stage_refused v s.stage (margins_in s) (layers_in s) k (sym e ∙ h)) y.taken),
 )
 
-pub tried : (v : Visit) (s : Script) (k : ℕ) (t : Taken) → scripts.Stepped v s k t → Marked v s k t.ok
+pub tried : (v : Visit) (s : Script) (k : ℕ) (t : Taken Script) → scripts.Stepped v s k t → Marked v s k (is_some t)
 tried v s k t (scripts.taken {s' = x} g i) = (λ y. (outline_of x, g), λ o y. refl)
-tried v s k t (scripts.refused f) = (λ y. absurd (true≢false (sym y)), λ o y. absurd (f o y))
+tried v s k t (scripts.refused g) = (λ y. absurd (true≢false (sym y)), λ o y. absurd (g o y))
 
 -- the brace is written last
 pub program_row : (v : Visit) (s : Script) (m : List Bool) (k : ℕ) (b : Bool) → Filled (Marked v s) m k → kinds ≤ k → b ≡ ends_here (outline_of s) → OutlineRow v s (set m 28 b)

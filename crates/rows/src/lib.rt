@@ -35,15 +35,12 @@ pub fn in_text(d: drafts::Draft) -> [bool; 35]
 {
     let p = d.point;
     let mut may = [false; 35];
-    let mut k = 0;
-    while k < 35 {
+    for k in 0..35 {
         let mut ok = false;
         if goes(p, k) {
-            let t = drafts::step(d, k);
-            ok = t.taken;
+            ok = drafts::step(d, k).is_some();
         }
         may[k] = ok;
-        k += 1;
     }
     may
 }
@@ -98,15 +95,12 @@ pub fn in_program(s: scripts::Script, second: bool) -> [bool; 35]
 {
     let stage = s.stage;
     let mut may = [false; 35];
-    let mut k = 0;
-    while k < 35 {
+    for k in 0..35 {
         let mut ok = false;
         if could(stage, k) {
-            let t = s.step(k, second);
-            ok = t.ok;
+            ok = s.step(k, second).is_some();
         }
         may[k] = ok;
-        k += 1;
     }
     may[28] = s.ends();
     may

@@ -20,30 +20,22 @@ use Rattle.sketches.proofs.Promises.{programs_alike, plain_takes, plain_goes, pr
 use Rattle.sketches.proofs.Fitting.{no_unbrace}
 use Rattle.sketches.proofs.Braces.{unbrace_kind}
 use Rattle.drafts.specs.declared.Draft.{Draft}
-use Rattle.drafts.specs.declared.Stepped.{Stepped}
+use Rattle.std.specs.Prelude.{Option as Taken, Some, None}
 use Rattle.drafts.specs.declared.Place.{Place}
 use Rattle.drafts.specs.Drafted.{sketch_of, SoundDraft, DraftStepIs, DraftIs, program_if, PointIs}
 use Rattle.outlines.specs.Statements.{outline_start, ends_here}
 use Rattle.outlines.specs.Promises.{given, MachineKeeps}
 use Rattle.scripts.specs.declared.Script.{Script}
-use Rattle.scripts.specs.declared.Taken.{Taken}
 use Rattle.scripts.specs.Scripts as scripts
 use Rattle.scripts.specs.Scripts.{outline_of, Standing}
 use Rattle.scripts.specs.Promises as promises
 use Rattle.scripts.specs.Promises.{ScriptIs, MachineStepped}
 use Rattle.scripts.proofs.Machines.{start_of_machine, step_of_machine, end_of_machine}
 use Rattle.rulings.specs.declared.Reader.{Reader}
-use Rattle.rulings.specs.declared.Answer.{Answer}
 use Rattle.rulings.specs.Readers.{Holds, Firm, ReadsFor, ReadsAny, Plain, Answered, goes, stays, AnswerIs}
 
 abbrev reader : Draft → Script → Reader
 reader d s = record { draft = d; script = s }
-
-abbrev yes_to : Reader → Answer
-yes_to r = record { taken = true; reader = r }
-
-abbrev no_to : Reader → Answer
-no_to r = record { taken = false; reader = r }
 
 pub none_some : {A : Type 0} (o : Option A) (x : A) → o ≡ none → o ≡ some x → ⊥
 none_some o x h i = let y : ◌≡◌ {A = ℕ} 0 1 = cc in omega arith
@@ -71,14 +63,13 @@ pub a_listing : (s : Progress) (r : Reader) (b : Bool) → Holds s r → ReadsFo
 a_listing s r b h p = there (listing_of s) (same_program s r h ∙ ap present p)
 
 -- outside programs
-pub outside_takes : (r : Reader) (kind : ℕ) (x : Stepped) (f : Script) → (kind < kinds) × (Firm r × Plain r) → DraftStepIs r.draft kind x → x.taken ≡ true → (outline_of f ≡ outline_start) × Standing f
-    → AnswerIs r kind (yes_to (reader x.draft f))
-outside_takes r kind x f h i y z = record {
+pub outside_takes : (r : Reader) (kind : ℕ) (d : Draft) (f : Script) → (kind < kinds) × (Firm r × Plain r) → DraftStepIs r.draft kind (Some d) → (outline_of f ≡ outline_start) × Standing f → AnswerIs r kind (Some (reader d f))
+outside_takes r kind d f h i z = record {
   firm = record { sound = i.sound; standing = z.1 };
   told = λ s t u w e.
       let n = no_listing s r u h.1.1 in
-      let st : step_sketch (sketch_of r.draft) (token_kind t) ≡ some (sketch_of x.draft) = ap (step_sketch (sketch_of r.draft)) e ∙ i.same ∙ ap (λ b. sketch_if b (sketch_of x.draft)) y in
-      let g = plain_goes s (sketch_of r.draft) (sketch_of x.draft) t u.drawn n w st in
+      let st : step_sketch (sketch_of r.draft) (token_kind t) ≡ some (sketch_of d) = ap (step_sketch (sketch_of r.draft)) e ∙ i.same in
+      let g = plain_goes s (sketch_of r.draft) (sketch_of d) t u.drawn n w st in
       let k = plain_takes s g.0 (sketch_of r.draft) t u.drawn n g.1 in
       goes g.0 g.1 (record {
         drawn = subst (Drawn g.0) g.2 k.drawn;
@@ -86,16 +77,16 @@ outside_takes r kind x f h i y z = record {
       });
 }
 
-pub outside_refuses : (r : Reader) (kind : ℕ) (x : Stepped) → (kind < kinds) × (Firm r × Plain r) → DraftStepIs r.draft kind x → x.taken ≡ false → AnswerIs r kind (no_to r)
-outside_refuses r kind x h i y = record {
-  firm = h.1.0;
+pub outside_refuses : (r : Reader) (kind : ℕ) → (kind < kinds) × (Firm r × Plain r) → DraftStepIs r.draft kind None → AnswerIs r kind None
+outside_refuses r kind h i = record {
+  firm = tt;
   told = λ s t u w e. stays (λ g.
       let k = plain_takes s g.0 (sketch_of r.draft) t u.drawn (no_listing s r u h.1.1) g.1 in
-      none_some (step_sketch (sketch_of r.draft) (token_kind t)) (sketch g.0) (ap (step_sketch (sketch_of r.draft)) e ∙ i.same ∙ ap (λ b. sketch_if b (sketch_of x.draft)) y) k.stepped);
+      none_some (step_sketch (sketch_of r.draft) (token_kind t)) (sketch g.0) (ap (step_sketch (sketch_of r.draft)) e ∙ i.same) k.stepped);
 }
 
 -- the sign that ends a program
-pub unbraced_takes : (r : Reader) (b : Bool) (d : Draft) → Firm r × ReadsAny r → b ≡ ends_here (outline_of r.script) → b ≡ true → DraftIs (unbraced_sketch (sketch_of r.draft)) d → AnswerIs r 28 (yes_to (reader d r.script))
+pub unbraced_takes : (r : Reader) (b : Bool) (d : Draft) → Firm r × ReadsAny r → b ≡ ends_here (outline_of r.script) → b ≡ true → DraftIs (unbraced_sketch (sketch_of r.draft)) d → AnswerIs r 28 (Some (reader d r.script))
 unbraced_takes r b d h i y k = record {
   firm = record { sound = k.sound; standing = h.0.standing };
   told = λ s t u w e.
@@ -112,9 +103,9 @@ no_end : (s s' : Progress) (r : Reader) (v : Visit) (q : Listing) (t : TextToken
 no_end s s' r v q t k h e (goes_on q' i w f n l) = none_some (step_statements v q t) q' (ap (step_statements v q) e ∙ no_unbrace v q) i
 no_end s s' r v q t k h e (ends p i j n l) = true≢false (sym (ap given j) ∙ h)
 
-pub unbraced_refuses : (r : Reader) (b : Bool) → Firm r × ReadsAny r → b ≡ ends_here (outline_of r.script) → b ≡ false → AnswerIs r 28 (no_to r)
+pub unbraced_refuses : (r : Reader) (b : Bool) → Firm r × ReadsAny r → b ≡ ends_here (outline_of r.script) → b ≡ false → AnswerIs r 28 None
 unbraced_refuses r b h i y = record {
-  firm = h.0;
+  firm = tt;
   told = λ s t u w e. stays (λ g.
       let l = a_listing s r h.1.0 u h.1.1 in
       no_end s g.0 r (which_visit h.1.0) l.0 t (sketch_of r.draft) (sym (end_of_machine l.0 r.script (u.program l.0 l.1)) ∙ sym i ∙ y) (unbrace_kind t e)
@@ -122,43 +113,38 @@ unbraced_refuses r b h i y = record {
 }
 
 -- another token in a program
-taken_within : (s : Progress) (r : Reader) (b : Bool) (t : TextToken) (q : Listing) (x : Taken) → Holds s r → ReadsFor r b → listing_of s ≡ some q → MachineStepped (which_visit b) q t x → x.ok ≡ true
-    → Answered s t (yes_to (reader r.draft x.script))
-taken_within s r b t q x u p l (promises.goes {s = f} q' k i) y =
+taken_within : (s : Progress) (r : Reader) (b : Bool) (t : TextToken) (q : Listing) (f : Script) → Holds s r → ReadsFor r b → listing_of s ≡ some q → MachineStepped (which_visit b) q t (Some f) → Answered s t (Some (reader r.draft f))
+taken_within s r b t q f u p l (promises.goes q' k i) =
     let n = program_goes s (sketch_of r.draft) (which_visit b) q q' t u.drawn l p k.taken k.within in
     goes n.next n.goes (record { drawn = n.drawn; program = λ o m. let z : q' ≡ o = some_same q' o (sym n.reads ∙ m) in subst (λ w. ScriptIs w f) z i })
   where
     some_same : (c o : Listing) → some c ≡ some o → c ≡ o
     some_same c o e = cc
-taken_within s r b t q x u p l (promises.stays f) y = absurd (true≢false (sym y))
 
-refused_within : (s s' : Progress) (b : Bool) (t : TextToken) (q : Listing) (k : Sketch) (x : Taken) → (t ≡ sign UNBRACE → ⊥) → MachineStepped (which_visit b) q t x → x.ok ≡ false → ProgramTaken (which_visit b) q t k s' → ⊥
-refused_within s s' b t q k x n (promises.goes q' m i) y z = true≢false y
-refused_within s s' b t q k x n (promises.stays f) y (goes_on q' e w i j l) = f q' (record { taken = e; within = w })
-refused_within s s' b t q k x n (promises.stays f) y (ends p e j i l) = n e
+refused_within : (s s' : Progress) (b : Bool) (t : TextToken) (q : Listing) (k : Sketch) → (t ≡ sign UNBRACE → ⊥) → MachineStepped (which_visit b) q t None → ProgramTaken (which_visit b) q t k s' → ⊥
+refused_within s s' b t q k n (promises.stays f) (goes_on q' e w i j l) = f q' (record { taken = e; within = w })
+refused_within s s' b t q k n (promises.stays f) (ends p e j i l) = n e
 
-stepped_at : (v : Visit) (q : Listing) (t : TextToken) (f : Script) (kind : ℕ) (x : Taken) → ScriptIs q f → TokenFits t → token_kind t ≡ kind → scripts.Stepped v f kind x → MachineStepped v q t x
+stepped_at : (v : Visit) (q : Listing) (t : TextToken) (f : Script) (kind : ℕ) (x : Taken Script) → ScriptIs q f → TokenFits t → token_kind t ≡ kind → scripts.Stepped v f kind x → MachineStepped v q t x
 stepped_at v q t f kind x i w e h = step_of_machine v q t f x i w (subst (λ n. scripts.Stepped v f n x) (sym e) h)
 
-script_stands : (v : Visit) (f : Script) (kind : ℕ) (x : Taken) → scripts.Stepped v f kind x → x.ok ≡ true → Standing x.script
-script_stands v f kind x (scripts.taken k g) y = g
-script_stands v f kind x (scripts.refused g) y = absurd (true≢false (sym y))
+script_stands : (v : Visit) (f : Script) (kind : ℕ) (g : Script) → scripts.Stepped v f kind (Some g) → Standing g
+script_stands v f kind g (scripts.taken k h) = h
 
-pub within_takes : (r : Reader) (kind : ℕ) (b : Bool) (x : Taken) → Firm r × (ReadsFor r b × (kind ≡ 28 → ⊥)) → scripts.Stepped (which_visit b) r.script kind x → x.ok ≡ true
-    → AnswerIs r kind (yes_to (reader r.draft x.script))
-within_takes r kind b x h i y = record {
-  firm = record { sound = h.0.sound; standing = script_stands (which_visit b) r.script kind x i y };
+pub within_takes : (r : Reader) (kind : ℕ) (b : Bool) (f : Script) → Firm r × (ReadsFor r b × (kind ≡ 28 → ⊥)) → scripts.Stepped (which_visit b) r.script kind (Some f) → AnswerIs r kind (Some (reader r.draft f))
+within_takes r kind b f h i = record {
+  firm = record { sound = h.0.sound; standing = script_stands (which_visit b) r.script kind f i };
   told = λ s t u w e.
       let l = a_listing s r b u h.1.0 in
-      taken_within s r b t l.0 x u h.1.0 l.1 (stepped_at (which_visit b) l.0 t r.script kind x (u.program l.0 l.1) w e i) y;
+      taken_within s r b t l.0 f u h.1.0 l.1 (stepped_at (which_visit b) l.0 t r.script kind (Some f) (u.program l.0 l.1) w e i);
 }
 
-pub within_refuses : (r : Reader) (kind : ℕ) (b : Bool) (x : Taken) → Firm r × (ReadsFor r b × (kind ≡ 28 → ⊥)) → scripts.Stepped (which_visit b) r.script kind x → x.ok ≡ false → AnswerIs r kind (no_to r)
-within_refuses r kind b x h i y = record {
-  firm = h.0;
+pub within_refuses : (r : Reader) (kind : ℕ) (b : Bool) → Firm r × (ReadsFor r b × (kind ≡ 28 → ⊥)) → scripts.Stepped (which_visit b) r.script kind None → AnswerIs r kind None
+within_refuses r kind b h i = record {
+  firm = tt;
   told = λ s t u w e. stays (λ g.
       let l = a_listing s r b u h.1.0 in
-      refused_within s g.0 b t l.0 (sketch_of r.draft) x (λ z. h.1.1 (sym e ∙ ap token_kind z)) (stepped_at (which_visit b) l.0 t r.script kind x (u.program l.0 l.1) w e i) y
+      refused_within s g.0 b t l.0 (sketch_of r.draft) (λ z. h.1.1 (sym e ∙ ap token_kind z)) (stepped_at (which_visit b) l.0 t r.script kind None (u.program l.0 l.1) w e i)
       (program_takes s g.0 (sketch_of r.draft) (which_visit b) l.0 t u.drawn l.1 h.1.0 g.1));
 }
 
@@ -172,5 +158,5 @@ asks_within r kind w h p y n = (h.1, (p.program ∙ ap (λ b. program_if b w.sec
 pub asks_outside : (r : Reader) (kind : ℕ) (w : Place) → (kind < kinds) × Firm r → PointIs r.draft.point w → w.reads ≡ false → (kind < kinds) × (Firm r × Plain r)
 asks_outside r kind w h p y = (h.0, (h.1, p.program ∙ ap (λ b. program_if b w.second) y))
 
-pub as_unbraced : (r : Reader) (kind : ℕ) (a : Answer) → kind ≡ 28 → AnswerIs r 28 a → AnswerIs r kind a
+pub as_unbraced : (r : Reader) (kind : ℕ) (a : Taken Reader) → kind ≡ 28 → AnswerIs r 28 a → AnswerIs r kind a
 as_unbraced r kind a e h = subst (λ k. AnswerIs r k a) (sym e) h

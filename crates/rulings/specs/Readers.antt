@@ -1,5 +1,5 @@
 -- A reader of rules holds where the machine stands, and takes a kind of token exactly where the machine takes tokens of it. Assumes nothing.
-use Rattle.std.specs.Prelude.{◌≡◌, Bool, true, false, List, ℕ}
+use Rattle.std.specs.Prelude.{Option, Some, None, IfSome, ◌≡◌, Bool, true, false, List, ℕ}
 use Rattle.std.proofs.Math.Option.{none, some}
 use Rattle.notation.specs.Tokens.{TextToken}
 use Rattle.reading.specs.Statements.{Listing}
@@ -16,7 +16,6 @@ use Rattle.drafts.specs.Drafted.{sketch_of, SoundDraft}
 use Rattle.scripts.specs.Scripts.{Standing}
 use Rattle.scripts.specs.Promises.{ScriptIs}
 use Rattle.rulings.specs.declared.Reader.{Reader}
-use Rattle.rulings.specs.declared.Answer.{Answer}
 
 -- the draft holds the sketch of a state of the machine, and the script the program that is being read there
 pub record Holds (s : Progress) (r : Reader) : Type 0 where
@@ -39,13 +38,13 @@ abbrev pub Plain : Reader → Type 0
 Plain r = program_at r.draft.point ≡ none
 
 -- the machine takes the token, and the next reader holds where it stands then; or it does not
-pub data Answered (s : Progress) (t : TextToken) : Answer → Type 0 where
-  goes : {r : Reader} (s' : Progress) → Goes s t s' → Holds s' r → Answered s t (record { taken = true; reader = r })
-  stays : {r : Reader} → (TakesToken s t → ⊥) → Answered s t (record { taken = false; reader = r })
+pub data Answered (s : Progress) (t : TextToken) : Option Reader → Type 0 where
+  goes : {r : Reader} (s' : Progress) → Goes s t s' → Holds s' r → Answered s t (Some r)
+  stays : (TakesToken s t → ⊥) → Answered s t None
 
 -- whichever state it is, and whichever token of the kind
-pub record AnswerIs (r : Reader) (kind : ℕ) (a : Answer) : Type 0 where
-  pub firm : Firm a.reader
+pub record AnswerIs (r : Reader) (kind : ℕ) (a : Option Reader) : Type 0 where
+  pub firm : IfSome a Firm
   pub told : (s : Progress) (t : TextToken) → Holds s r → TokenFits t → token_kind t ≡ kind → Answered s t a
 
 -- the row of kinds that the machine takes

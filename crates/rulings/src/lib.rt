@@ -12,85 +12,52 @@ pub struct Reader {
     pub script: scripts::Script,
 }
 
-// Whether a kind of token is taken, and the reader behind it.
-#[derive(Clone, Copy)]
-pub struct Answer {
-    pub taken: bool,
-    pub reader: Reader,
-}
-
 // The sign that ends a program.
-fn unbraced(r: Reader) -> Answer
+fn unbraced(r: Reader) -> Option<Reader>
     requires { Firm r × ReadsAny r }
     ensures { AnswerIs r 28 result }
 {
     let d = r.draft;
     let s = r.script;
     if s.ends() {
-        return Answer {
-            taken: true,
-            reader: Reader {
-                draft: drafts::unbrace(d),
-                script: s,
-            },
-        };
+        return Some(Reader {
+            draft: drafts::unbrace(d),
+            script: s,
+        });
     }
-    Answer {
-        taken: false,
-        reader: r,
-    }
+    None
 }
 
 // Another kind of token in a program.
-fn within(r: Reader, kind: usize, second: bool) -> Answer
+fn within(r: Reader, kind: usize, second: bool) -> Option<Reader>
     requires { Firm r × (ReadsFor r second × (kind ≡ 28 → ⊥)) }
     ensures { AnswerIs r kind result }
 {
     let d = r.draft;
     let s = r.script;
-    let t = s.step(kind, second);
-    if t.ok {
-        let next = t.script;
-        return Answer {
-            taken: true,
-            reader: Reader {
-                draft: d,
-                script: next,
-            },
-        };
-    }
-    Answer {
-        taken: false,
-        reader: r,
-    }
+    let next = s.step(kind, second)?;
+    Some(Reader {
+        draft: d,
+        script: next,
+    })
 }
 
 // A kind of token outside programs.
-fn outside(r: Reader, kind: usize) -> Answer
+fn outside(r: Reader, kind: usize) -> Option<Reader>
     requires { (kind < kinds) × (Firm r × Plain r) }
     ensures { AnswerIs r kind result }
 {
     let d = r.draft;
-    let t = drafts::step(d, kind);
-    if t.taken {
-        let next = t.draft;
-        let s = scripts::Script::fresh();
-        return Answer {
-            taken: true,
-            reader: Reader {
-                draft: next,
-                script: s,
-            },
-        };
-    }
-    Answer {
-        taken: false,
-        reader: r,
-    }
+    let next = drafts::step(d, kind)?;
+    let s = scripts::Script::fresh();
+    Some(Reader {
+        draft: next,
+        script: s,
+    })
 }
 
-// A token of a kind.
-pub fn take(r: Reader, kind: usize) -> Answer
+// A token of a kind: the reader behind it, where it is taken.
+pub fn take(r: Reader, kind: usize) -> Option<Reader>
     requires { (kind < kinds) × Firm r }
     ensures { AnswerIs r kind result }
 {

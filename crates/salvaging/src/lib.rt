@@ -48,14 +48,12 @@ fn either(f: &[u8], first: &[u8], second: &[u8]) -> Word
 pub fn resumption(part: &[u8], from: usize, first: &[u8], second: &[u8]) -> Resumed
     ensures { ResumedIs first.now second.now part.now from result }
 {
-    let mut at = from;
-    while at < part.len() {
+    for at in from..part.len() {
         match either(&part[at..], first, second) {
             Word::Whole => return Resumed::Here(at),
             Word::Begun => return Resumed::Waits(at),
             Word::No => {}
         }
-        at += 1;
     }
     Resumed::Nowhere
 }

@@ -36,10 +36,8 @@ fn shown(s: &[u8], l: Layout, n: usize) -> usize
     ensures { result ≤ l.productions }
 {
     let mut best = l.productions;
-    let mut q = 0;
-    while q < l.productions {
+    for q in 0..l.productions {
         best = better(s, l, n, best, q);
-        q += 1;
     }
     best
 }
@@ -80,8 +78,7 @@ fn say_atom_of(s: &[u8], l: Layout, q: usize, p: usize)
     requires runs_inside { RunsInside s.now }
     requires q_lt_productions { q < l.productions }
 {
-    let found = words::node_of_atom(s, l, q, p);
-    if let words::Found::At(i) = found {
+    if let Some(i) = words::node_of_atom(s, l, q, p) {
         say_node(s, l, i);
     }
 }
@@ -97,10 +94,8 @@ fn say_row(s: &[u8], l: Layout, q: usize, row: Row)
     if n > shortest::LONGEST {
         return;
     }
-    let mut k = 0;
-    while k < n {
-        say_atom_of(s, l, q, atoms[k] as usize);
-        k += 1;
+    for atom in &atoms[..n] {
+        say_atom_of(s, l, q, *atom as usize);
     }
 }
 

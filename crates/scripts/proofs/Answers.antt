@@ -1,12 +1,11 @@
 -- Laws of outlines and scripts: one for each answer of the code. Assumes nothing.
-use mathlib.Core.Path.{◌≡◌, refl, sym, ◌∙◌, ap, ap₂, subst}
+use mathlib.Core.Path.{◌≡◌, refl, sym, ◌∙◌, ap, subst}
 use mathlib.Core.Bool.{Bool, true, false, cond, ◌&&◌}
 use mathlib.Core.Option.{Option, none, some}
 use mathlib.Core.List.{List, [], ◌∷◌}
-use Prim.Native.Nat.{ℕ, zero, suc, ◌+◌, ◌-◌, ◌≤◌, ◌<◌, max}
+use Prim.Native.Nat.{ℕ, zero, suc, ◌+◌, ◌-◌, ◌≤◌, ◌<◌}
 use native.Mathlib.Omega.{arith}
-use native.Mathlib.Numerals.{sub-one}
-use lib.Dec.{eqb, ltb, eqb-suc-zero}
+use lib.Dec.{eqb, eqb-suc-zero}
 use lib.ListN.{length, get_or}
 use borrow.Author.Tests.{eq-eqb, ne_eqb, lt-ltb, le-ltb}
 use Rattle.programs.specs.Limits.{Visit}
@@ -19,12 +18,11 @@ use Rattle.outlines.specs.Conditions as conditions
 use Rattle.outlines.specs.Conditions.{margin, blank_margin, paired_with, up_to_and, a_single, an_equals, an_operand, ConditionOutline, wanting, behind, got_at, not_at, open_at, step_wanting, step_behind, read_condition}
 use Rattle.outlines.specs.Statements as statements
 use Rattle.outlines.specs.Statements.{among, then_of, else_of_lem, wrapped, closed_list, else_of, at, at_assign, at_operand, at_item, in_condition, past, Outline, outlined, begun_at, ended_in, ended_at, step_at, elsed_at, step_past, step_item, then_at, step_tested, none_outside}
-use Rattle.outlines.specs.Shape.{ExtentUnder, MarginUnder, MarginsUnder}
+use Rattle.outlines.specs.Shape.{MarginUnder, MarginsUnder}
 use Rattle.extents.specs.declared.Extent.{Extent}
-use Rattle.extents.specs.declared.Side.{Side}
 use Rattle.extents.specs.declared.Margin.{Margin}
 use Rattle.extents.specs.declared.Around.{Around}
-use Rattle.extents.specs.Held.{ExtentIs, extent_of, side_of, margin_of, layer_of, around_of, bare_around, bare_margin, layers_at, margins_at, most_around, most_margins}
+use Rattle.extents.specs.Held.{ExtentIs, extent_of, side_of, margin_of, around_of, bare_around, bare_margin, layers_at, margins_at, most_margins}
 use Rattle.extents.proofs.Stacks.{top}
 use Rattle.extents.proofs.Parts.{extent_same}
 use Rattle.scripts.specs.declared.Place.{Place}

@@ -1,19 +1,13 @@
 -- A script says of the machine what it is promised to. Assumes nothing.
-use mathlib.Core.Path.{◌≡◌, refl, sym, ◌∙◌, ap, subst}
-use mathlib.Core.Bool.{true, false}
-use Prim.Native.Nat.{ℕ, suc}
-use Rattle.programs.specs.Limits.{Visit}
-use Rattle.notation.specs.Tokens.{TextToken}
-use Rattle.reading.specs.Statements.{Listing}
-use Rattle.lexemes.specs.Kinds.{token_kind, TokenFits}
+use mathlib.Core.Path.{sym, ◌∙◌, ap, subst}
+use Prim.Native.Nat.{suc}
+use Rattle.lexemes.specs.Kinds.{token_kind}
 use Rattle.outlines.specs.Extents.{ExtentWithin}
-use Rattle.outlines.specs.Statements.{Outline, outline, ends_here, finished}
+use Rattle.outlines.specs.Statements.{outline, ends_here, finished}
 use Rattle.outlines.specs.Promises.{OutlineKeeps}
 use Rattle.outlines.proofs.Outlines.{starts_alike, ends_alike, sizes_alike, within_back, keeps_alike}
-use Rattle.scripts.specs.declared.Script.{Script}
-use Rattle.scripts.specs.declared.Taken.{Taken}
-use Rattle.scripts.specs.Scripts.{outline_of, Standing, Stepped, taken, refused}
-use Rattle.scripts.specs.Promises.{ScriptIs, MachineStepped, goes, stays, StartOfMachine, StepOfMachine, EndOfMachine, SizeOfMachine, KeptByMachine}
+use Rattle.scripts.specs.Scripts.{outline_of, taken, refused}
+use Rattle.scripts.specs.Promises.{goes, stays, StartOfMachine, StepOfMachine, EndOfMachine, SizeOfMachine, KeptByMachine}
 
 pub start_of_machine : StartOfMachine
 start_of_machine s e h = record { same = e ∙ sym starts_alike; standing = h }

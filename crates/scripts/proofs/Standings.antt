@@ -1,13 +1,12 @@
 -- What a script that stands is known to hold, and what is known of the next one. Assumes nothing.
 use mathlib.Core.Path.{◌≡◌, refl, sym, ◌∙◌, ap, subst}
-use mathlib.Core.Bool.{Bool, true, false, cond, not}
+use mathlib.Core.Bool.{Bool}
 use mathlib.Core.Option.{Option, none, some}
-use mathlib.Core.List.{List, [], ◌∷◌}
-use Prim.Native.Nat.{ℕ, zero, suc, ◌+◌, ◌≤◌, ◌<◌}
+use mathlib.Core.List.{List}
+use Prim.Native.Nat.{ℕ, zero, suc, ◌≤◌, ◌<◌}
 use native.Mathlib.Omega.{arith}
 use lib.ListN.{length}
 use Rattle.programs.specs.Limits.{Visit}
-use Rattle.notation.specs.Statements.{parentheses}
 use Rattle.outlines.specs.Extents as outlines
 use Rattle.outlines.specs.Extents.{vacant, unnested, ExtentWithin}
 use Rattle.outlines.specs.Conditions as conditions
@@ -15,19 +14,18 @@ use Rattle.outlines.specs.Conditions.{wanting, behind, with_margins}
 use Rattle.outlines.specs.Statements as statements
 use Rattle.outlines.specs.Statements.{wrapped_in, Outline, step_outline, step_stage, step_tested, ends_at, ends_here, finished, kernel}
 use Rattle.outlines.specs.Promises.{OutlineKeeps}
-use Rattle.outlines.specs.Shape.{ConditionFirm, StageFirm, SoundOutline, ExtentUnder, SideUnder, StageUnder, PartsUnder}
+use Rattle.outlines.specs.Shape.{ConditionFirm, StageFirm, SoundOutline, ExtentUnder, SideUnder, StageUnder}
 use Rattle.outlines.proofs.Shapes.{stays_sound, few_layers, small_parts, parts_stay_small, one_layer_more, finished_kernel, extent_more, side_more, layers_more, margins_more}
 use Rattle.extents.specs.declared.Extent.{Extent}
 use Rattle.extents.specs.declared.Side.{Side}
 use Rattle.extents.specs.declared.Margin.{Margin}
-use Rattle.extents.specs.Held.{extent_of, side_of, margin_of, around_of, bare_around, bare_margin, layers_at, margins_at, most_around, most_margins}
+use Rattle.extents.specs.Held.{extent_of, side_of, margin_of, around_of, bare_around, bare_margin, margins_at, most_margins}
 use Rattle.extents.proofs.Stacks.{long}
-use Rattle.scripts.specs.declared.Place.{Place}
 use Rattle.scripts.specs.declared.Stage.{Stage}
 use Rattle.scripts.specs.declared.Stage.TheVariants.{At, Assign, Operand, Item, Single, Equals, Other, Behind, Past}
 use Rattle.scripts.specs.declared.Script.{Script}
-use Rattle.scripts.specs.declared.Taken.{Taken}
-use Rattle.scripts.specs.Scripts.{stage_of, layers_in, margins_in, outline_of, Standing, LayerRoom, MarginRoom, MarginsHeld, ScriptFirm, answer_of, tested_of, Stepped, taken, refused}
+use Rattle.std.specs.Prelude.{Some, None}
+use Rattle.scripts.specs.Scripts.{stage_of, layers_in, margins_in, outline_of, Standing, LayerRoom, MarginRoom, MarginsHeld, ScriptFirm, tested_of, Stepped, taken, refused}
 
 pub extent_under : {m n : ℕ} {e : outlines.Extent} → m ≤ n → ExtentUnder m e → ExtentUnder n e
 extent_under g h = record { few_bytes = omega arith; few_deep = omega arith }
@@ -138,18 +136,16 @@ pub few_measured : (s : Script) (e : Extent) → Standing s → extent_of e ≡ 
 few_measured s e h q = omega (arith, bytes_measured s e h q, h.within.short)
 
 -- the next script
-pub ok_answer : (b : Bool) (n : Script) (x : Option Outline) → not b ≡ false → cond b (some (outline_of n)) none ≡ x → x ≡ some (outline_of n)
-ok_answer true n x e q = sym q
-ok_answer false n x e q = absurd (let z : ◌≡◌ {A = ℕ} 0 1 = cc in omega arith)
-
-pub step_refused : (v : Visit) (s : Script) (k : ℕ) (b : Bool) (n : Script) → not b ≡ true → cond b (some (outline_of n)) none ≡ step_outline v (outline_of s) k → Stepped v s k (record { ok = b; script = n })
-step_refused v s k true n e q = absurd (let z : ◌≡◌ {A = ℕ} 0 1 = cc in omega arith)
-step_refused v s k false n e q = refused (λ o h. none_some (q ∙ h.taken))
+pub step_refused : (v : Visit) (s : Script) (k : ℕ) → none ≡ step_outline v (outline_of s) k → Stepped v s k None
+step_refused v s k q = refused (λ o h. none_some (q ∙ h.taken))
   where
     none_some : {o : Outline} → ◌≡◌ {A = Option Outline} none (some o) → ⊥
     none_some p = let z : ◌≡◌ {A = ℕ} 0 1 = cc in omega arith
 
-module _ (v : Visit) (s n : Script) (k : ℕ) (h : Standing s) (q : step_outline v (outline_of s) k ≡ some (outline_of n)) where
+module _ (v : Visit) (s n : Script) (k : ℕ) (h : Standing s) (p : some (outline_of n) ≡ step_outline v (outline_of s) k) where
+  q : step_outline v (outline_of s) k ≡ some (outline_of n)
+  q = sym p
+
   next_sound : SoundOutline (outline_of n)
   next_sound = stays_sound v (outline_of s) (outline_of n) k h.sound q
 
@@ -168,17 +164,13 @@ module _ (v : Visit) (s n : Script) (k : ℕ) (h : Standing s) (q : step_outline
     only_next : (o : Outline) → OutlineKeeps v (outline_of s) k o → ExtentWithin (extent_of e)
     only_next o w = let same : o ≡ outline_of n = cc (q, w.taken) in subst ExtentWithin (sym measured) (subst (λ x. ExtentWithin (finished x)) same w.within)
 
-    pub too_long : 255 < e.bytes → Stepped v s k (record { ok = false; script = n })
+    pub too_long : 255 < e.bytes → Stepped v s k None
     too_long g = refused (λ o w. omega (arith, g, (only_next o w).short))
 
-    pub too_deep : 8 < e.nested → Stepped v s k (record { ok = false; script = n })
+    pub too_deep : 8 < e.nested → Stepped v s k None
     too_deep g = refused (λ o w. omega (arith, g, (only_next o w).shallow))
 
-    pub stepped : e.bytes ≤ 255 → e.nested ≤ 8 → Stepped v s k (record { ok = true; script = n })
+    pub stepped : e.bytes ≤ 255 → e.nested ≤ 8 → Stepped v s k (Some n)
     stepped f g =
         let w : ExtentWithin (finished (outline_of n)) = subst ExtentWithin measured (record { short = omega arith; shallow = g }) in
         taken (record { taken = q; within = w }) (record { sound = next_sound; within = w })
-
-pub taken_as : (v : Visit) (s : Script) (k : ℕ) (b : Bool) (n : Script) → not b ≡ false → Stepped v s k (record { ok = true; script = n }) → Stepped v s k (record { ok = b; script = n })
-taken_as v s k true n e h = h
-taken_as v s k false n e h = absurd (let z : ◌≡◌ {A = ℕ} 0 1 = cc in omega arith)

@@ -1,5 +1,5 @@
 -- What a script is promised to say of the machine that reads statements. Assumes nothing.
-use Rattle.std.specs.Prelude.{◌≡◌, true, false, ℕ, suc}
+use Rattle.std.specs.Prelude.{Option as Taken, Some, None, ◌≡◌, suc}
 use Rattle.programs.specs.Limits.{Visit}
 use Rattle.notation.specs.Limits.{size_of, ProgramWithin}
 use Rattle.notation.specs.Tokens.{TextToken}
@@ -8,7 +8,6 @@ use Rattle.lexemes.specs.Kinds.{token_kind, TokenFits}
 use Rattle.outlines.specs.Statements.{outline, outline_start, ends_here, finished}
 use Rattle.outlines.specs.Promises.{MachineKeeps, given}
 use Rattle.scripts.specs.declared.Script.{Script}
-use Rattle.scripts.specs.declared.Taken.{Taken}
 use Rattle.scripts.specs.Scripts.{outline_of, Standing, Stepped}
 
 -- the script holds the outline of where the machine stands
@@ -17,16 +16,16 @@ pub record ScriptIs (q : Listing) (s : Script) : Type 0 where
   pub standing : Standing s
 
 -- the machine takes the token and keeps the limits, and the next script holds where it stands then; or it does not
-pub data MachineStepped (v : Visit) (q : Listing) (t : TextToken) : Taken → Type 0 where
-  goes : {s : Script} (q' : Listing) → MachineKeeps v q t q' → ScriptIs q' s → MachineStepped v q t (record { ok = true; script = s })
-  stays : {s : Script} → ((q' : Listing) → MachineKeeps v q t q' → ⊥) → MachineStepped v q t (record { ok = false; script = s })
+pub data MachineStepped (v : Visit) (q : Listing) (t : TextToken) : Taken Script → Type 0 where
+  goes : {s : Script} (q' : Listing) → MachineKeeps v q t q' → ScriptIs q' s → MachineStepped v q t (Some s)
+  stays : ((q' : Listing) → MachineKeeps v q t q' → ⊥) → MachineStepped v q t None
 
 abbrev pub StartOfMachine : Type 0
 StartOfMachine = (s : Script) → outline_of s ≡ outline_start → Standing s → ScriptIs list_start s
 
 -- whichever token of the kind it is
 abbrev pub StepOfMachine : Type 0
-StepOfMachine = (v : Visit) (q : Listing) (t : TextToken) (s : Script) (r : Taken) → ScriptIs q s → TokenFits t → Stepped v s (token_kind t) r → MachineStepped v q t r
+StepOfMachine = (v : Visit) (q : Listing) (t : TextToken) (s : Script) (r : Taken Script) → ScriptIs q s → TokenFits t → Stepped v s (token_kind t) r → MachineStepped v q t r
 
 abbrev pub EndOfMachine : Type 0
 EndOfMachine = (q : Listing) (s : Script) → ScriptIs q s → ends_here (outline_of s) ≡ given (value_of_list q)

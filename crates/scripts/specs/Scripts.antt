@@ -1,5 +1,5 @@
 -- The outline that a script holds. Assumes nothing.
-use Rattle.std.specs.Prelude.{◌≡◌, Bool, true, false, cond, List, [], ◌∷◌, ℕ, suc, ◌≤◌}
+use Rattle.std.specs.Prelude.{Option as Taken, Some, None, List, ◌∷◌, ℕ, suc, ◌≤◌}
 use Rattle.std.proofs.Math.Option.{Option, none, some}
 use Rattle.programs.specs.Limits.{Visit}
 use Rattle.reading.specs.Statements as reading
@@ -15,7 +15,6 @@ use Rattle.scripts.specs.declared.Place.TheVariants.{Opening, Separated, Branchi
 use Rattle.scripts.specs.declared.Stage.{Stage}
 use Rattle.scripts.specs.declared.Stage.TheVariants.{At, Assign, Operand, Item, Single, Equals, Other, Behind, Past}
 use Rattle.scripts.specs.declared.Script.{Script}
-use Rattle.scripts.specs.declared.Taken.{Taken}
 
 abbrev pub reading_place : Place → reading.Place
 reading_place Opening = reading.opening
@@ -75,8 +74,9 @@ pub record MarginRoom (s : Script) : Type 0 where
   pub room : s.deep ≤ most_margins
   pub small : MarginsUnder 1000 (margins_in s)
 
-abbrev pub answer_of : Taken → Option Outline
-answer_of t = cond t.ok (some (outline_of t.script)) none
+abbrev pub answer_of : Taken Script → Option Outline
+answer_of None = none
+answer_of (Some s) = some (outline_of s)
 
 -- a condition that goes on, or none
 abbrev pub tested_of : List statements.Layer → Option conditions.ConditionOutline → Option Outline
@@ -84,9 +84,9 @@ tested_of ls none = none
 tested_of ls (some r) = some (outlined (statements.in_condition r) ls)
 
 -- what a step answers: the script behind a token of that kind, where the limits are kept then; or that there is none
-pub data Stepped (v : Visit) (s : Script) (k : ℕ) : Taken → Type 0 where
-  taken : {s' : Script} → OutlineKeeps v (outline_of s) k (outline_of s') → Standing s' → Stepped v s k (record { ok = true; script = s' })
-  refused : {s' : Script} → ((o : Outline) → OutlineKeeps v (outline_of s) k o → ⊥) → Stepped v s k (record { ok = false; script = s' })
+pub data Stepped (v : Visit) (s : Script) (k : ℕ) : Taken Script → Type 0 where
+  taken : {s' : Script} → OutlineKeeps v (outline_of s) k (outline_of s') → Standing s' → Stepped v s k (Some s')
+  refused : ((o : Outline) → OutlineKeeps v (outline_of s) k o → ⊥) → Stepped v s k None
 
 -- behind a ; or an end
 abbrev pub separated_as : statements.Closed → Option Outline

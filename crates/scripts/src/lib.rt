@@ -48,13 +48,6 @@ pub struct Script {
     pub deep: usize,
 }
 
-// Whether a kind is taken; and the script behind it.
-#[derive(Clone, Copy)]
-pub struct Taken {
-    pub ok: bool,
-    pub script: Script,
-}
-
 impl Script {
     pub fn fresh() -> Script
         ensures { (outline_of result ≡ outline_start) × Standing result }
@@ -84,36 +77,23 @@ impl Script {
         }
     }
 
-    fn refused(self) -> Taken
-        ensures { answer_of result ≡ none }
-    {
-        Taken {
-            ok: false,
-            script: self,
-        }
-    }
-
     // The same with another stage.
-    fn staged(self, stage: Stage) -> Taken
+    fn staged(self, stage: Stage) -> Option<Script>
         ensures { answer_of result ≡ some (outlined (stage_of stage (margins_in self)) (layers_in self)) }
     {
         let layers = self.layers;
         let margins = self.margins;
-        let script = Script {
+        Some(Script {
             stage: stage,
             layers: layers,
             depth: self.depth,
             margins: margins,
             deep: self.deep,
-        };
-        Taken {
-            ok: true,
-            script: script,
-        }
+        })
     }
 
     // With the first n layers, and one more.
-    fn layered(self, n: usize, layer: Layer, stage: Stage) -> Taken
+    fn layered(self, n: usize, layer: Layer, stage: Stage) -> Option<Script>
         requires { n < most_around }
         ensures { answer_of result ≡ some (outlined (stage_of stage (margins_in self)) (layer_of layer ∷ layers_at self.layers n)) }
     {
@@ -121,70 +101,58 @@ impl Script {
         let margins = self.margins;
         let around = Around { layer: layer };
         layers[n] = around;
-        let script = Script {
+        Some(Script {
             stage: stage,
             layers: layers,
             depth: n + 1,
             margins: margins,
             deep: self.deep,
-        };
-        Taken {
-            ok: true,
-            script: script,
-        }
+        })
     }
 
     // With the first n margins, and one more.
-    fn margined(self, n: usize, margin: Margin, stage: Stage) -> Taken
+    fn margined(self, n: usize, margin: Margin, stage: Stage) -> Option<Script>
         requires { n < most_margins }
         ensures { answer_of result ≡ some (outlined (stage_of stage (margin_of margin ∷ margins_at self.margins n)) (layers_in self)) }
     {
         let layers = self.layers;
         let mut margins = self.margins;
         margins[n] = margin;
-        let script = Script {
+        Some(Script {
             stage: stage,
             layers: layers,
             depth: self.depth,
             margins: margins,
             deep: n + 1,
-        };
-        Taken {
-            ok: true,
-            script: script,
-        }
+        })
     }
 
     // A list ends that lies in the first n layers.
-    fn ended(self, n: usize, p: Extent) -> Taken
+    fn ended(self, n: usize, p: Extent) -> Option<Script>
         ensures { answer_of result ≡ ended_in (layers_at self.layers n) (extent_of p) }
     {
         if n == 0 {
-            return self.refused();
+            return None;
         }
         let layers = self.layers;
         let margins = self.margins;
         let stage = Stage::Past(false, p);
-        let script = Script {
+        Some(Script {
             stage: stage,
             layers: layers,
             depth: n,
             margins: margins,
             deep: self.deep,
-        };
-        Taken {
-            ok: true,
-            script: script,
-        }
+        })
     }
 
-    fn begin(self, place: Place) -> Taken
+    fn begin(self, place: Place) -> Option<Script>
         requires { LayerRoom self }
         ensures { answer_of result ≡ begun_at (reading_place place) (layers_in self) }
     {
         match place {
-            Place::Opening => self.refused(),
-            Place::Separated => self.refused(),
+            Place::Opening => None,
+            Place::Separated => None,
             Place::Branching => {
                 let nothing = Extent {
                     bytes: 0,
@@ -200,7 +168,7 @@ impl Script {
     }
 
     // An end where a list opens.
-    fn end(self, place: Place) -> Taken
+    fn end(self, place: Place) -> Option<Script>
         requires { LayerRoom self }
         ensures { answer_of result ≡ ended_at (reading_place place) (layers_in self) }
     {
@@ -216,13 +184,13 @@ impl Script {
                 let left = closed.left;
                 self.ended(left, nothing)
             }
-            Place::Separated => self.refused(),
-            Place::Branching => self.refused(),
+            Place::Separated => None,
+            Place::Branching => None,
         }
     }
 
     // The blank margin of a condition that begins.
-    fn test(self) -> Taken
+    fn test(self) -> Option<Script>
         ensures { answer_of result ≡ some (outlined (in_condition (wanting a_single (blank_margin ∷ []))) (layers_in self)) }
     {
         let blank = Side::Blank;
@@ -236,7 +204,7 @@ impl Script {
     }
 
     // Behind a statement of so many bytes that nests nothing.
-    fn plain(self, print: bool, bytes: usize) -> Taken
+    fn plain(self, print: bool, bytes: usize) -> Option<Script>
         ensures { answer_of result ≡ some (outlined (past print (unnested bytes)) (layers_in self)) }
     {
         let e = Extent {
@@ -248,7 +216,7 @@ impl Script {
     }
 
     // Where a statement may begin.
-    fn start(self, place: Place, kind: usize, second: bool) -> Taken
+    fn start(self, place: Place, kind: usize, second: bool) -> Option<Script>
         requires { LayerRoom self }
         ensures { answer_of result ≡ step_at (which_visit second) (reading_place place) (layers_in self) kind }
     {
@@ -272,11 +240,11 @@ impl Script {
         if kind == 19 {
             return self.end(place);
         }
-        self.refused()
+        None
     }
 
     // Where an item is wanted.
-    fn item(self, kind: usize) -> Taken
+    fn item(self, kind: usize) -> Option<Script>
         ensures { answer_of result ≡ step_item (layers_in self) kind }
     {
         if extents::is_short_item(kind) {
@@ -285,24 +253,22 @@ impl Script {
         if extents::is_long_item(kind) {
             return self.plain(true, 4);
         }
-        self.refused()
+        None
     }
 
     // An else: it is the nearest if's that has none.
-    fn otherwise(self, p: Extent) -> Taken
+    fn otherwise(self, p: Extent) -> Option<Script>
         requires layer_room { LayerRoom self }
         requires extent_under { ExtentUnder 1000 (extent_of p) }
         ensures { answer_of result ≡ elsed_at (else_of (layers_in self) (extent_of p)) }
     {
         let layers = self.layers;
         let mut e = p;
-        let mut i = self.depth;
-        while 0 < i {
-            i = i - 1;
+        for i in (0..self.depth).rev() {
             let a = layers[i];
             let l = a.layer;
             match l {
-                Layer::Among(b) => return self.refused(),
+                Layer::Among(b) => return None,
                 Layer::Then(c) => {
                     let layer = Layer::Else(c, e);
                     let branching = Place::Branching;
@@ -312,11 +278,11 @@ impl Script {
                 Layer::Else(c, q) => e = extents::branch(c, q, e),
             }
         }
-        self.refused()
+        None
     }
 
     // A statement p ends, with a ; behind it.
-    fn separate(self, p: Extent) -> Taken
+    fn separate(self, p: Extent) -> Option<Script>
         requires layer_room { LayerRoom self }
         requires extent_under { ExtentUnder 1000 (extent_of p) }
         ensures { answer_of result ≡ separated_as (closed_list (layers_in self) (extent_of p)) }
@@ -333,7 +299,7 @@ impl Script {
     }
 
     // A list ends behind p.
-    fn unblock(self, p: Extent) -> Taken
+    fn unblock(self, p: Extent) -> Option<Script>
         requires layer_room { LayerRoom self }
         requires extent_under { ExtentUnder 1000 (extent_of p) }
         ensures { answer_of result ≡ unblocked_as (closed_list (layers_in self) (extent_of p)) }
@@ -347,7 +313,7 @@ impl Script {
     }
 
     // One more item, of so many bytes.
-    fn more(self, p: Extent, bytes: usize) -> Taken
+    fn more(self, p: Extent, bytes: usize) -> Option<Script>
         requires extent_under { ExtentUnder 1000 (extent_of p) }
         requires bytes_bound { bytes ≤ 4 }
         ensures { answer_of result ≡ some (outlined (past true (in_turn (extent_of p) (unnested bytes))) (layers_in self)) }
@@ -362,7 +328,7 @@ impl Script {
     }
 
     // Behind a statement.
-    fn follow(self, print: bool, p: Extent, kind: usize) -> Taken
+    fn follow(self, print: bool, p: Extent, kind: usize) -> Option<Script>
         requires layer_room { LayerRoom self }
         requires extent_under { ExtentUnder 1000 (extent_of p) }
         ensures { answer_of result ≡ step_past print (extent_of p) (closed_list (layers_in self) (extent_of p)) (layers_in self) kind }
@@ -382,17 +348,17 @@ impl Script {
         if kind == 19 {
             return self.unblock(p);
         }
-        self.refused()
+        None
     }
 
     // One more not.
-    fn not(self) -> Taken
+    fn not(self) -> Option<Script>
         requires { MarginRoom self }
         ensures { answer_of result ≡ tested_of (layers_in self) (not_at (margins_in self)) }
     {
         let deep = self.deep;
         if deep == 0 {
-            return self.refused();
+            return None;
         }
         let margins = self.margins;
         let m = margins[deep - 1];
@@ -408,16 +374,16 @@ impl Script {
     }
 
     // A parenthesis opens.
-    fn parenthesis(self) -> Taken
+    fn parenthesis(self) -> Option<Script>
         requires { MarginRoom self }
         ensures { answer_of result ≡ tested_of (layers_in self) (open_at (margins_in self)) }
     {
         let deep = self.deep;
         if deep == 0 {
-            return self.refused();
+            return None;
         }
         if Margin::MOST <= deep {
-            return self.refused();
+            return None;
         }
         let blank = Side::Blank;
         let margin = Margin {
@@ -430,14 +396,14 @@ impl Script {
     }
 
     // A single condition c is read.
-    fn got(self, c: Extent) -> Taken
+    fn got(self, c: Extent) -> Option<Script>
         requires margin_room { MarginRoom self }
         requires extent_under { ExtentUnder 10000 (extent_of c) }
         ensures { answer_of result ≡ tested_of (layers_in self) (got_at (margins_in self) (extent_of c)) }
     {
         let deep = self.deep;
         if deep == 0 {
-            return self.refused();
+            return None;
         }
         let layers = self.layers;
         let margins = self.margins;
@@ -445,21 +411,17 @@ impl Script {
         let o = m.or_left;
         let e = extents::up_to_and(m, c);
         let stage = Stage::Behind(e, o);
-        let script = Script {
+        Some(Script {
             stage: stage,
             layers: layers,
             depth: self.depth,
             margins: margins,
             deep: deep - 1,
-        };
-        Taken {
-            ok: true,
-            script: script,
-        }
+        })
     }
 
     // Where a single condition is wanted.
-    fn single(self, kind: usize, second: bool) -> Taken
+    fn single(self, kind: usize, second: bool) -> Option<Script>
         requires { MarginRoom self }
         ensures { answer_of result ≡ tested_of (layers_in self) (step_wanting (which_visit second) a_single (margins_in self) kind) }
     {
@@ -473,22 +435,22 @@ impl Script {
         if kind == 25 {
             return self.parenthesis();
         }
-        self.refused()
+        None
     }
 
     // Where an = is wanted.
-    fn equals(self, kind: usize, second: bool) -> Taken
+    fn equals(self, kind: usize, second: bool) -> Option<Script>
         ensures { answer_of result ≡ tested_of (layers_in self) (step_wanting (which_visit second) an_equals (margins_in self) kind) }
     {
         if kind == 33 {
             let stage = Stage::Other;
             return self.staged(stage);
         }
-        self.refused()
+        None
     }
 
     // Where the other operand is wanted.
-    fn other(self, kind: usize, second: bool) -> Taken
+    fn other(self, kind: usize, second: bool) -> Option<Script>
         requires { MarginRoom self }
         ensures { answer_of result ≡ tested_of (layers_in self) (step_wanting (which_visit second) an_operand (margins_in self) kind) }
     {
@@ -499,11 +461,11 @@ impl Script {
             };
             return self.got(c);
         }
-        self.refused()
+        None
     }
 
     // A condition ends, with then behind it.
-    fn branch(self, c: Extent) -> Taken
+    fn branch(self, c: Extent) -> Option<Script>
         requires { LayerRoom self }
         ensures { answer_of result ≡ some (outlined (at reading.branching) (then_of (extent_of c) ∷ layers_in self)) }
     {
@@ -515,7 +477,7 @@ impl Script {
     }
 
     // Behind a single condition.
-    fn behind(self, d: Extent, o: Side, kind: usize) -> Taken
+    fn behind(self, d: Extent, o: Side, kind: usize) -> Option<Script>
         requires layer_room { LayerRoom self × MarginRoom self }
         requires deep_lt_most_margins { self.deep < most_margins }
         requires extent_under { ExtentUnder 1000 (extent_of d) × SideUnder 1000 (side_of o) }
@@ -550,33 +512,33 @@ impl Script {
             if deep == 0 {
                 return self.branch(c);
             }
-            return self.refused();
+            return None;
         }
-        self.refused()
+        None
     }
 
     // Where a sign or an operand of an assignment is wanted.
-    fn assign(self, kind: usize) -> Taken
+    fn assign(self, kind: usize) -> Option<Script>
         ensures { answer_of result ≡ cond (is_sign ASSIGNED kind) (some (outlined at_operand (layers_in self))) none }
     {
         if kind == 24 {
             let stage = Stage::Operand;
             return self.staged(stage);
         }
-        self.refused()
+        None
     }
 
-    fn assigned(self, kind: usize, second: bool) -> Taken
+    fn assigned(self, kind: usize, second: bool) -> Option<Script>
         ensures { answer_of result ≡ cond (is_operand (which_visit second) kind) (some (outlined (past false (unnested 3)) (layers_in self))) none }
     {
         if extents::is_operand(kind, second) {
             return self.plain(false, 3);
         }
-        self.refused()
+        None
     }
 
     // By the grammar alone.
-    fn go(self, kind: usize, second: bool) -> Taken
+    fn go(self, kind: usize, second: bool) -> Option<Script>
         requires { Standing self }
         ensures { answer_of result ≡ step_outline (which_visit second) (outline_of self) kind }
     {
@@ -662,29 +624,19 @@ impl Script {
     }
 
     // The next token is of that kind.
-    pub fn step(self, kind: usize, second: bool) -> Taken
+    pub fn step(self, kind: usize, second: bool) -> Option<Script>
         requires { Standing self }
         ensures { Stepped (which_visit second) self kind result }
     {
-        let t = self.go(kind, second);
-        if !t.ok {
-            return t;
-        }
-        let next = t.script;
+        let next = self.go(kind, second)?;
         let e = next.measure();
         if 255 < e.bytes {
-            return Taken {
-                ok: false,
-                script: next,
-            };
+            return None;
         }
         if 8 < e.nested {
-            return Taken {
-                ok: false,
-                script: next,
-            };
+            return None;
         }
-        t
+        Some(next)
     }
 
     // Whether no list lies around that in which p stands.

@@ -48,17 +48,14 @@ fn only_tag(s: &[u8], l: Layout, n: usize) -> usize
     requires { LaidOut s.now l }
     ensures { TagTold s.now n result }
 {
-    let count = l.productions;
     let mut seen = MISSING;
-    let mut q = 0;
-    while q < count {
+    for q in 0..l.productions {
         if n == layout::nonterminal_of(s, l, q) {
             if seen != MISSING {
                 return MISSING;
             }
             seen = layout::tag_number_of(s, l, q);
         }
-        q += 1;
     }
     seen
 }
@@ -69,16 +66,13 @@ fn first_star(s: &[u8], l: Layout, n: usize) -> usize
     requires runs_inside { RunsInside s.now }
     ensures { FirstTold s.now n result }
 {
-    let count = l.productions;
-    let mut q = 0;
-    while q < count {
+    for q in 0..l.productions {
         if n == layout::nonterminal_of(s, l, q) {
             let star = star_over(s, l, q);
             if star != MISSING {
                 return star;
             }
         }
-        q += 1;
     }
     MISSING
 }
@@ -92,14 +86,12 @@ fn names(s: &[u8], l: Layout, q: usize, n: usize) -> bool
 {
     let first = layout::first_node_of(s, l, q);
     let past = first + layout::node_count_of(s, l, q);
-    let mut i = first;
-    while i < past {
+    for i in first..past {
         let kind = layout::kind_of(s, l, i);
         let argument = layout::argument_of(s, l, i);
         if (kind == 1) & (n == argument) {
             return true;
         }
-        i += 1;
     }
     false
 }
@@ -132,13 +124,10 @@ fn all_shaped(s: &[u8], l: Layout, start: usize, n: usize, t: usize, r: usize) -
     requires n_bound { n < 256 }
     ensures { AllShapedTold s.now start n t r result }
 {
-    let count = l.productions;
-    let mut q = 0;
-    while q < count {
+    for q in 0..l.productions {
         if !shaped_at(s, l, start, n, t, r, q) {
             return false;
         }
-        q += 1;
     }
     true
 }

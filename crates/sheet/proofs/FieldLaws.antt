@@ -7,7 +7,7 @@ use Prim.Native.Nat.{ℕ, ◌+◌, ◌-◌, ◌*◌, ◌<◌}
 use native.Mathlib.Omega.{arith}
 use lib.ListN.{length, take, drop}
 use Rattle.programs.specs.Program.{Program}
-use Rattle.tells.specs.Tells.{Tells, holds, fails}
+use Rattle.tells.specs.Tells.{Tells}
 use Rattle.layout.specs.Layout.{word_at, tag_count, production_count, node_count, programs_in, strings_in, program_length, string_length}
 use Rattle.layout.specs.Records.{production_at, first_program_of, second_program_of, node_at, first_program_of_node, second_program_of_node}
 use Rattle.layout.specs.LaidOut.{LaidOut}

@@ -11,11 +11,11 @@ use Rattle.programs.specs.Program.{Program}
 use Rattle.programs.specs.Limits.{first, second}
 use Rattle.programs.proofs.Sections.{one_filling, one_field}
 use Rattle.layout.specs.Layout.{tag_count, production_count, programs_in, strings_in, start}
-use Rattle.layout.specs.Records.{nonterminal_of, tag_number_of, first_node_of, node_count_of, nodes_before, first_program_of, second_program_of, first_program_of_node, second_program_of_node}
+use Rattle.layout.specs.Records.{nonterminal_of, tag_number_of, first_node_of, node_count_of, first_program_of, second_program_of, first_program_of_node, second_program_of_node}
 use Rattle.trees.specs.GrammarAt.{GrammarFrom, GrammarIs}
 use Rattle.trees.proofs.Unique.{one_production}
 use Rattle.trees.proofs.Grammars.{length_grammar, small_grammar, nodes_of_grammar}
-use Rattle.sheet.specs.Tags.{tag_record, TagAt}
+use Rattle.sheet.specs.Tags.{TagAt}
 use Rattle.sheet.specs.Fields.{Visits, FieldsAre}
 use Rattle.sheet.specs.Defect.{WellFormed}
 use Rattle.sheet.specs.Sheet.{Rule, Sheet, grammar_of, From, NodeIs, RuleAt, IsSheet}

@@ -1,50 +1,39 @@
 -- Laws of number 3: a tag's 16 bytes by their parts, and all tags by what holds of each.
 -- Assumes nothing.
 use mathlib.Core.Path.{◌≡◌, refl, ap, sym, ◌∙◌}
-use mathlib.Core.Bool.{Bool, true, false, ◌&&◌}
+use mathlib.Core.Bool.{Bool, true, ◌&&◌}
 use mathlib.Core.List.{List, [], ◌∷◌, ◌++◌}
-use Prim.Native.Nat.{ℕ, zero, suc, ◌+◌, ◌-◌, ◌*◌, ◌≤◌, ◌<◌}
+use Prim.Native.Nat.{ℕ, suc, ◌+◌, ◌-◌, ◌*◌, ◌≤◌, ◌<◌}
 use native.Mathlib.Omega.{arith}
+use lib.Dec.{eqb}
+use Rattle.std.specs.List.{list_all}
 use lib.ListN.{length, get_or, take, drop, replicate, length-take, length-drop, length-replicate, take-append-drop}
 use lib.Seq.{take_at, drop_at, take_all}
 use Rattle.text.specs.Names.{name_first, name_byte, All}
-use Rattle.tells.specs.Tells.{Tells, holds, fails}
+use Rattle.tells.specs.Tells.{Tells, holds}
 use Rattle.layout.specs.Layout.{tag_count}
 use Rattle.layout.specs.LaidOut.{LaidOut}
 use Rattle.layout.specs.declared.Layout.{Layout}
 use Rattle.sheet.specs.Tags.{tag_bytes, TagAt, Tags}
 use Rattle.sheet.specs.TagTests.{TagSpelled, New}
-use Rattle.tells.proofs.Laws.{as_told, both_told, bool_tells}
+use Rattle.tells.proofs.Laws.{as_told, both_told, bool_tells, eqb_tells}
 
--- every byte passes, by index
-pub all_at : (p : ℕ → Bool) (f : List ℕ) → ((k : ℕ) → k < length f → p (get_or f k 0) ≡ true) → All p f
-all_at p [] h = tt
-all_at p (x ∷ f) h = (h 0 (omega arith), all_at p f (λ k z. h (suc k) (omega arith)))
-
-pub at_all : (p : ℕ → Bool) (f : List ℕ) → All p f → (k : ℕ) → k < length f → p (get_or f k 0) ≡ true
-at_all p [] a k z = absurd (omega arith)
-at_all p (x ∷ f) a zero z = a.0
-at_all p (x ∷ f) a (suc k) z = at_all p f a.1 k (omega arith)
-
--- zeros, by index
-pub zeros_at : (f : List ℕ) → ((k : ℕ) → k < length f → get_or f k 0 ≡ 0) → f ≡ replicate (length f) 0
-zeros_at [] h = refl
-zeros_at (x ∷ f) h =
-    let e : x ≡ 0 = h 0 (omega arith) in
-    let r : f ≡ replicate (length f) 0 = zeros_at f (λ k z. h (suc k) (omega arith)) in
-    cc
+-- what a test of every byte tells
+pub all_listed : (p : ℕ → Bool) (f : List ℕ) (b : Bool) → b ≡ list_all p f → Tells (All p f) b
+all_listed p f b e = rw e (go f) where
+  go : (f : List ℕ) → Tells (All p f) (list_all p f)
+  go [] = holds tt
+  go (x ∷ f) = both_told (bool_tells (p x)) (go f)
 
 -- zero fill
 abbrev zeros : ℕ → List ℕ
 zeros n = replicate n 0
 
-zero_of : (n k : ℕ) → get_or (zeros n) k 0 ≡ 0
-zero_of zero k = refl
-zero_of (suc n) zero = refl
-zero_of (suc n) (suc k) = zero_of n k
-
-pub at_zeros : (f : List ℕ) → f ≡ replicate (length f) 0 → (k : ℕ) → get_or f k 0 ≡ 0
-at_zeros f e k = ap (λ (l : List ℕ). get_or l k 0) e ∙ zero_of (length f) k
+pub zeros_listed : (f : List ℕ) (b : Bool) → b ≡ list_all (λ x. eqb x 0) f → Tells (f ≡ replicate (length f) 0) b
+zeros_listed f b e = rw e (go f) where
+  go : (f : List ℕ) → Tells (f ≡ replicate (length f) 0) (list_all (λ x. eqb x 0) f)
+  go [] = holds refl
+  go (x ∷ f) = as_told (λ p. let z = p.0 in let r = p.1 in cc) (λ (e : x ∷ f ≡ 0 ∷ zeros (length f)). let z : x ≡ 0 = cc in let r : f ≡ zeros (length f) = cc in (z, r)) (both_told (eqb_tells x 0) (go f))
 
 -- 16 bytes, of which the first says that m follow the name's first
 module _ (x y : ℕ) (r : List ℕ) (m : ℕ) (counted : x ≡ suc m) (inside : m ≤ 14) (sixteen : length r ≡ 14) where

@@ -31,15 +31,13 @@ fn each_named(
     requires by_index { (k : ℕ) → k < count → at + width * k + 3 < length s.now }
     ensures { Tells (EachNamed tags strings.now section.now s.now at width count) result }
 {
-    let mut k = 0;
-    while k < count {
+    for k in 0..count {
         let i = at + width * k;
         let one = layout::word_at(s, i);
         let two = layout::word_at(s, i + 2);
         if !both_named(section, tags, strings, one, two) {
             return false;
         }
-        k += 1;
     }
     true
 }

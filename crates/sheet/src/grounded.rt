@@ -10,13 +10,10 @@ fn produced(s: &[u8], l: Layout, n: usize) -> bool
     requires { LaidOut s.now l }
     ensures { Tells (Produced s.now n) result }
 {
-    let count = l.productions;
-    let mut q = 0;
-    while q < count {
+    for q in 0..l.productions {
         if layout::nonterminal_of(s, l, q) == n {
             return true;
         }
-        q += 1;
     }
     false
 }
@@ -29,15 +26,12 @@ pub fn grounded(s: &[u8], l: Layout) -> bool
     if !produced(s, l, l.start) {
         return false;
     }
-    let count = l.nodes;
-    let mut i = 0;
-    while i < count {
+    for i in 0..l.nodes {
         if layout::kind_of(s, l, i) == 1 {
             if !produced(s, l, layout::argument_of(s, l, i)) {
                 return false;
             }
         }
-        i += 1;
     }
     true
 }

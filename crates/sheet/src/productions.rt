@@ -27,15 +27,12 @@ pub fn productions_fit(s: &[u8], l: Layout) -> bool
     requires { LaidOut s.now l }
     ensures { Tells (Productions s.now) result }
 {
-    let count = l.productions;
     let mut before = 0;
-    let mut q = 0;
-    while q < count {
+    for q in 0..l.productions {
         if !production_fits(s, l, q, before) {
             return false;
         }
-        before = before + layout::node_count_of(s, l, q);
-        q += 1;
+        before += layout::node_count_of(s, l, q);
     }
     (before == l.nodes) & (l.start <= 63)
 }

@@ -12,28 +12,14 @@ use layout::Layout;
 fn all_name(f: &[u8]) -> bool
     ensures { Tells (All name_byte f.now) result }
 {
-    let mut i = 0;
-    while i < f.len() {
-        if !text::name_byte(f[i]) {
-            return false;
-        }
-        i += 1;
-    }
-    true
+    f.iter().all(|b| text::name_byte(*b))
 }
 
 // The fill after the name.
 fn all_zero(f: &[u8]) -> bool
     ensures { Tells (f.now ≡ replicate (length f.now) 0) result }
 {
-    let mut i = 0;
-    while i < f.len() {
-        if f[i] != 0 {
-            return false;
-        }
-        i += 1;
-    }
-    true
+    f.iter().all(|b| *b == 0)
 }
 
 // Whether 16 bytes are a tag's record.
@@ -52,22 +38,7 @@ fn is_tag(b: &[u8]) -> bool
     text::name_first(b[1]) & (all_name(&b[2..end]) & all_zero(&b[end..]))
 }
 
-// Two tags are the same where their 16 bytes are. The first of them is the name's length, so lengths are compared first.
-fn same(a: &[u8], b: &[u8]) -> bool
-    requires { length a.now ≡ length b.now }
-    ensures { Tells (a.now ≡ b.now) result }
-{
-    let mut i = 0;
-    while i < a.len() {
-        if a[i] != b[i] {
-            return false;
-        }
-        i += 1;
-    }
-    true
-}
-
-// Whether no tag before t has its bytes.
+// Whether no tag before t has its bytes. The first of them is the name's length, so lengths are compared first.
 fn is_new(s: &[u8], l: Layout, t: usize) -> bool
     requires laid_out { LaidOut s.now l }
     requires t_lt_tags { t < l.tags }
@@ -75,14 +46,12 @@ fn is_new(s: &[u8], l: Layout, t: usize) -> bool
 {
     let at = l.tags_at + 16 * t;
     let end = at + 16;
-    let mut u = 0;
-    while u < t {
+    for u in 0..t {
         let from = l.tags_at + 16 * u;
         let to = from + 16;
-        if same(&s[from..to], &s[at..end]) {
+        if s[from..to] == s[at..end] {
             return false;
         }
-        u += 1;
     }
     true
 }
@@ -92,9 +61,7 @@ pub fn tags_fit(s: &[u8], l: Layout) -> bool
     requires { LaidOut s.now l }
     ensures { Tells (Tags s.now) result }
 {
-    let count = l.tags;
-    let mut t = 0;
-    while t < count {
+    for t in 0..l.tags {
         let at = l.tags_at + 16 * t;
         let end = at + 16;
         if !is_tag(&s[at..end]) {
@@ -103,7 +70,6 @@ pub fn tags_fit(s: &[u8], l: Layout) -> bool
         if !is_new(s, l, t) {
             return false;
         }
-        t += 1;
     }
     true
 }

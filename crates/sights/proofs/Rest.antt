@@ -1,6 +1,6 @@
 -- What is told of the rest of a text. Assumes nothing.
-use mathlib.Core.Path.{◌≡◌, refl, sym, ◌∙◌, ap, subst}
-use mathlib.Core.Bool.{Bool, true, false, true≢false}
+use mathlib.Core.Path.{◌≡◌, sym, ◌∙◌, subst}
+use mathlib.Core.Bool.{true, false, true≢false}
 use mathlib.Core.List.{List}
 use Prim.Native.Nat.{ℕ, ◌+◌, ◌≤◌}
 use native.Mathlib.Omega.{arith}
@@ -9,7 +9,7 @@ use Rattle.reading.specs.Rules.{Progress}
 use Rattle.lexing.proofs.Spellings.{part, part_is}
 use Rattle.verdicts.specs.Judged.{Verdict, writes, refused_at, later, Judged, ended}
 use Rattle.rulings.specs.declared.Reader.{Reader}
-use Rattle.rulings.specs.Readers.{Holds, Firm}
+use Rattle.rulings.specs.Readers.{Firm}
 use Rattle.ledgers.proofs.Telling.{later_none, later_twice, judged_on}
 use Rattle.sights.specs.declared.Glance.{Glance}
 use Rattle.sights.specs.declared.Ruling.{Ruling}

@@ -45,8 +45,7 @@ fn at_token(x: &[u8], i: usize, r: rulings::Reader) -> Glance
     let may = rulings::row(r);
     match lexemes::lex(&x[i..], may) {
         lexemes::Lexeme::Token(k, n, l) => {
-            let a = rulings::take(r, k);
-            let next = a.reader;
+            let next = rulings::take(r, k).unwrap_or(r);
             return Glance {
                 going: true,
                 written: false,
@@ -92,6 +91,7 @@ pub fn judge_rest(x: &[u8], r: rulings::Reader) -> Ruling
 {
     let mut from = 0;
     let mut g = look(x, r);
+    // A while: each look goes on behind the token that it read, which no range gives.
     while g.going {
         let past = g.at + g.long;
         from += past;

@@ -2,6 +2,7 @@
 
 #![tactic(auto)]
 
+ghost use Rattle.std.specs.Prelude.{◌≡◌, false, cond, None, Some};
 ghost use Rattle.stack.specs.Stacked.{StackedAs, UnstackedAs};
 
 use live::Live;
@@ -14,34 +15,21 @@ pub struct Stack {
     pub bytes: [u8; State::STACK],
 }
 
-#[derive(Clone, Copy)]
-pub struct Stacked {
-    pub ok: bool,
-    pub stack: Stack,
-}
-
 impl Stack {
     // A new innermost element; a 33rd is refused.
-    pub fn push(self, f: Frame) -> Stacked
+    pub fn push(self, f: Frame) -> Option<Stack>
         ensures { StackedAs self f result }
     {
         let live = self.live;
         if State::DEPTH <= live.depth {
-            return Stacked {
-                ok: false,
-                stack: self,
-            };
+            return None;
         }
         let mut bytes = self.bytes;
         let next = live.push(f, &mut bytes, 0);
-        let stack = Stack {
+        Some(Stack {
             live: next,
             bytes: bytes,
-        };
-        Stacked {
-            ok: true,
-            stack: stack,
-        }
+        })
     }
 
     // The innermost element off the stack; where it was the root, the root is closed.
@@ -63,11 +51,16 @@ impl Stack {
 
 // The same where the stack lies.
 pub fn push_on(s: &mut Stack, f: Frame) -> bool
-    ensures { StackedAs s.old f (record { ok = result; stack = s.new }) }
+    ensures stacked { StackedAs s.old f (cond result (Some s.new) None) }
+    ensures refused_as_was { result ≡ false → s.new ≡ s.old }
 {
-    let p = s.push(f);
-    *s = p.stack;
-    p.ok
+    match s.push(f) {
+        Some(stacked) => {
+            *s = stacked;
+            true
+        }
+        None => false,
+    }
 }
 
 pub fn pop_off(s: &mut Stack)

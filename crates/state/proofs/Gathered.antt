@@ -1,13 +1,15 @@
 -- Laws of reading a state. A loop that fills an array is stated by what is left to read (fill_more); one that adds up a number goes from its
 -- highest byte down (number_more), below 256 to the number of bytes read, so that no product wraps.
 use mathlib.Core.Path.{◌≡◌, refl, sym, ap, ap₂, ◌∙◌}
-use mathlib.Core.List.{List, [], ◌∷◌, append-nil}
+use mathlib.Core.List.{List, ◌∷◌, ◌++◌, append-nil}
 use Prim.Native.Nat.{ℕ, zero, suc, ◌+◌, ◌-◌, ◌*◌, ◌^◌, ◌<◌, ◌≤◌}
 use native.Mathlib.Nat.{mul-suc, mul-zero, pow-suc, pow-le-pow_right}
 use native.Mathlib.Omega.{arith}
 use native.Mathlib.Numerals.{add-one}
 use lib.ListN.{length, get_or, set, take, replicate, drop_of_length-le}
 use lib.Seq.{sets, sets-eq}
+use Rattle.std.specs.Prelude.{min}
+use Rattle.std.proofs.lemmas.List.{take_min}
 use Rattle.state.specs.Changes.{bare_from}
 use Rattle.layout.specs.Layout.{byte_at}
 use Rattle.state.specs.Bytes.{number, gathered, bytes_at}
@@ -76,8 +78,12 @@ one_read {X} bare x f w at n i next l h p q e =
     ap₂ (λ (k : List X) (y : X). set k i y) e (q ∙ ap f p ∙ sym (get_D_gathered f w at n i bare h))
     ∙ bare_next bare bare i g (omega (arith, length_gathered f w at n)) ∙ rw add-one
 
-pub all_read : {X : Type 0} (bare : X) (f : ℕ → X) (w at n i m : ℕ) (l : List X) → n ≤ i → i ≤ m → l ≡ bare_from bare i (gathered f w at n) → l ≡ bare_from bare m (gathered f w at n)
-all_read {X} bare f w at n i m l h k e =
+pub all_read : {X : Type 0} (bare : X) (f : ℕ → X) (w at n m : ℕ) → bare_from bare (min m n) (gathered f w at n) ≡ bare_from bare m (gathered f w at n)
+all_read {X} bare f w at n m =
     let g : List X = gathered f w at n in
-    let long : length g ≡ n = length_gathered f w at n in
-    e ∙ bare_none bare i g (omega arith) ∙ sym (bare_none bare m g (omega arith))
+    let e : min m (length g) ≡ min m n = ap (min m) (length_gathered f w at n) in
+    let k : length g - min m n ≡ length g - m = omega (arith, length_gathered f w at n) in
+    bare_is bare (min m n) g ∙ ap₂ (λ (l r : List X). l ++ r) (ap (λ (i : ℕ). take i g) (sym e) ∙ take_min m g) (ap (λ (i : ℕ). replicate i bare) k) ∙ sym (bare_is bare m g)
+
+pub whole_read : {X : Type 0} (bare : X) (f : ℕ → X) (w at n : ℕ) → bare_from bare n (gathered f w at n) ≡ gathered f w at n
+whole_read bare f w at n = bare_none bare n _ (omega (arith, length_gathered f w at n))

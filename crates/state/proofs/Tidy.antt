@@ -4,7 +4,7 @@
 use mathlib.Core.Path.{◌≡◌, refl, sym, ap, ap₂, subst, ◌∙◌}
 use mathlib.Core.Bool.{Bool, true, false, cond}
 use mathlib.Core.List.{List, [], ◌∷◌, ◌++◌, map, reverse, reverse_aux, reverse-reverse}
-use Prim.Native.Nat.{ℕ, zero, suc, ◌+◌, ◌-◌, ◌≤◌, ◌<◌}
+use Prim.Native.Nat.{ℕ, zero, suc, ◌-◌, ◌≤◌, ◌<◌}
 use native.Mathlib.Omega.{arith}
 use lib.Dec.{eqb}
 use lib.ListN.{length, take, get_or, set, replicate, length-map, length-reverse, length-replicate}
@@ -18,7 +18,7 @@ use Rattle.state.specs.declared.State.{State}
 use Rattle.state.specs.Bounds.{most_sets}
 use Rattle.state.specs.Changes.{bare_saved, bare_frame, not_closed, fresh_state, put_last, top_of, with_top, closed_with, bare_from, tidy_frame, tidied}
 use Rattle.state.specs.Meaning.{kept_of, sets_of, open_of, elements, standing, opens_of, meaning_of, Every, none, more, Fits, Shaped}
-use Rattle.state.specs.Bytes.{SizedSet, SizedFrame, Sized}
+use Rattle.state.specs.Bytes.{SizedFrame, Sized}
 use Rattle.state.specs.Canonical.{saved_for, frame_for, frames_for, root_closed, state_for}
 use Rattle.state.proofs.Laws.{first_last}
 use Rattle.state.proofs.Meant.{standing_opens, meaning_same, shaped_put, fits_top}

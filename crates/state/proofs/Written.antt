@@ -30,17 +30,15 @@ wrote_then {d = d} {at = at} {xs = xs} {ys = ys} {n = n} p q =
 pub wrote_same : {w : ℕ} {d : List ℕ} {at : ℕ} {xs ys d₁ : List ℕ} {n : ℕ} → xs ≡ ys → Wrote w d at xs d₁ n → Wrote w d at ys d₁ n
 wrote_same {w} {d} {at} {d₁ = d₁} {n = n} e p = subst (λ (l : List ℕ). Wrote w d at l d₁ n) e p
 
+pub wrote_wide : {a b : ℕ} {d : List ℕ} {at : ℕ} {xs d₁ : List ℕ} {n : ℕ} → a ≡ b → Wrote a d at xs d₁ n → Wrote b d at xs d₁ n
+wrote_wide {d = d} {at = at} {xs = xs} {d₁ = d₁} {n = n} e p = subst (λ (w : ℕ). Wrote w d at xs d₁ n) e p
+
 -- what the crate `lent` puts
 pub wrote_put : {d : List ℕ} {at : ℕ} {xs d₁ : List ℕ} {n : ℕ} (w : ℕ) → length xs ≡ w → PutAs true d at xs d₁ n → Wrote w d at xs d₁ n
 wrote_put w e p = record { next = omega arith; wide = e; left = p.left }
 
 pub put_wrote : {w : ℕ} {d : List ℕ} {at : ℕ} {xs d₁ : List ℕ} {n : ℕ} → Wrote w d at xs d₁ n → PutAs true d at xs d₁ n
 put_wrote p = record { next = omega (arith, p.next, p.wide); left = p.left }
-
--- so many of a list, or all
-pub put_some : {X : Type 0} (f : X → List ℕ) (w : ℕ) (l : List X) (i n : ℕ) {d : List ℕ} {at : ℕ} {d₁ : List ℕ} {m : ℕ} → take i l ≡ take n l →
-    Wrote (w * i) d at (each_bytes f (take i l)) d₁ m → PutAs true d at (each_bytes f (take n l)) d₁ m
-put_some {X} f w l i n {d = d} {at = at} {d₁ = d₁} {m = m} e p = subst (λ (k : List X). PutAs true d at (each_bytes f k) d₁ m) e (put_wrote p)
 
 pub put_after : {d : List ℕ} {at : ℕ} {xs ys d₁ d₂ : List ℕ} {n m : ℕ} → PutAs true d at xs d₁ n → PutAs true d₁ n ys d₂ m → d₂ ≡ put true d at (xs ++ ys)
 put_after {d = d} {at = at} {xs = xs} {ys = ys} p q = q.left ∙ rw (p.left, p.next) (put_append true d at xs ys)

@@ -13,7 +13,7 @@
 -- A frame: production, place, how many sets are in use, then 13 sets of 9 bytes: the eight attributes just after the first visit, and echo before
 -- it. The production's set comes first, then those of the open nodes, outermost first.
 -- Assumes nothing.
-use Rattle.std.specs.Prelude.{Bool, true, cond, not, ◌≡◌, List, [], ◌∷◌, ◌++◌, ℕ, zero, suc, ◌+◌, ◌*◌, ◌/◌, ◌%◌, ◌^◌, ◌<◌, eqb, length, get_or, take}
+use Rattle.std.specs.Prelude.{Bool, true, cond, not, ◌≡◌, List, [], ◌∷◌, ◌++◌, ℕ, zero, suc, ◌+◌, ◌*◌, ◌/◌, ◌%◌, ◌^◌, ◌<◌, eqb, length, take}
 use Rattle.state.specs.Meaning.{Every}
 use Rattle.state.specs.Changes.{tidy_frame}
 use Rattle.lent.specs.Put.{put}

@@ -1,9 +1,9 @@
 // The form of a state as bytes: written into lent memory, read from any bytes. specs/Bytes.antt has the table.
-ghost use Rattle.std.specs.Prelude.{◌≡◌, true, [], ◌∷◌, ◌+◌, ◌*◌, ◌<◌, ◌^◌, take};
+ghost use Rattle.std.specs.Prelude.{◌≡◌, true, [], ◌∷◌, ◌+◌, ◌*◌, ◌<◌, ◌^◌, length};
 ghost use Rattle.runs.specs.Visits.{attributes};
 ghost use Rattle.runs.specs.Machine.{most};
 ghost use Rattle.state.specs.Bounds.{most_sets, set_width, frame_width, stack_width, head_width, state_width};
-ghost use Rattle.lent.specs.Put.{put, PutAs};
+ghost use Rattle.lent.specs.Put.{put};
 ghost use Rattle.state.specs.Changes.{bare_saved, bare_from};
 ghost use Rattle.state.specs.Bytes.{flag, number_bytes, saved_bytes, each_bytes, frame_bytes, used_bytes, heading_bytes, bytes_of, Wrote};
 ghost use Rattle.layout.specs.Layout.{byte_at};
@@ -42,11 +42,9 @@ pub fn put_number(memory: &mut [u8], at: usize, n: u64) -> usize
     ensures { Wrote 8 memory.old at (number_bytes 8 n) memory.new result }
 {
     let mut left = n;
-    let mut i = 0;
-    while i < 8 {
+    for i in 0..8 {
         lent::put_byte(memory, at + i, (left % 256) as u8, true);
         left = left / 256;
-        i = i + 1;
     }
     at + 8
 }
@@ -60,16 +58,13 @@ fn put_saved(memory: &mut [u8], at: usize, kept: Saved) -> usize
     put_flag(memory, next, kept.echo)
 }
 
-fn put_sets(memory: &mut [u8], at: usize, sets: [Saved; Frame::SETS]) -> usize
-    requires { at + set_width * most_sets < 2 ^ 64 }
-    ensures { Wrote (set_width * most_sets) memory.old at (each_bytes saved_bytes sets) memory.new result }
+fn put_sets(memory: &mut [u8], at: usize, sets: &[Saved]) -> usize
+    requires { at + set_width * length sets.now < 2 ^ 64 }
+    ensures { Wrote (set_width * length sets.now) memory.old at (each_bytes saved_bytes sets.now) memory.new result }
 {
     let mut next = at;
-    let mut i = 0;
-    while i < Frame::SETS {
-        let kept = sets[i];
-        next = put_saved(memory, next, kept);
-        i = i + 1;
+    for kept in sets {
+        next = put_saved(memory, next, *kept);
     }
     next
 }
@@ -80,26 +75,7 @@ pub fn put_frame(memory: &mut [u8], at: usize, f: Frame) -> usize
 {
     let head = [f.production, f.place, f.open];
     let next = lent::put_bytes(memory, at, &head, true);
-    let sets = f.saved;
-    put_sets(memory, next, sets)
-}
-
-// The first n sets, or all where there are not so many.
-fn put_sets_in_use(memory: &mut [u8], at: usize, sets: [Saved; Frame::SETS], n: usize) -> usize
-    requires { at + set_width * most_sets < 2 ^ 64 }
-    ensures { PutAs true memory.old at (each_bytes saved_bytes (take n sets)) memory.new result }
-{
-    let mut next = at;
-    let mut i = 0;
-    while i < n {
-        if Frame::SETS <= i {
-            return next;
-        }
-        let kept = sets[i];
-        next = put_saved(memory, next, kept);
-        i = i + 1;
-    }
-    next
+    put_sets(memory, next, &f.saved)
 }
 
 // A frame's head and its sets in use. What lies where the other sets would is left as it is.
@@ -109,8 +85,8 @@ pub fn put_used(memory: &mut [u8], at: usize, f: Frame)
 {
     let head = [f.production, f.place, f.open];
     let next = lent::put_bytes(memory, at, &head, true);
-    let sets = f.saved;
-    put_sets_in_use(memory, next, sets, f.open as usize);
+    let used = (f.open as usize).min(Frame::SETS);
+    put_sets(memory, next, &f.saved[..used]);
 }
 
 fn put_frames(memory: &mut [u8], at: usize, frames: [Frame; State::DEPTH]) -> usize
@@ -118,11 +94,8 @@ fn put_frames(memory: &mut [u8], at: usize, frames: [Frame; State::DEPTH]) -> us
     ensures { Wrote stack_width memory.old at (each_bytes frame_bytes frames) memory.new result }
 {
     let mut next = at;
-    let mut i = 0;
-    while i < State::DEPTH {
-        let f = frames[i];
-        next = put_frame(memory, next, f);
-        i = i + 1;
+    for f in &frames {
+        next = put_frame(memory, next, *f);
     }
     next
 }
@@ -183,9 +156,7 @@ pub fn number_at(bytes: &[u8], at: usize) -> u64
     ensures { result ≡ long_at bytes.now at }
 {
     let mut n: u64 = 0;
-    let mut i: usize = 8;
-    while 0 < i {
-        i = i - 1;
+    for i in (0..8).rev() {
         n = n * 256 + wide(byte_at(bytes, at + i));
     }
     n
@@ -196,10 +167,8 @@ pub fn values_at(bytes: &[u8], at: usize) -> [u8; State::ATTRIBUTES]
     ensures { result ≡ bytes_at bytes.now at attributes }
 {
     let mut values = [0u8; State::ATTRIBUTES];
-    let mut i = 0;
-    while i < State::ATTRIBUTES {
+    for i in 0..State::ATTRIBUTES {
         values[i] = byte_at(bytes, at + i);
-        i = i + 1;
     }
     values
 }
@@ -215,18 +184,17 @@ fn saved_at(bytes: &[u8], at: usize) -> Saved
     }
 }
 
-fn sets_at(bytes: &[u8], at: usize) -> [Saved; Frame::SETS]
+// The first n sets, or all where there are not so many; the others bare.
+fn sets_at(bytes: &[u8], at: usize, n: usize) -> [Saved; Frame::SETS]
     requires { at + set_width * most_sets < 2 ^ 64 }
-    ensures { result ≡ gathered (saved_at bytes.now) set_width at most_sets }
+    ensures { result ≡ bare_from bare_saved n (gathered (saved_at bytes.now) set_width at most_sets) }
 {
     let none = Saved::bare();
     let mut sets = [none; Frame::SETS];
     let mut next = at;
-    let mut i = 0;
-    while i < Frame::SETS {
+    for i in 0..n.min(Frame::SETS) {
         sets[i] = saved_at(bytes, next);
         next = next + Saved::BYTES;
-        i = i + 1;
     }
     sets
 }
@@ -235,7 +203,7 @@ pub fn frame_at(bytes: &[u8], at: usize) -> Frame
     requires { at + frame_width < 2 ^ 64 }
     ensures { result ≡ frame_at bytes.now at }
 {
-    let sets = sets_at(bytes, at + 3);
+    let sets = sets_at(bytes, at + 3, Frame::SETS);
     Frame {
         production: byte_at(bytes, at),
         place: byte_at(bytes, at + 1),
@@ -244,33 +212,13 @@ pub fn frame_at(bytes: &[u8], at: usize) -> Frame
     }
 }
 
-// The first n sets, or all where there are not so many; the others bare.
-fn sets_in_use_at(bytes: &[u8], at: usize, n: usize) -> [Saved; Frame::SETS]
-    requires { at + set_width * most_sets < 2 ^ 64 }
-    ensures { result ≡ bare_from bare_saved n (gathered (saved_at bytes.now) set_width at most_sets) }
-{
-    let none = Saved::bare();
-    let mut sets = [none; Frame::SETS];
-    let mut next = at;
-    let mut i = 0;
-    while i < n {
-        if Frame::SETS <= i {
-            return sets;
-        }
-        sets[i] = saved_at(bytes, next);
-        next = next + Saved::BYTES;
-        i = i + 1;
-    }
-    sets
-}
-
 // A frame of which no more is read than is in use.
 pub fn used_at(bytes: &[u8], at: usize) -> Frame
     requires { at + frame_width < 2 ^ 64 }
     ensures { result ≡ used_at bytes.now at }
 {
     let open = byte_at(bytes, at + 2);
-    let sets = sets_in_use_at(bytes, at + 3, open as usize);
+    let sets = sets_at(bytes, at + 3, open as usize);
     Frame {
         production: byte_at(bytes, at),
         place: byte_at(bytes, at + 1),
@@ -286,11 +234,9 @@ fn frames_at(bytes: &[u8], at: usize) -> [Frame; State::DEPTH]
     let none = Frame::bare();
     let mut frames = [none; State::DEPTH];
     let mut next = at;
-    let mut i = 0;
-    while i < State::DEPTH {
+    for i in 0..State::DEPTH {
         frames[i] = frame_at(bytes, next);
         next = next + Frame::BYTES;
-        i = i + 1;
     }
     frames
 }

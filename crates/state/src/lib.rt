@@ -151,10 +151,8 @@ impl Frame {
     {
         let none = Saved::bare();
         let mut saved = self.saved;
-        let mut i = self.open as usize;
-        while i < Self::SETS {
+        for i in self.open as usize..Self::SETS {
             saved[i] = none;
-            i = i + 1;
         }
         Frame {
             production: self.production,

@@ -4,11 +4,13 @@ use mathlib.Core.Bool.{Bool, true, false, cond, ◌||◌}
 use mathlib.Core.List.{List, [], ◌∷◌, ◌++◌, append-nil, append_assoc}
 use Prim.Native.Nat.{ℕ, suc, ◌+◌, ◌≤◌, ◌<◌}
 use native.Mathlib.Omega.{arith}
-use lib.ListN.{length, take, drop, set, length-append}
+use lib.ListN.{length, get_or, take, drop, set, length-append}
 use lib.Seq.{take-append_seam, set_split}
+use Rattle.std.proofs.Common.{length-take-le}
+use Rattle.std.proofs.lemmas.List.{get_or-take}
 use Rattle.encoding.specs.Distinct.{equal, has, AllDifferent, place_of, offset_of, run_together}
 use Rattle.encoding.proofs.Stored.{equal_true, equal_same, place_below}
-use Rattle.stores.specs.Rows.{ends_from, RowsIn}
+use Rattle.stores.specs.Rows.{ends_from, RowsIn, HasRows}
 
 -- a place below their number is a row's own
 pub had_below : (l : List (List ℕ)) (x : List ℕ) → place_of l x < length l → has l x ≡ true
@@ -71,6 +73,21 @@ ends_on at (y ∷ l) x =
 ends_number : (at : ℕ) (l : List (List ℕ)) → length (ends_from at l) ≡ length l
 ends_number at [] = refl
 ends_number at (y ∷ l) = ap suc (ends_number (at + length y) l)
+
+-- each row has its end
+pub ends_enough : (bytes ends : List ℕ) (count : ℕ) → HasRows bytes ends count → count ≤ length ends
+ends_enough bytes ends count h =
+    let l = h.rows in
+    omega (arith, h.are.number, ap length h.are.ends_are, length-append (ends_from 0 l) h.are.free_ends, ends_number 0 l)
+
+pub ends_counted : (bytes ends : List ℕ) (count : ℕ) → HasRows bytes ends count → length (take count ends) ≡ count
+ends_counted bytes ends count h = length-take-le count ends (ends_enough bytes ends count h)
+
+-- an end that is read among the first is the store's
+pub end_read : (bytes ends : List ℕ) (count i : ℕ) → HasRows bytes ends count → i < length (take count ends) → (i < count) × (get_or (take count ends) i 0 ≡ get_or ends i 0)
+end_read bytes ends count i h s =
+    let k : i < count = omega (arith, ends_counted bytes ends count h) in
+    (k, get_or-take count ends i 0 k)
 
 -- all are different still
 turned_about : (x y : List ℕ) → equal x y ≡ false → equal y x ≡ false

@@ -1,12 +1,15 @@
 -- A row looked for among those that are left: a row that is not it is passed, and place and offset are those of the whole store. Assumes nothing.
-use mathlib.Core.Path.{◌≡◌, refl, sym, ap, ap₂, ◌∙◌}
+use mathlib.Core.Path.{◌≡◌, sym, ap, ap₂, ◌∙◌}
 use mathlib.Core.Bool.{Bool, true, false, cond}
 use mathlib.Core.List.{List, [], ◌∷◌, ◌++◌, append_assoc}
 use Prim.Native.Nat.{ℕ, suc, ◌+◌, ◌-◌, ◌≤◌, ◌<◌}
 use native.Mathlib.Omega.{arith}
+use lib.Dec.{eqb}
 use lib.ListN.{length, get_or, take, drop, length-append, length-drop}
 use lib.Seq.{take-append_seam, drop-append_seam, get_or-drop, drop-drop}
+use Rattle.std.specs.Cmp.Lexicographic.{pointwise}
 use Rattle.encoding.specs.Distinct.{equal, place_of, offset_of, run_together}
+use Rattle.stores.proofs.Compared.{pointwise_equal}
 use Rattle.stores.specs.Rows.{ends_from, RowsIn, HasRows}
 use Rattle.stores.specs.Filed.{SeatIs}
 
@@ -22,11 +25,10 @@ pub record Left (bytes ends : List ℕ) (count : ℕ) (x : List ℕ) (i from : �
   pub place_is : place_of l x ≡ i + place_of back x
   pub offset_is : offset_of l x ≡ from + offset_of back x
 
--- the end of row i, which starts at `from`
-pub record NextEnd (bytes ends : List ℕ) (i from : ℕ) : Type 0 where
-  pub there : i < length ends
-  pub low : from ≤ get_or ends i 0
-  pub high : get_or ends i 0 ≤ length bytes
+-- where a row ends that starts at `from`
+pub record NextEnd (bytes : List ℕ) (from to : ℕ) : Type 0 where
+  pub low : from ≤ to
+  pub high : to ≤ length bytes
 
 module _ (bytes ends : List ℕ) (count : ℕ) (x : List ℕ) where
   pub all_left : (l : List (List ℕ)) → RowsIn bytes ends count l → Left bytes ends count x 0 0 l
@@ -77,23 +79,18 @@ module _ (bytes ends : List ℕ) (count : ℕ) (x : List ℕ) where
     next_inside : (h : Ahead i from l) → from + length h.row ≤ length bytes
     next_inside h = omega (arith, sym (length-drop from bytes), ap length (parted h), length-append h.row (run_together h.back ++ h.free_bytes), h.inside)
 
-    next_end : Ahead i from l → NextEnd bytes ends i from
-    next_end h =
-        record {
-          there = omega (arith, sym (length-drop i ends), ap length h.ends_left);
-          low = omega (arith, end_is h);
-          high = omega (arith, end_is h, next_inside h);
-        }
-
     -- what the comparison with the next row tells
     module _ (to : ℕ) (t : to ≡ get_or ends i 0) where
-      compared : (h : Ahead i from l) (b : Bool) → b ≡ equal x (take (to - from) (drop from bytes)) → equal x h.row ≡ b
+      compared : (h : Ahead i from l) (b : Bool) → b ≡ pointwise eqb x (take (to - from) (drop from bytes)) → equal x h.row ≡ b
       compared h b d =
           let k : to - from ≡ length h.row = omega (arith, t, end_is h) in
           let is : take (to - from) (drop from bytes) ≡ h.row = ap₂ (λ (n : ℕ) (z : List ℕ). take n z) k (parted h) ∙ take-append_seam h.row (run_together h.back ++ h.free_bytes) in
-          sym (d ∙ ap (equal x) is)
+          sym (d ∙ pointwise_equal x (take (to - from) (drop from bytes)) ∙ ap (equal x) is)
 
-      passed : Ahead i from l → false ≡ equal x (take (to - from) (drop from bytes)) → Left bytes ends count x (i + 1) to l
+      next_end : Ahead i from l → NextEnd bytes from to
+      next_end h = record { low = omega (arith, t, end_is h); high = omega (arith, t, end_is h, next_inside h) }
+
+      passed : Ahead i from l → false ≡ pointwise eqb x (take (to - from) (drop from bytes)) → Left bytes ends count x (i + 1) to l
       passed h d =
           let k : to ≡ from + length h.row = t ∙ end_is h in
           let e = compared h false d in
@@ -112,10 +109,10 @@ module _ (bytes ends : List ℕ) (count : ℕ) (x : List ℕ) where
             offset_is = omega (arith, o, k);
           }
 
-      pub row_passed : Left bytes ends count x i from l → i < count → false ≡ equal x (take (to - from) (drop from bytes)) → Left bytes ends count x (i + 1) to l
+      pub row_passed : Left bytes ends count x i from l → i < count → false ≡ pointwise eqb x (take (to - from) (drop from bytes)) → Left bytes ends count x (i + 1) to l
       row_passed h s d = passed (ahead h s) d
 
-      row_found : Ahead i from l → true ≡ equal x (take (to - from) (drop from bytes)) → (i ≡ place_of l x) × (from ≡ offset_of l x)
+      row_found : Ahead i from l → true ≡ pointwise eqb x (take (to - from) (drop from bytes)) → (i ≡ place_of l x) × (from ≡ offset_of l x)
       row_found h d =
           let e = compared h true d in
           let p : place_of l x ≡ i + 0 = h.place_is ∙ ap (λ (c : Bool). i + cond c 0 (suc (place_of h.back x))) e in
@@ -131,16 +128,16 @@ module _ (bytes ends : List ℕ) (count : ℕ) (x : List ℕ) where
 
   -- what is known of all rows that the store has, of which there are some
   module _ (i from : ℕ) (some_rows : HasRows bytes ends count) (left : (l : List (List ℕ)) → RowsIn bytes ends count l → Left bytes ends count x i from l) where
-    pub next_at : i < count → NextEnd bytes ends i from
-    next_at s = next_end i from some_rows.rows (ahead i from some_rows.rows (left some_rows.rows some_rows.are) s)
+    pub next_at : (to : ℕ) → to ≡ get_or ends i 0 → i < count → NextEnd bytes from to
+    next_at to t s = next_end i from some_rows.rows to t (ahead i from some_rows.rows (left some_rows.rows some_rows.are) s)
 
-    pub seat_found : i < count → true ≡ equal x (take (get_or ends i 0 - from) (drop from bytes)) → SeatIs bytes ends count x (record { place = i; offset = from })
-    seat_found s d =
+    pub seat_found : (to : ℕ) → to ≡ get_or ends i 0 → i < count → true ≡ pointwise eqb x (take (to - from) (drop from bytes)) → SeatIs bytes ends count x (record { place = i; offset = from })
+    seat_found to t s d =
         record {
           low = omega arith;
           inside = (left some_rows.rows some_rows.are).inside;
-          place_is = λ l h. (row_found i from l (get_or ends i 0) refl (ahead i from l (left l h) s) d).0;
-          offset_is = λ l h. (row_found i from l (get_or ends i 0) refl (ahead i from l (left l h) s) d).1;
+          place_is = λ l h. (row_found i from l to t (ahead i from l (left l h) s) d).0;
+          offset_is = λ l h. (row_found i from l to t (ahead i from l (left l h) s) d).1;
         }
 
     pub seat_behind : count ≤ i → SeatIs bytes ends count x (record { place = count; offset = from })

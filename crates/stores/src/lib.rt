@@ -3,8 +3,6 @@
 
 #![tactic(auto)]
 
-ghost use Rattle.std.specs.Prelude.{◌≡◌};
-ghost use Rattle.encoding.specs.Distinct.{equal};
 ghost use Rattle.stores.specs.Rows.{HasRows};
 ghost use Rattle.stores.specs.Filed.{SeatIs, FiledIs};
 
@@ -23,40 +21,21 @@ pub enum Filed {
     Full,
 }
 
-// Rows are compared by bytes: their lengths first, then up to the first byte that differs.
-fn same_row(row: &[u8], x: &[u8]) -> bool
-    ensures { result ≡ equal x.now row.now }
-{
-    if x.len() != row.len() {
-        return false;
-    }
-    let mut i = 0;
-    while i < x.len() {
-        if x[i] != row[i] {
-            return false;
-        }
-        i += 1;
-    }
-    true
-}
-
 // Where a row is among the rows of a store.
 fn find(bytes: &[u8], ends: &[usize], count: usize, x: &[u8]) -> Seat
     requires { HasRows bytes.now ends.now count }
     ensures { SeatIs bytes.now ends.now count x.now result }
 {
-    let mut i = 0;
     let mut from = 0;
-    while i < count {
-        let to = ends[i];
-        if same_row(&bytes[from..to], x) {
+    for (i, to) in ends[..count].iter().enumerate() {
+        let row = &bytes[from..*to];
+        if x == row {
             return Seat {
                 place: i,
                 offset: from,
             };
         }
-        from = to;
-        i += 1;
+        from = *to;
     }
     Seat {
         place: count,

@@ -1,7 +1,7 @@
 -- A stretch carried on over plain bytes: none yet, and one more.
 -- Assumes nothing.
 use mathlib.Core.Path.{◌≡◌, refl, sym, ap, ◌∙◌, subst}
-use mathlib.Core.Bool.{Bool, true, false}
+use mathlib.Core.Bool.{Bool, true}
 use mathlib.Core.List.{List, [], ◌∷◌}
 use Prim.Native.Nat.{ℕ, ◌+◌, ◌≤◌, ◌<◌}
 use native.Mathlib.Omega.{arith}
@@ -12,7 +12,7 @@ use Rattle.runs.specs.Visits.{most_visits}
 use Rattle.steady.specs.Steady.{shown}
 use Rattle.stretches.specs.declared.Stretch.{Stretch}
 use Rattle.stretches.specs.Literal.{plain}
-use Rattle.stretches.specs.Stretched.{StretchedAs, CarriedAs}
+use Rattle.stretches.specs.Stretched.{CarriedAs}
 use Rattle.stretches.proofs.Nexts.{alone_plain, alone_next, as_it_is}
 use Rattle.stretches.proofs.Stretching.{one_more, shown_on, shown_short}
 

@@ -2,36 +2,30 @@
 -- Assumes nothing.
 use mathlib.Core.Path.{◌≡◌, refl, sym, ap, ap₂, ◌∙◌, subst}
 use mathlib.Core.Bool.{Bool, true, false, ◌&&◌}
-use mathlib.Core.List.{List, [], ◌∷◌, ◌++◌, append-nil, append_assoc}
-use Prim.Native.Nat.{ℕ, ◌+◌, ◌-◌, ◌≤◌, ◌<◌}
+use mathlib.Core.List.{List, [], ◌++◌, append-nil, append_assoc}
+use Prim.Native.Nat.{ℕ, ◌+◌, ◌-◌, ◌≤◌}
 use native.Mathlib.Nat.{add-zero}
 use native.Mathlib.Omega.{arith}
-use lib.Dec.{leb}
-use lib.ListN.{length, take, drop, length-append, length-take, length-drop, take-append-drop}
+use lib.ListN.{length, take, drop, length-append, length-take, take-append-drop}
 use lib.Seq.{drop-drop, drop-append_seam, take-append_seam}
-use borrow.Author.Tests.{le-leb}
 use Rattle.lent.specs.Put.{PutAs}
 use Rattle.lent.proofs.Laws.{put_all, put_length, nothing_put}
 use Rattle.text.specs.Names.{blank}
 use Rattle.tokens.specs.declared.Cursor.{Cursor}
-use Rattle.tokens.specs.declared.Event.{Event}
 use Rattle.tokens.specs.declared.Event.TheVariants.{Character}
-use Rattle.tokens.specs.declared.Answer.{Answer}
 use Rattle.tokens.specs.declared.Answer.TheVariants.{Token}
 use Rattle.tokens.specs.Tokens.{front, Means}
 use Rattle.tokens.proofs.Streams.{token_moves}
-use Rattle.output.specs.Escape.{Piece, escaped, character, render}
-use Rattle.sheet.specs.Sheet.{Sheet}
+use Rattle.output.specs.Escape.{Piece, escaped, render}
 use Rattle.visits.proofs.Printing.{escaped_short}
-use Rattle.runs.specs.Visits.{grammar, most_visits}
+use Rattle.runs.specs.Visits.{most_visits}
 use Rattle.runs.specs.Machine.{Configuration, took, answered, run}
-use Rattle.runs.specs.Spells.{literal, passes_at, unless_blank, step_token, events_of_token}
-use Rattle.calls.specs.Limits.{silent, output_of, Taking, taken, limited, within, one_token}
-use Rattle.calls.specs.Call.{Result, after_writing, Runs, takes}
+use Rattle.runs.specs.Spells.{literal, unless_blank, step_token, events_of_token}
+use Rattle.calls.specs.Limits.{silent, output_of, taken, one_token}
+use Rattle.calls.specs.Call.{after_writing, Runs, takes}
 use Rattle.calls.proofs.Read.{read_plain}
 use Rattle.calls.proofs.Steps.{one_takes}
-use Rattle.steady.specs.Steady.{counting, shown, Steady}
-use Rattle.stretches.specs.declared.Stretch.{Stretch}
+use Rattle.steady.specs.Steady.{counting, shown}
 use Rattle.stretches.specs.Stretched.{StretchedAs, BlanksAs}
 
 pub shown_on : (c : ℕ) → shown true c ≡ escaped c

@@ -119,10 +119,9 @@ fn plains(part: &[u8], from: Stretch, on: bool, k: u64, out: &mut [u8]) -> Stret
     requires count_le_most_visits { from.count ≤ most_visits }
     ensures { CarriedAs part.now on k from out.old result out.new }
 {
-    let mut at = from.at;
     let mut to = from.put;
     let mut count = from.count;
-    while at < part.len() {
+    for at in from.at..part.len() {
         let b = part[at];
         let one = is_plain(b) & allowed(k, count, out.len() - to, to);
         if !one {
@@ -134,10 +133,9 @@ fn plains(part: &[u8], from: Stretch, on: bool, k: u64, out: &mut [u8]) -> Stret
         }
         to = show_plain(b, on, out, to);
         count = count + k;
-        at = at + 1;
     }
     Stretch {
-        at: at,
+        at: part.len(),
         put: to,
         count: count,
     }
@@ -162,6 +160,7 @@ pub fn characters(
     let mut at = from;
     let mut to = put;
     let mut count = n;
+    // A loop: each step goes on by what was read, which no range gives.
     loop {
         let here = Stretch {
             at: at,
@@ -190,12 +189,10 @@ pub fn blanks(part: &[u8], from: usize) -> usize
     requires { from ≤ length part.now }
     ensures { BlanksAs part.now from result }
 {
-    let mut behind = from;
-    while behind < part.len() {
+    for behind in from..part.len() {
         if !is_space(part[behind]) {
             return behind;
         }
-        behind = behind + 1;
     }
-    behind
+    part.len()
 }

@@ -1,15 +1,15 @@
 -- What each way through the reader's functions shows of the front: the laws that their proofs cite.
 -- Assumes nothing.
 use mathlib.Core.Path.{◌≡◌, refl, sym, ap, ap₂, ◌∙◌, subst}
-use mathlib.Core.Logic.{⊎_elim}
+use mathlib.Core.Logic.{◌⊎◌, inl, inr, ⊎_elim}
 use mathlib.Core.Bool.{Bool, true, false}
 use mathlib.Core.List.{List, [], ◌∷◌, ◌++◌, append_assoc, append-nil, head-eq_of_cons-eq, tail-eq_of_cons-eq}
 use Prim.Native.Nat.{ℕ, ◌+◌, ◌-◌, ◌≤◌, ◌<◌}
 use native.Mathlib.Omega.{arith}
 use native.Mathlib.Numerals.{add-one}
 use native.Mathlib.Decide.{dec_lt}
-use lib.ListN.{length, get_or, take, drop, length-append, length-drop, drop_of_length-le, take-append-drop, get_or-append}
-use lib.Seq.{drop-cons, take-suc, take_all}
+use lib.ListN.{length, get_or, take, drop, length-append, length-drop, drop_of_length-le}
+use lib.Seq.{drop-cons, take_all}
 use borrow.Author.Tests.{lt-ltb, le-ltb}
 use Rattle.text.specs.Chars.{Char, utf8, Starts, Begins, Apart, DecodedIs}
 use Rattle.text.specs.declared.Decoded.{Decoded}
@@ -24,21 +24,19 @@ use Rattle.tokens.specs.declared.Answer.{Answer}
 use Rattle.tokens.specs.declared.Answer.TheVariants.{Token, Waiting, Begun, Bad}
 use Rattle.tokens.proofs.Theory.{open_is, end_is, ref_is, char_is, char_head, none_of, no_open, no_end, whole, waits, begun, begins_only, no_line}
 
--- `compare`: the first i bytes agree
-module _ (f w : List ℕ) (i : ℕ) (e : take i f ≡ take i w) where
-  pub same_more : i < length f → i < length w → get_or f i 0 ≡ get_or w i 0 → take (i + 1) f ≡ take (i + 1) w
-  same_more h k x = rw (add-one, take-suc f i 0 h, take-suc w i 0 k) (ap₂ (λ (l : List ℕ) (y : ℕ). l ++ (y ∷ [])) e x)
+-- `compare`: two lists that go on to one are such that one of the two goes on to the other
+one_on : (f w v u : List ℕ) → f ++ v ≡ w ++ u → Starts f w ⊎ Starts w f
+one_on f [] v u e = inl (f, refl)
+one_on [] (y ∷ w) v u e = inr (y ∷ w, refl)
+one_on (x ∷ f) (y ∷ w) v u e =
+    let h : x ≡ y = head-eq_of_cons-eq e in
+    ⊎_elim (λ s. inl (s.0, ap₂ (λ (a : ℕ) (l : List ℕ). a ∷ l) h s.1)) (λ s. inr (s.0, ap₂ (λ (a : ℕ) (l : List ℕ). a ∷ l) (sym h) s.1)) (one_on f w v u (tail-eq_of_cons-eq e))
 
-  pub same_begun : i ≡ length f → i < length w → Begins f w
-  same_begun h k =
-      let a : f ≡ take i w = sym (take_all i f (omega arith)) ∙ e in
-      (drop i w, sym (take-append-drop i w) ∙ ap (λ (l : List ℕ). l ++ drop i w) (sym a), λ z. omega (arith, length-drop i w, ap length z))
+pub begins_word : (f w v : List ℕ) → w ≡ f ++ v → (Starts f w → ⊥) → Begins f w
+begins_word f w v e n = (v, e, λ z. n ([], sym (append-nil f) ∙ ap (λ (l : List ℕ). f ++ l) (sym z) ∙ sym e ∙ sym (append-nil w)))
 
-  pub same_whole : length w ≤ i → Starts f w
-  same_whole h = (drop i f, sym (take-append-drop i f) ∙ ap (λ (l : List ℕ). l ++ drop i f) (e ∙ take_all i w h))
-
-pub differ : (f w : List ℕ) (i : ℕ) → i < length f → i < length w → (get_or f i 0 ≡ get_or w i 0 → ⊥) → Apart f w
-differ f w i h k n v u e = n (sym (get_or-append f v 0 i h) ∙ ap (λ (l : List ℕ). get_or l i 0) e ∙ get_or-append w u 0 i k)
+pub apart_from : (f w : List ℕ) → (Starts f w → ⊥) → (Starts w f → ⊥) → Apart f w
+apart_from f w n m v u e = ⊎_elim n m (one_on f w v u e)
 
 -- a list that begins another is shorter
 pub begins_length : (f w : List ℕ) → Begins f w → length f < length w

@@ -2,7 +2,7 @@
 
 #![tactic(auto)]
 
-ghost use Rattle.std.specs.Prelude.{◌≡◌, ◌⊎◌, ◌≤◌, length, get_or};
+ghost use Rattle.std.specs.Prelude.{◌≡◌, ◌⊎◌, ◌≤◌, ◌<◌, ℕ, Bool, length, get_or};
 ghost use Rattle.text.specs.Names.{name_byte, blank};
 ghost use Rattle.tokens.specs.Tokens.{Means, front};
 ghost use Rattle.tokens.specs.Inner.{Front, PassUpTo, WordIs, cut_at, OpensNumeric, Fewest};
@@ -158,20 +158,26 @@ fn cut(len: usize) -> Answer
     }
 }
 
+// Where the bytes from `from` on that pass the test end.
+fn run_end<F: Fn(u8) -> bool>(f: &[u8], from: usize, passes: F) -> usize
+    requires callable { F.IsAlwaysCallable passes }
+    requires from_le_length { from ≤ length f.now }
+    ensures { (p : ℕ → Bool) → ((x : ℕ) (r : Bool) → x < 256 → F.post passes x r → r ≡ p x) → PassUpTo p f.now from result }
+{
+    for i in from..f.len() {
+        if !passes(f[i]) {
+            return i;
+        }
+    }
+    f.len()
+}
+
 // Where the name that goes on at `from` ends.
 fn name_end(f: &[u8], from: usize) -> usize
     requires { from ≤ length f.now }
     ensures { PassUpTo name_byte f.now from result }
 {
-    let mut i = from;
-    while i < f.len() {
-        if text::name_byte(f[i]) {
-            i += 1;
-        } else {
-            return i;
-        }
-    }
-    i
+    run_end(f, from, text::name_byte)
 }
 
 // Where the white space from `from` on ends.
@@ -179,15 +185,7 @@ fn blank_end(f: &[u8], from: usize) -> usize
     requires { from ≤ length f.now }
     ensures { PassUpTo blank f.now from result }
 {
-    let mut i = from;
-    while i < f.len() {
-        if text::blank(f[i]) {
-            i += 1;
-        } else {
-            return i;
-        }
-    }
-    i
+    run_end(f, from, text::blank)
 }
 
 // A reference by name: f starts with &, and no # follows.
@@ -245,9 +243,8 @@ fn number(f: &[u8], at: usize, from: usize, radix: u32) -> Answer
     requires opens_numeric { OpensNumeric f.now from radix }
     ensures { Means f.now at result }
 {
-    let mut i = from;
     let mut n = 0;
-    while i < f.len() {
+    for i in from..f.len() {
         let b = f[i];
         if b == 59 {
             if text::is_char(n) {
@@ -263,7 +260,6 @@ fn number(f: &[u8], at: usize, from: usize, radix: u32) -> Answer
         if 1114111 < n {
             return Answer::Bad;
         }
-        i += 1;
     }
     cut(f.len() + wanted(n, radix))
 }
@@ -315,18 +311,13 @@ pub enum Word {
 pub fn compare(f: &[u8], w: &[u8]) -> Word
     ensures { WordIs f.now w.now result }
 {
-    let mut i = 0;
-    while i < w.len() {
-        if i == f.len() {
-            return Word::Begun;
-        }
-        if f[i] == w[i] {
-            i += 1;
-        } else {
-            return Word::No;
-        }
+    if f.starts_with(w) {
+        return Word::Whole;
     }
-    Word::Whole
+    if w.starts_with(f) {
+        return Word::Begun;
+    }
+    Word::No
 }
 
 // A character: f starts with none of < & > and carriage return.

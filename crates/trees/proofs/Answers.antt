@@ -4,7 +4,7 @@
 use mathlib.Core.Path.{◌≡◌, refl, sym, ◌∙◌, ap, subst}
 use mathlib.Core.Bool.{Bool}
 use mathlib.Core.List.{List, []}
-use Prim.Native.Nat.{ℕ, zero, suc, ◌+◌, ◌-◌, ◌*◌, ◌≤◌, ◌<◌}
+use Prim.Native.Nat.{ℕ, ◌+◌, ◌-◌, ◌≤◌, ◌<◌}
 use native.Mathlib.Omega.{arith}
 use lib.Dec.{ltb}
 use lib.ListN.{get_or}
@@ -23,7 +23,7 @@ use Rattle.trees.specs.GrammarAt.{GrammarIs}
 use Rattle.trees.specs.Parsed.{RunsInside}
 use Rattle.trees.specs.Symbol.{next_of}
 use Rattle.trees.specs.Tally.{count_of, TreeIn, Tallied}
-use Rattle.trees.specs.Answers.{alike_before, AlikeIs, can_be_in, CanBeIs, CharacterIs, AtomsIs}
+use Rattle.trees.specs.Answers.{AlikeIs, can_be_in, CanBeIs, CharacterIs, AtomsIs}
 use Rattle.trees.specs.Sums.{cell_of, AllAlike, sum_cells, CountedFrom}
 use Rattle.trees.proofs.Grammars.{nth_is, nth_there, alike_there, member_alike}
 use Rattle.trees.proofs.Tallies.{few_atoms}

@@ -9,7 +9,7 @@ use native.Mathlib.Omega.{arith}
 use lib.Dec.{eqb, ltb}
 use lib.ListN.{length}
 use borrow.Author.Tests.{lt-ltb}
-use Rattle.expressions.specs.Expr.{nodes, Content, nothing, tree, nodes_of}
+use Rattle.expressions.specs.Expr.{Content, nothing, tree, nodes_of}
 use Rattle.expressions.specs.Grammar.{Production, Nth, content_of, Numbered, Small, nodes_in, only_if, tags_of, memb}
 use Rattle.expressions.specs.Listed.{alike}
 use Rattle.layout.specs.Layout.{production_count, tag_count, Sections}

@@ -4,10 +4,10 @@ use mathlib.Core.Path.{◌≡◌, refl, sym, ap, subst, ◌∙◌}
 use mathlib.Core.List.{List, [], ◌∷◌}
 use Prim.Native.Nat.{ℕ, suc, ◌+◌, ◌≤◌, ◌<◌}
 use native.Mathlib.Omega.{arith}
-use Rattle.expressions.specs.Expr.{Atom, nonterminal, anychar, Exp, atom, cat, alt, star, empty, nodes, Content, nothing, tree}
+use Rattle.expressions.specs.Expr.{nonterminal, anychar, Exp, atom, cat, alt, star, empty, nodes, Content, nothing, tree}
 use Rattle.expressions.specs.Grammar.{Production}
 use Rattle.layout.specs.Layout.{production_count}
-use Rattle.layout.specs.Records.{kind_of, argument_of, first_node_of, node_count_of}
+use Rattle.layout.specs.Records.{kind_of, argument_of, first_node_of}
 use Rattle.trees.specs.Trees.{TreeAt, ContentAt}
 use Rattle.trees.specs.GrammarAt.{ProductionIs, GrammarFrom, GrammarIs}
 

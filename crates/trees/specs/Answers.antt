@@ -1,7 +1,7 @@
 -- What is answered of a sheet's productions and its grammar. Assumes nothing.
 use Rattle.std.specs.Prelude.{◌≡◌, Bool, false, cond, ◌&&◌, List, ℕ, zero, suc, ◌+◌, ◌≤◌, eqb, ltb}
 use Rattle.expressions.specs.Expr.{anychar, atoms_of}
-use Rattle.expressions.specs.Grammar.{Production, Nth, tags_of, can_be}
+use Rattle.expressions.specs.Grammar.{Production, Nth, can_be}
 use Rattle.layout.specs.Layout.{production_count}
 use Rattle.layout.specs.Records.{nonterminal_of, tag_number_of, node_count_of}
 use Rattle.trees.specs.declared.Symbol.{Symbol}

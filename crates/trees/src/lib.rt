@@ -140,12 +140,10 @@ pub fn trees_fit(s: &[u8], l: Layout) -> bool
     requires runs_inside { RunsInside s.now }
     ensures { Tells (Trees s.now) result }
 {
-    let mut q = 0;
-    while q < l.productions {
+    for q in 0..l.productions {
         if !content_fits(s, l, q) {
             return false;
         }
-        q += 1;
     }
     true
 }
@@ -155,7 +153,7 @@ fn one_if_both(a: bool, b: bool) -> usize
     ensures value { result ≡ cond (a && b) 1 0 }
     ensures upper_bound { result ≤ 1 }
 {
-    if a { if b { 1 } else { 0 } } else { 0 }
+    usize::from(a && b)
 }
 
 // The number of productions of nonterminal m and tag t.
@@ -164,12 +162,10 @@ pub fn alike(s: &[u8], l: Layout, m: usize, t: usize) -> usize
     ensures { AlikeIs s.now m t result }
 {
     let mut count = 0;
-    let mut q = 0;
-    while q < l.productions {
+    for q in 0..l.productions {
         let nonterminal = nonterminal_of(s, l, q);
         let tag = tag_number_of(s, l, q);
         count += one_if_both(m == nonterminal, t == tag);
-        q += 1;
     }
     count
 }
@@ -190,11 +186,7 @@ pub fn can_be(s: &[u8], l: Layout, n: usize, x: Symbol) -> bool
 pub fn is_character(x: Symbol) -> bool
     ensures { CharacterIs x result }
 {
-    match x {
-        Symbol::Tag(_) => false,
-        Symbol::Character => true,
-        Symbol::End => false,
-    }
+    matches!(x, Symbol::Character)
 }
 
 // Either of two sets of strings that share none.
@@ -249,11 +241,7 @@ fn bit(b: bool) -> Number
 pub fn is_many(n: Number) -> bool
     ensures { result ≡ is_many (count_of n) }
 {
-    match n {
-        Number::None => false,
-        Number::One => false,
-        Number::Many => true,
-    }
+    matches!(n, Number::Many)
 }
 
 // An atom: whether it is the place.
@@ -373,7 +361,7 @@ fn one_alike(known: &mut [u8], m: usize, t: usize)
         return;
     }
     let i = TAGS * m + t;
-    known[i] = known[i] + 1;
+    known[i] += 1;
 }
 
 // For each nonterminal and tag the number of productions of both, into memory that is lent as zeros: nonterminal m's tags from TAGS * m on.
@@ -383,12 +371,10 @@ pub fn all_alike(s: &[u8], l: Layout, known: &mut [u8])
     requires zeros { Zeros known.old }
     ensures { AllAlike s.now known.new }
 {
-    let mut q = 0;
-    while q < l.productions {
+    for q in 0..l.productions {
         let m = nonterminal_of(s, l, q);
         let t = tag_number_of(s, l, q);
         one_alike(known, m, t);
-        q += 1;
     }
 }
 
@@ -413,10 +399,8 @@ fn raise_tags(known: &[u8], sums: &mut [u8], m: usize, n: Number)
     ensures { TagsRaised known.now m (count_of n) sums.old sums.new }
 {
     let from = TAGS * m;
-    let mut t = 0;
-    while t < TAGS {
+    for t in 0..TAGS {
         sums[t] = raise(sums[t], known[from + t], n);
-        t += 1;
     }
 }
 

@@ -5,16 +5,15 @@
 ghost use Rattle.std.specs.Prelude.{◌≡◌, ◌≤◌, ◌<◌, length};
 ghost use Rattle.io.specs.Counts.{IsPrefixLen};
 
-use crate::{LENT, STDOUT_FILENO};
-use cases::{change, fill, letter, mark, one_more, read_bytes, read_line, read_number};
+use crate::{LENT, each_line};
+use cases::{STDOUT_FILENO, change, fill, letter, mark, one_more, read_bytes, read_number};
 use files::within;
 use rescued::SalvageCounts;
 use salvages::{salvage_bytes, salvage_fresh};
 
-// Whether lines are left; how many bytes the sheet, the state and the area for what waits have now; and the calls so far.
+// How many bytes the sheet, the state and the area for what waits have now; and the calls so far.
 #[derive(Clone, Copy)]
 struct Progress {
-    more: bool,
     sheet: usize,
     state: usize,
     waiting: usize,
@@ -162,44 +161,20 @@ fn run_line(
     }
 }
 
-// Reads the next line and does what it asks for.
-fn run_next(
-    fd: i32,
-    p: Progress,
-    line: &mut [u8],
-    sheet: &mut [u8],
-    state: &mut [u8],
-    waiting: &mut [u8],
-) -> Progress {
-    let n = read_line(fd, line);
-    if n == 0 {
-        let mut last = p;
-        last.more = false;
-        return last;
-    }
-    run_line(&line[..n], p, sheet, state, waiting)
-}
-
 // Runs the lines of the file one after another.
-fn run_lines(fd: i32, line: &mut [u8], sheet: &mut [u8], state: &mut [u8], waiting: &mut [u8]) {
+fn run_lines(fd: i32, sheet: &mut [u8], state: &mut [u8], waiting: &mut [u8]) {
     let mut p = Progress {
-        more: true,
         sheet: 0,
         state: 0,
         waiting: 0,
         calls: 0,
     };
-    let mut lines: u64 = 0;
-    while lines < u64::MAX && p.more {
-        p = run_next(fd, p, line, sheet, state, waiting);
-        lines += 1;
-    }
+    each_line(fd, |line| p = run_line(line, p, sheet, state, waiting));
 }
 
 pub fn run_all(fd: i32) {
-    let mut line = io::large_buffer();
     let mut sheet = io::large_buffer();
     let mut state = io::buffer();
     let mut waiting = io::buffer();
-    run_lines(fd, &mut line, &mut sheet, &mut state, &mut waiting);
+    run_lines(fd, &mut sheet, &mut state, &mut waiting);
 }

@@ -7,12 +7,10 @@ mod days;
 mod singles;
 mod streams;
 
+use cases::{STDOUT_FILENO, read_line};
 use singles::Asked;
 use std::fs::File;
 use std::os::fd::AsRawFd;
-
-// Standard output, as io numbers it.
-const STDOUT_FILENO: i32 = 1;
 
 // What every byte of a lent area is before it is lent.
 const LENT: u8 = 0xAA;
@@ -23,6 +21,21 @@ enum Lines {
     Singles(Asked),
     Streams,
     Days,
+}
+
+// Runs what is lent on the lines of a file, one after another, up to its end or to a line with nothing in it.
+fn each_line<F: FnMut(&[u8])>(fd: i32, mut run: F)
+    requires { F.IsAlwaysCallable run }
+{
+    let mut line = io::large_buffer();
+    // A proved loop has to end, and nothing says that a file does: no file has so many lines.
+    for _ in 0..u64::MAX {
+        let n = read_line(fd, &mut line);
+        if n == 0 {
+            return;
+        }
+        run(&line[..n]);
+    }
 }
 
 fn run_part(rt: HostRuntime, name: &[u8], file: &str, lines: Lines) {

@@ -7,8 +7,8 @@
 ghost use Rattle.std.specs.Prelude.{◌+◌, ◌≤◌, ◌<◌, length};
 ghost use Rattle.io.specs.Counts.{IsPrefixLen};
 
-use crate::{LENT, STDOUT_FILENO};
-use cases::{Read, fill, is_kept, mark, read_bytes, read_line, read_number};
+use crate::{LENT, each_line};
+use cases::{Read, STDOUT_FILENO, fill, is_kept, mark, one_more, read_bytes, read_number};
 use files::within;
 
 // What is asked of every case of a file.
@@ -62,35 +62,15 @@ fn run(asked: Asked, prints: bool, given: &[u8], memory: &mut [u8]) -> Told {
     }
 }
 
-fn wider(b: u8) -> u64
-    ensures { result < 256 }
-{
-    b as u64
-}
-
-// An entry's four bytes as one number, the first byte highest.
-fn entry_at(list: &[u8], i: usize) -> u64
-    requires { i + 3 < length list.now }
-{
-    let first = 256 * wider(list[i]) + wider(list[i + 1]);
-    let second = 256 * wider(list[i + 2]) + wider(list[i + 3]);
-    65536 * first + second
-}
-
-// Writes the entries, and answers where they end.
+// Writes the entries, of four bytes each, and answers where they end.
 fn print_entries(list: &[u8], count: usize) -> usize {
-    let mut i = 0;
-    let mut done = 0;
-    while done < count {
-        if list.len() - i < 4 {
-            return i;
-        }
+    let end = 4 * count.min(list.len() / 4);
+    for entry in list[..end].chunks_exact(4) {
+        let number = u32::from_be_bytes([entry[0], entry[1], entry[2], entry[3]]);
         io::write_all(STDOUT_FILENO, b" ");
-        io::print_hex(STDOUT_FILENO, entry_at(list, i), 8);
-        i += 4;
-        done += 1;
+        io::print_hex(STDOUT_FILENO, u64::from(number), 8);
     }
-    i
+    end
 }
 
 // Only with 8 and 9 are there entries in the list.
@@ -163,20 +143,10 @@ fn run_line(case: u64, asked: Asked, line: &[u8]) {
     );
 }
 
-// Runs the next line, and answers whether there was one.
-fn run_next(fd: i32, case: u64, asked: Asked) -> bool {
-    let mut line = io::large_buffer();
-    let n = read_line(fd, &mut line);
-    if n == 0 {
-        return false;
-    }
-    run_line(case, asked, &line[..n]);
-    true
-}
-
 pub fn run_all(fd: i32, asked: Asked) {
-    let mut case = 1;
-    while case < u64::MAX && run_next(fd, case, asked) {
-        case += 1;
-    }
+    let mut case = 0;
+    each_line(fd, |line| {
+        case = one_more(case);
+        run_line(case, asked, line);
+    });
 }

@@ -4,8 +4,8 @@
 ghost use Rattle.std.specs.Prelude.{◌≡◌, ◌≤◌, ◌<◌, length};
 ghost use Rattle.io.specs.Counts.{IsPrefixLen};
 
-use crate::{LENT, STDOUT_FILENO};
-use cases::{change, fill, is_kept, letter, one_more, read_bytes, read_line, read_number};
+use crate::{LENT, each_line};
+use cases::{STDOUT_FILENO, change, fill, is_kept, letter, one_more, read_bytes, read_number};
 use converter::convert_bytes;
 use files::within;
 use state::State;
@@ -24,11 +24,10 @@ const HEAD: usize = State::HEAD;
 
 const ANY: u8 = 2;
 
-// Whether lines are left; how many bytes the sheet, the stream, the wanted output and the state have now; the calls so far, those of this group, and how many of these
+// How many bytes the sheet, the stream, the wanted output and the state have now; the calls so far, those of this group, and how many of these
 // were answered as they must be.
 #[derive(Clone, Copy)]
 struct Progress {
-    more: bool,
     sheet: usize,
     stream: usize,
     wanted: usize,
@@ -39,7 +38,7 @@ struct Progress {
 }
 
 // What a call answers, and has to.
-#[derive(Clone, Copy)]
+#[derive(Clone, Copy, PartialEq)]
 struct Answer {
     number: u64,
     taken: u64,
@@ -60,12 +59,6 @@ struct Call {
     head: usize,
 }
 
-fn least(a: usize, b: usize) -> usize
-    ensures { result ≤ b }
-{
-    if a < b { a } else { b }
-}
-
 // The bytes of a fresh state: zeros, and the closing number of an open one.
 fn fresh(state: &mut [u8]) {
     fill(state, 0);
@@ -76,35 +69,14 @@ fn fresh(state: &mut [u8]) {
 
 // Copies as many bytes as both have.
 fn copy(from: &[u8], to: &mut [u8]) {
-    let mut i = 0;
-    while i < to.len() {
-        if i >= from.len() {
-            return;
-        }
-        to[i] = from[i];
-        i += 1;
+    for (place, b) in to.iter_mut().zip(from) {
+        *place = *b;
     }
 }
 
 // Whether the first n bytes are those of the other memory from a place on.
 fn is_same(memory: &[u8], n: usize, other: &[u8], at: usize) -> bool {
-    let mut i = 0;
-    while i < n {
-        if i >= memory.len() {
-            return false;
-        }
-        if at >= other.len() {
-            return false;
-        }
-        if i >= other.len() - at {
-            return false;
-        }
-        if memory[i] != other[at + i] {
-            return false;
-        }
-        i += 1;
-    }
-    true
+    n <= memory.len() && other[at.min(other.len())..].starts_with(&memory[..n])
 }
 
 // The fields of a call's line.
@@ -137,16 +109,14 @@ fn read_call(line: &[u8]) -> Call {
 
 // Whether the state's first bytes are these, but for a flag that tells nothing.
 fn is_head(state: &[u8], head: &[u8]) -> bool {
-    let mut i = 0;
-    while i < head.len() {
+    for (i, b) in head.iter().enumerate() {
         if i >= state.len() {
             return false;
         }
-        let any = i == ROOTED && head[i] == ANY;
-        if state[i] != head[i] && !any {
+        let any = i == ROOTED && *b == ANY;
+        if state[i] != *b && !any {
             return false;
         }
-        i += 1;
     }
     true
 }
@@ -154,18 +124,11 @@ fn is_head(state: &[u8], head: &[u8]) -> bool {
 // Whether the state's first bytes are those that the line gives; with none given, whether all its bytes are as they were.
 fn is_state(line: &[u8], at: usize, state: &[u8], before: &[u8]) -> bool {
     if at >= line.len() {
-        return is_same(state, state.len(), before, 0);
+        return before.starts_with(state);
     }
     let mut head = [0u8; HEAD];
     let n = read_bytes(line, at, &mut head, 0);
     n == HEAD && state.len() == STATE && is_head(state, &head)
-}
-
-fn is_answer(is: Answer, must: Answer) -> bool {
-    is.number == must.number
-        && is.taken == must.taken
-        && is.written == must.written
-        && is.visits == must.visits
 }
 
 fn print_two(name: &[u8], is: u64, must: u64) {
@@ -235,7 +198,7 @@ fn convert(
 
 // Whether all is as it must be; a call that differs gets its line.
 fn judge(call: u64, is: Answer, must: Answer, output: bool, state: bool) -> bool {
-    if is_answer(is, must) && output && state {
+    if is == must && output && state {
         return true;
     }
     print_difference(call, is, must, output, state);
@@ -255,7 +218,7 @@ fn run_call(
     let mut out = io::large_buffer();
     let c = read_call(line);
     let to = within(c.to, stream);
-    let from = least(c.from, to);
+    let from = c.from.min(to);
     let room = within(c.room, &out);
     copy(state, &mut before);
     let done = convert(c, sheet, &stream[from..to], wanted, state, &mut out[..room]);
@@ -353,36 +316,15 @@ fn run_line(
     }
 }
 
-// Reads the next line and does what it asks for.
-fn run_next(
-    fd: i32,
-    p: Progress,
-    line: &mut [u8],
-    sheet: &mut [u8],
-    stream: &mut [u8],
-    wanted: &mut [u8],
-    state: &mut [u8],
-) -> Progress {
-    let n = read_line(fd, line);
-    if n == 0 {
-        let mut last = p;
-        last.more = false;
-        return last;
-    }
-    run_line(&line[..n], p, sheet, stream, wanted, state)
-}
-
 // Runs the lines of the file one after another, and answers how many calls they had.
 fn run_lines(
     fd: i32,
-    line: &mut [u8],
     sheet: &mut [u8],
     stream: &mut [u8],
     wanted: &mut [u8],
     state: &mut [u8],
 ) -> u64 {
     let mut p = Progress {
-        more: true,
         sheet: 0,
         stream: 0,
         wanted: 0,
@@ -391,28 +333,18 @@ fn run_lines(
         group: 0,
         agreed: 0,
     };
-    let mut lines: u64 = 0;
-    while lines < u64::MAX && p.more {
-        p = run_next(fd, p, line, sheet, stream, wanted, state);
-        lines += 1;
-    }
+    each_line(fd, |line| {
+        p = run_line(line, p, sheet, stream, wanted, state)
+    });
     p.calls
 }
 
 pub fn run_all(fd: i32) {
-    let mut line = io::large_buffer();
     let mut sheet = io::large_buffer();
     let mut stream = io::large_buffer();
     let mut wanted = io::large_buffer();
     let mut state = io::buffer();
-    let calls = run_lines(
-        fd,
-        &mut line,
-        &mut sheet,
-        &mut stream,
-        &mut wanted,
-        &mut state,
-    );
+    let calls = run_lines(fd, &mut sheet, &mut stream, &mut wanted, &mut state);
     io::print_decimal(STDOUT_FILENO, calls);
     io::write_all(STDOUT_FILENO, b" calls in all\n");
 }

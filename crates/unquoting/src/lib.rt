@@ -53,6 +53,7 @@ pub fn unquote(x: &[u8], out: &mut [u8]) -> usize
 {
     let mut i = 1;
     let mut n = 0;
+    // A while: each step goes on by as many bytes as the byte was written with, which no range gives.
     while i < x.len() {
         if x[i] == 34 {
             return n;

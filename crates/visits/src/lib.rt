@@ -206,6 +206,7 @@ fn put_text(f: &[u8], out: &mut [u8], at: usize, write: bool) -> usize
 {
     let mut i = 0;
     let mut n = at;
+    // A while: each step goes on by the bytes that a character took, which no range gives.
     while i < f.len() {
         let text::Decoded::Whole(c, k) = text::decode(&f[i..]) else {
             return n;

@@ -184,6 +184,7 @@ fn pass_tree(s: &[u8], l: Layout, at: usize) -> Passing
         atoms: 0,
         left: 1,
     };
+    // A while: each node that is passed says how many trees are left, which no range gives.
     while w.left > 0 {
         let kind = kind_of(s, l, w.node);
         w = one_on(w, kind);

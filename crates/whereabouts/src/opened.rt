@@ -33,9 +33,9 @@ fn say_content(s: &[u8], l: Layout, q: usize, place: usize)
 
 // The line on which an element began, where it is known.
 fn say_line(lines: &[u64], i: usize) {
-    if i < lines.len() {
+    if let Some(line) = lines.get(i) {
         say(b" (line ");
-        io::print_decimal(STDOUT_FILENO, lines[i]);
+        io::print_decimal(STDOUT_FILENO, *line);
         say(b")");
     }
 }
@@ -44,12 +44,10 @@ fn say_elements(s: &[u8], l: Layout, productions: &[u8], lines: &[u64])
     requires { LaidOut s.now l }
 {
     say(b"Open there, from the outside in:");
-    let mut i = 0;
-    while i < productions.len() {
+    for (i, q) in productions.iter().enumerate() {
         say(b" ");
-        say_element(s, l, byte_at(productions, i));
+        say_element(s, l, *q as usize);
         say_line(lines, i);
-        i += 1;
     }
     say(b"\n");
 }

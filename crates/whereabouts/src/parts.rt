@@ -32,8 +32,7 @@ pub fn say_place(s: &[u8], l: Layout, q: usize, p: usize)
     say(b"after the ");
     say_ordinal(p);
     say(b" atom");
-    let found = words::node_of_atom(s, l, q, p);
-    if let words::Found::At(i) = found {
+    if let Some(i) = words::node_of_atom(s, l, q, p) {
         say(b" (");
         say_atom(s, l, i);
         say(b")");
@@ -60,10 +59,8 @@ fn atom_number(s: &[u8], l: Layout, first: usize, i: usize) -> usize
     ensures { result ≤ i + 1 }
 {
     let mut number = 1;
-    let mut k = first;
-    while k < i {
+    for k in first..i {
         number = number_past(s, l, k, number);
-        k += 1;
     }
     number
 }

@@ -6,7 +6,6 @@
 #![tactic(auto)]
 
 ghost use Rattle.std.specs.Prelude.{◌≡◌, ◌<◌};
-ghost use Rattle.tells.specs.Tells.{Tells};
 ghost use Rattle.io.specs.Counts.{IsPrefixLen};
 
 use callers::Caller;
@@ -89,22 +88,6 @@ fn has_words(rt: HostRuntime, told: bool, n: usize) -> bool
 {
     let end = if told { n + 1 } else { n };
     !is_given(rt, end) && (end == 0 || is_given(rt, end - 1))
-}
-
-fn same(a: &[u8], b: &[u8]) -> bool
-    ensures { Tells (a.now ≡ b.now) result }
-{
-    if a.len() != b.len() {
-        return false;
-    }
-    let mut i = 0;
-    while i < a.len() {
-        if a[i] != b[i] {
-            return false;
-        }
-        i += 1;
-    }
-    true
 }
 
 // `check`, `print` or `models` and its one file.
@@ -211,7 +194,7 @@ fn is_word(rt: HostRuntime, told: bool, i: usize, text: &[u8]) -> bool
 {
     let mut memory = io::buffer();
     let given = word(rt, told, i, &mut memory);
-    same(&memory[..given.length], text)
+    &memory[..given.length] == text
 }
 
 // `convert` or `try`, which have n words, and perhaps --progress behind them.
@@ -237,38 +220,23 @@ fn run_convert(rt: HostRuntime, told: bool) -> u64 {
 
 // The commands that name no file.
 fn run_other(command: &[u8]) -> u64 {
-    if same(command, b"help") {
-        return help();
+    match command {
+        b"help" | b"--help" => help(),
+        b"--version" => version(),
+        _ => usage(),
     }
-    if same(command, b"--help") {
-        return help();
-    }
-    if same(command, b"--version") {
-        return version();
-    }
-    usage()
 }
 
 fn run_command(rt: HostRuntime, told: bool, command: &[u8]) -> u64 {
-    if same(command, b"check") {
-        return run_on_one(rt, told, CHECKS);
+    match command {
+        b"check" => run_on_one(rt, told, CHECKS),
+        b"print" => run_on_one(rt, told, PRINTS),
+        b"models" => run_on_one(rt, told, MODELS),
+        b"write" => run_write(rt, told),
+        b"try" => run_conversion(rt, told, 4, TRIES),
+        b"convert" => run_convert(rt, told),
+        _ => run_other(command),
     }
-    if same(command, b"print") {
-        return run_on_one(rt, told, PRINTS);
-    }
-    if same(command, b"models") {
-        return run_on_one(rt, told, MODELS);
-    }
-    if same(command, b"write") {
-        return run_write(rt, told);
-    }
-    if same(command, b"try") {
-        return run_conversion(rt, told, 4, TRIES);
-    }
-    if same(command, b"convert") {
-        return run_convert(rt, told);
-    }
-    run_other(command)
 }
 
 fn run(rt: HostRuntime, told: bool) -> u64 {
@@ -287,13 +255,10 @@ fn is_told(rt: HostRuntime) -> bool {
 fn keep_standard(rt: HostRuntime) {
     let mut how = OpenOptions::new();
     how.read(true).write(true);
-    match how.open(&rt, "/dev/null") {
-        Ok(file) => {
-            if file.as_raw_fd() <= STDERR_FILENO {
-                file.into_raw_fd();
-            }
+    if let Ok(file) = how.open(&rt, "/dev/null") {
+        if file.as_raw_fd() <= STDERR_FILENO {
+            file.into_raw_fd();
         }
-        Err(_) => {}
     }
 }
 

@@ -2,7 +2,7 @@
 -- Assumes nothing.
 use mathlib.Core.Path.{◌≡◌, refl, sym, ◌∙◌, ap, subst}
 use mathlib.Core.List.{List, [], ◌∷◌, ◌++◌}
-use Prim.Native.Nat.{ℕ, zero, suc, ◌+◌, ◌*◌, ◌/◌, ◌%◌, ◌≤◌, ◌<◌}
+use Prim.Native.Nat.{ℕ, zero, suc, ◌+◌, ◌*◌, ◌/◌, ◌%◌, ◌≤◌, ◌<◌, min}
 use native.Mathlib.Omega.{arith}
 use lib.ListN.{length, take, get_or, length-take}
 use Rattle.expressions.specs.Expr.{Exp, nodes, Content, nothing, tree}
@@ -118,11 +118,14 @@ module _ (a b : List ℕ) (k : ℕ) (agreed : (i : ℕ) → i < k → get_or a i
     at_sign : (get_or a k 0 ≡ get_or b k 0 → ⊥) → k ≡ m
     at_sign differ = same_number k m (λ z. differ (agrees k z)) not_past
 
-  pub ended_first : length a ≤ k → SignIs a b 0
-  ended_first z = record { is = λ e n α β p q h. absurd (not_past e n α β p q h (let y = first_long e n α β p q h in omega (arith, z, y))) }
-
-  pub ended_second : length b ≤ k → SignIs a b 0
-  ended_second z = record { is = λ e n α β p q h. absurd (not_past e n α β p q h (let y = second_long e n α β p q h in omega (arith, z, y))) }
+  pub ended : k ≡ min (length a) (length b) → SignIs a b 0
+  ended z =
+      record {
+        is = λ e n α β p q h.
+            let x = first_long e n α β p q h in
+            let y = second_long e n α β p q h in
+            absurd (not_past e n α β p q h (omega (arith, z, x, y)));
+      }
 
   sign_there : (e : Content) (n r c d : ℕ) (γ δ : Bracket) → SignAt c d r → c ≡ code_of γ → d ≡ code_of δ → PartingSignOf e n γ δ → r ≡ n
   sign_there nothing n r c d γ δ s p q h = absurd h

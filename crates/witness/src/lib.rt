@@ -45,27 +45,29 @@ fn empty_row() -> Row
     }
 }
 
-fn nothing() -> Pair
-    ensures { HoldsWithin 0 0 no_string result }
+// Both rows are empty: the count says whether that is a string.
+fn empties(count: usize) -> Pair
+    ensures { (result.count ≡ count) × (result.first.length ≡ 0) × (result.second.length ≡ 0) }
 {
     let row = empty_row();
     Pair {
-        count: 0,
+        count: count,
         first: row,
         second: row,
     }
+}
+
+fn nothing() -> Pair
+    ensures { HoldsWithin 0 0 no_string result }
+{
+    empties(0)
 }
 
 // The empty string alone.
 fn just_empty() -> Pair
     ensures { HoldsWithin 0 0 (one_string []) result }
 {
-    let row = empty_row();
-    Pair {
-        count: 1,
-        first: row,
-        second: row,
-    }
+    empties(1)
 }
 
 fn when(there: bool) -> Pair
@@ -470,17 +472,10 @@ fn sign_at(c: u8, d: u8) -> usize
 fn sign_of(a: &[u8], b: &[u8]) -> usize
     ensures { SignIs a.now b.now result }
 {
-    let mut k = 0;
-    while k < a.len() {
-        if b.len() <= k {
-            return 0;
+    for (c, d) in a.iter().zip(b) {
+        if *c != *d {
+            return sign_at(*c, *d);
         }
-        let c = a[k];
-        let d = b[k];
-        if c != d {
-            return sign_at(c, d);
-        }
-        k += 1;
     }
     0
 }

@@ -1,8 +1,6 @@
 -- Which node of a production is its p-th atom, atoms from 1 left to right. Assumes nothing.
-use Rattle.std.specs.Prelude.{◌≡◌, cond, List, ℕ, zero, suc, ◌+◌, ◌<◌, ltb}
+use Rattle.std.specs.Prelude.{◌≡◌, cond, List, ℕ, zero, suc, ◌+◌, ◌<◌, ltb, Option, Some, None}
 use Rattle.layout.specs.Records.{first_node_of, node_count_of, kind_of}
-use Rattle.words.specs.declared.Found.{Found}
-use Rattle.words.specs.declared.Found.TheVariants.{At, Nothing}
 
 -- what a node of this kind adds to a count of atoms: kinds 1 and 2 are atoms
 abbrev pub one_if_atom : ℕ → ℕ
@@ -20,6 +18,6 @@ pub record AtomAt (s : List ℕ) (q p k : ℕ) : Type 0 where
   pub number : suc (atoms_before s (first_node_of s q) k) ≡ p
 
 -- a node's number in the sheet is answered exactly where the production has a p-th atom
-abbrev pub FoundIs : List ℕ → ℕ → ℕ → Found → Type 0
-FoundIs s q p (At i) = (k : ℕ) × (i ≡ first_node_of s q + k) × AtomAt s q p k
-FoundIs s q p Nothing = (k : ℕ) → AtomAt s q p k → ⊥
+abbrev pub FoundIs : List ℕ → ℕ → ℕ → Option ℕ → Type 0
+FoundIs s q p (Some i) = (k : ℕ) × (i ≡ first_node_of s q + k) × AtomAt s q p k
+FoundIs s q p None = (k : ℕ) → AtomAt s q p k → ⊥

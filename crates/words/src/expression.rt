@@ -23,15 +23,10 @@ fn is_bare(kind: usize, around: usize) -> bool {
     (around == 0) | (around == kind)
 }
 
-fn say_opening(bare: bool) {
+// A bracket, where the tree needs it.
+fn say_unless(bare: bool, bracket: &[u8]) {
     if !bare {
-        say(b"(");
-    }
-}
-
-fn say_closing(bare: bool) {
-    if !bare {
-        say(b")");
+        say(bracket);
     }
 }
 
@@ -87,18 +82,18 @@ pub fn say_tree(s: &[u8], l: Layout, i: usize, left: usize, atom: usize, around:
         };
     }
     let bare = is_bare(kind, around);
-    say_opening(bare);
+    say_unless(bare, b"(");
     let first = say_tree(s, l, i + 1, left - 1, atom, kind);
     let middle = first.node;
     let next = first.atom;
     if kind == 5 {
         say(b"*");
-        say_closing(bare);
+        say_unless(bare, b")");
         return first;
     }
     say_joint(kind);
     let second = say_tree(s, l, middle, i + left - middle, next, 7);
-    say_closing(bare);
+    say_unless(bare, b")");
     second
 }
 

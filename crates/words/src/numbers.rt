@@ -175,11 +175,9 @@ fn say_row(n: usize) {
 
 // Every number with its words.
 pub fn table() {
-    let mut n = 0;
-    while n < 57 {
+    for n in 0..57 {
         if is_number(n) {
             say_row(n);
         }
-        n += 1;
     }
 }

@@ -83,8 +83,7 @@ pub fn say_tags_of(s: &[u8], l: Layout, n: usize)
     requires { LaidOut s.now l }
 {
     let mut some = false;
-    let mut t = 0;
-    while t < l.tags {
+    for t in 0..l.tags {
         if alike(s, l, n, t) > 0 {
             if some {
                 say(b" or ");
@@ -92,7 +91,6 @@ pub fn say_tags_of(s: &[u8], l: Layout, n: usize)
             say_tag(s, l, t);
             some = true;
         }
-        t += 1;
     }
 }
 

@@ -251,6 +251,7 @@ pub fn write(text: &[u8], sheet: &mut [u8]) -> Written
     let mut productions = [0; 768];
     let mut nodes = [0; 1536];
     let mut w = begin(text);
+    // A while: each stride says whether it goes on, by the token that it read, which no range gives.
     while w.going {
         w = stride(
             text,

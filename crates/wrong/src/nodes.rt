@@ -46,12 +46,10 @@ fn parts_of(kind: usize) -> usize
 fn level(open: [usize; 16], deep: usize) -> usize
     ensures { result < 16 }
 {
-    let mut d = deep % 16;
-    while d > 0 {
+    for d in (1..deep % 16 + 1).rev() {
         if open[d] > 0 {
             return d;
         }
-        d -= 1;
     }
     0
 }
@@ -64,8 +62,7 @@ fn is_tree(s: &[u8], i: usize, count: usize) -> bool
     let mut open = [0usize; 16];
     open[0] = 1;
     let mut deep = 0;
-    let mut k = 0;
-    while k < count {
+    for k in 0..count {
         let at = node_record(s, i + k);
         let kind = small(s, at);
         let left = open[deep];
@@ -85,7 +82,6 @@ fn is_tree(s: &[u8], i: usize, count: usize) -> bool
             open[deep] = parts;
         }
         deep = level(open, deep);
-        k += 1;
     }
     (deep == 0) & (open[0] == 0)
 }
@@ -102,8 +98,7 @@ fn say_run(s: &[u8], first: usize, nodes: usize)
 // The nodes of the first production whose nodes are not one tree.
 pub(crate) fn say_expression(s: &[u8]) {
     let count = field_of(s, 3);
-    let mut q = 0;
-    while q < count {
+    for q in 0..count {
         let nodes = node_count(s, q);
         let first = first_node(s, q);
         if (nodes > 0) & !is_tree(s, first, nodes) {
@@ -111,7 +106,6 @@ pub(crate) fn say_expression(s: &[u8]) {
             say_run(s, first, nodes);
             return;
         }
-        q += 1;
     }
 }
 
@@ -120,12 +114,10 @@ pub fn is_produced(s: &[u8], n: usize) -> bool
     ensures { Size s.now → Tells (Produced s.now n) result }
 {
     let count = field_of(s, 3);
-    let mut q = 0;
-    while q < count {
+    for q in 0..count {
         if small(s, record_of(s, q)) == n {
             return true;
         }
-        q += 1;
     }
     false
 }
@@ -144,8 +136,7 @@ pub(crate) fn say_missing(s: &[u8]) {
         return;
     }
     let count = field_of(s, 5);
-    let mut i = 0;
-    while i < count {
+    for i in 0..count {
         let at = node_record(s, i);
         let n = small(s, at + 1);
         if (small(s, at) == 1) & !is_produced(s, n) {
@@ -153,6 +144,5 @@ pub(crate) fn say_missing(s: &[u8]) {
             say_record(b"node", i, at);
             return;
         }
-        i += 1;
     }
 }

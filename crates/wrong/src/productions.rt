@@ -59,14 +59,12 @@ fn say_whole(s: &[u8], before: usize) {
 pub(crate) fn say_production(s: &[u8]) {
     let count = field_of(s, 3);
     let mut before = 0;
-    let mut q = 0;
-    while q < count {
+    for q in 0..count {
         if !fits(s, q, before) {
             say_record(b"production", q, record_of(s, q));
             return;
         }
         before = (before + node_count(s, q)) % 65536;
-        q += 1;
     }
     say_whole(s, before);
 }

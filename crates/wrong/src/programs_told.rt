@@ -36,17 +36,21 @@ fn step(section: &[u8], tags: usize, strings: &[u8], at: usize) -> Walked {
     }
 }
 
+// The most bytes that programs have.
+const PROGRAMS: usize = 16384;
+
 // The first program's start that is not before `stop`, or that of a wrong one. Each program has a byte, so the turns suffice.
 fn start_from(section: &[u8], tags: usize, strings: &[u8], stop: usize) -> usize {
     let mut at = 0;
-    let mut turns: usize = 16384;
-    while turns > 0 && at < stop {
+    for _ in 0..PROGRAMS {
+        if at >= stop {
+            return at;
+        }
         let w = step(section, tags, strings, at);
         if !w.good {
             return at;
         }
         at = w.at;
-        turns -= 1;
     }
     at
 }
@@ -99,14 +103,12 @@ fn first_unfit(s: &[u8], section: &[u8], strings: &[u8], of_node: bool, count: u
     requires { count < 65536 }
     ensures { result ≤ count }
 {
-    let mut k = 0;
-    while k < count {
+    for k in 0..count {
         if !fields_fit(s, section, strings, of_node, k) {
             return k;
         }
-        k += 1;
     }
-    k
+    count
 }
 
 // Every program is right: the first production, or else the first node, whose fields are not.

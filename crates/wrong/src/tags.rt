@@ -25,12 +25,10 @@ fn is_spelled(s: &[u8], at: usize) -> bool
     if (n < 1) | (n > 15) {
         return false;
     }
-    let mut k = 1;
-    while k < WIDTH {
+    for k in 1..WIDTH {
         if !byte_fits(byte(s, at + k), k, n) {
             return false;
         }
-        k += 1;
     }
     true
 }
@@ -40,38 +38,27 @@ fn are_same(s: &[u8], a: usize, b: usize) -> bool
     requires a_bound { a < 1048576 }
     requires b_bound { b < 1048576 }
 {
-    let mut k = 0;
-    while k < WIDTH {
-        if byte(s, a + k) != byte(s, b + k) {
-            return false;
-        }
-        k += 1;
-    }
-    true
+    s.get(a..a + WIDTH) == s.get(b..b + WIDTH)
 }
 
 // Whether no tag before t has its record.
 fn is_new(s: &[u8], t: usize) -> bool
     requires { t < 65536 }
 {
-    let mut u = 0;
-    while u < t {
+    for u in 0..t {
         if are_same(s, WIDTH * u, WIDTH * t) {
             return false;
         }
-        u += 1;
     }
     true
 }
 
 pub(crate) fn say_tag(s: &[u8]) {
     let count = field_of(s, 1);
-    let mut t = 0;
-    while t < count {
+    for t in 0..count {
         if !is_spelled(s, WIDTH * t) | !is_new(s, t) {
             say_record(b"tag", t, WIDTH * t);
             return;
         }
-        t += 1;
     }
 }

@@ -80,40 +80,21 @@ fn first_unfit(s: &[u8]) -> usize
     if !fits(s, MARK) {
         return MARK;
     }
-    let mut k = 0;
-    while k < LENGTH {
+    for k in 0..LENGTH {
         if !fits(s, k) {
             return k;
         }
-        k += 1;
     }
     LENGTH
 }
 
-// Says the n-th of some names, from 0. A comma stands behind each.
-fn say_nth(names: &[u8], n: usize) {
-    let mut left = n;
-    let mut from = 0;
-    let mut i = 0;
-    while i < names.len() {
-        if names[i] == b',' {
-            if left == 0 {
-                say(&names[from..i]);
-                return;
-            }
-            left -= 1;
-            from = i + 1;
-        }
-        i += 1;
-    }
-}
-
 // The trailer's number k by its name; the start, which is number 10, always fits.
 fn say_name(k: usize) {
-    say_nth(
-        b"offset of the tags,count of the tags,offset of the productions,count of the productions,offset of the nodes,count of the nodes,offset of the programs,length of the programs,offset of the strings,length of the strings,start,mark,",
-        k,
-    );
+    let names =
+        b"offset of the tags,count of the tags,offset of the productions,count of the productions,offset of the nodes,count of the nodes,offset of the programs,length of the programs,offset of the strings,length of the strings,start,mark";
+    if let Some(name) = names.split(|b| *b == b',').nth(k) {
+        say(name);
+    }
 }
 
 fn say_bounds(least: usize, most: usize) {

@@ -3,7 +3,7 @@ use native.Mathlib.Omega.{arith}
 use mathlib.Core.Bool.{true}
 use mathlib.Core.List.{[]}
 use mathlib.Core.Path.{◌≡◌, refl, sym, ap, ◌∙◌, subst}
-use Prim.Native.Nat.{◌-◌, ◌<◌}
+use Prim.Native.Nat.{ℕ, ◌<◌}
 use lib.ListN.{length, length-set, get_or}
 use Rattle.state.specs.Bounds.{most_sets}
 use Rattle.state.specs.Changes.{bare_saved}
@@ -18,12 +18,11 @@ use Rattle.acts.specs.Standing.{standing_at}
 use Rattle.visits.proofs.Running.{on, off}
 use Rattle.acts.proofs.Bracketing.{LeftIn, all_left, none_left}
 use Rattle.acts.proofs.Places.{begins, no_slot, even_goes, odd_goes, rejects}
-use mathlib.Core.Bool.{not}
 use Rattle.acts.proofs.brackets.Goals as goal
 use Rattle.acts.proofs.brackets.Goals.{then-c-eq0, else-c-eq0}
 
-pub loop-i-init : goal.loop-i-init
-loop-i-init c = (
+pub loop-c-init : goal.loop-c-init
+loop-c-init c = (
   refl,
   (
     (frame_sized c.args.z.top _ c.well_formed.1.1.1.1.0.1.1.1.1.1.1.1.1.0).saved,
@@ -34,26 +33,24 @@ loop-i-init c = (
 
 pub returns-then-j-ge-SETS : goal.returns-then-j-ge-SETS
 returns-then-j-ge-SETS c =
-    let l = c.loop-i in
+    let l = c.loop-c in
     let j = c.slot-j in
-    let t = c.loop-i-test in
     λ b. subst (λ (x : Acted). BracketsAs c.args.s.now c.args.q c.args.line.now (full c.args.z b) (record { write = c.args.write; lent = c.args.out.now; at = c.args.at }) (seen x b) l.out) (sym c.rejected.ensures)
-    (no_slot c.args.s.now c.args.q c.args.line.now c.args.z (record { write = c.args.write; lent = c.args.out.now; at = c.args.at }) l.i l.env l.n l.sets l.to l.out b (l.invariant.1.1 b) t.true j.result j.ensures c.if-j-ge-SETS.true c.requires.line_len_bound)
+    (no_slot c.args.s.now c.args.q c.args.line.now c.args.z (record { write = c.args.write; lent = c.args.out.now; at = c.args.at }) l.c-index l.env l.n l.sets l.to l.out b (l.invariant.1.1 b) (omega arith) j.result j.ensures c.if-j-ge-SETS.true c.requires.line_len_bound)
 
 pub perform-done-requires : goal.perform-done-requires
 perform-done-requires c =
-    let left = c.loop-i.invariant.1.1 [] in
+    let left = c.loop-c.invariant.1.1 [] in
     record { laid_out = c.requires.laid_out; q_lt_productions = c.requires.q_lt_productions; at_bound = omega (arith, c.requires.line_len_bound, c.requires.at_bound, left.few, left.reach); well_formed = c.requires.well_formed }
 
 pub returns-then-not-done : goal.returns-then-not-done
 returns-then-not-done c =
-    let l = c.loop-i in
+    let l = c.loop-c in
     let j = c.slot-j in
-    let t = c.loop-i-test in
     let few : j.result < most_sets = omega (arith, c.if-j-ge-SETS.false) in
     let r = c.perform-done in
     λ b. subst (λ (x : Acted). BracketsAs c.args.s.now c.args.q c.args.line.now (full c.args.z b) (record { write = c.args.write; lent = c.args.out.now; at = c.args.at }) (seen x b) r.new.out) (sym c.rejected-then-not-done.ensures)
-    (rejects c.args.s.now c.args.q c.args.line.now c.args.z (record { write = c.args.write; lent = c.args.out.now; at = c.args.at }) l.i l.env l.n l.sets l.to l.out b (l.invariant.1.1 b) t.true j.result j.ensures (get_or l.sets j.result _) r.result _ r.ensures few l.invariant.1.0 (get_d_any l.sets j.result _ bare_saved (omega (arith, few, l.invariant.1.0))) (off _ c.if-not-done.true) c.requires.line_len_bound)
+    (rejects c.args.s.now c.args.q c.args.line.now c.args.z (record { write = c.args.write; lent = c.args.out.now; at = c.args.at }) l.c-index l.env l.n l.sets l.to l.out b (l.invariant.1.1 b) (omega arith) j.result j.ensures (get_or l.sets j.result _) r.result _ r.ensures few l.invariant.1.0 (get_d_any l.sets j.result _ bare_saved (omega (arith, few, l.invariant.1.0))) (off _ c.if-not-done.true) c.requires.line_len_bound)
 
 pub overflow_add-n : goal.overflow_add-n
 overflow_add-n c =
@@ -67,17 +64,10 @@ overflow_sub-n c =
     let few : j.result < most_sets = omega (arith, c.if-j-ge-SETS.false) in
     search (j.ensures.odd c.if-c-eq0.false few, rules)
 
-pub overflow_add-i : goal.overflow_add-i
-overflow_add-i c = record { fits = omega (arith, c.loop-i-test.true, c.requires.line_len_bound) }
-
-pub loop-i-smaller : goal.loop-i-smaller
-loop-i-smaller c = omega (arith, c.loop-i-test.true)
-
-pub loop-i-preserved : goal.loop-i-preserved
-loop-i-preserved c =
-    let l = c.loop-i in
+pub loop-c-preserved : goal.loop-c-preserved
+loop-c-preserved c =
+    let l = c.loop-c in
     let j = c.slot-j in
-    let t = c.loop-i-test in
     let r = c.perform-done in
     let few : j.result < most_sets = omega (arith, c.if-j-ge-SETS.false) in
     let done : r.result.ok ≡ true = on _ c.if-not-done.false in (
@@ -85,21 +75,23 @@ loop-i-preserved c =
       (
         elim c.if-c-eq0.branch [ then-c-eq0 w ↦ ap length w.sets-is ∙ length-set l.sets j.result _ ∙ l.invariant.1.0 | else-c-eq0 w ↦ ap length w.sets-is ∙ l.invariant.1.0 ],
         λ b. elim c.if-c-eq0.branch [
-          | then-c-eq0 w ↦ even_goes c.args.s.now c.args.q c.args.line.now c.args.z (record { write = c.args.write; lent = c.args.out.now; at = c.args.at }) l.i l.env l.n l.sets l.to l.out b (l.invariant.1.1 b) t.true j.result j.ensures (get_or l.sets j.result _) r.result _ r.ensures few w.if-c-eq0.true done _ _ _ w.n-is w.sets-is w.env-is
-          | else-c-eq0 w ↦ odd_goes c.args.s.now c.args.q c.args.line.now c.args.z (record { write = c.args.write; lent = c.args.out.now; at = c.args.at }) l.i l.env l.n l.sets l.to l.out b (l.invariant.1.1 b) t.true j.result j.ensures (get_or l.sets j.result _) r.result _ r.ensures few l.invariant.1.0 (get_d_any l.sets j.result _ bare_saved (omega (arith, few, l.invariant.1.0))) w.if-c-eq0.false done _ _ _ w.n-is w.sets-is w.env-is
+          | then-c-eq0 w ↦ even_goes c.args.s.now c.args.q c.args.line.now c.args.z (record { write = c.args.write; lent = c.args.out.now; at = c.args.at }) l.c-index l.env l.n l.sets l.to l.out b (l.invariant.1.1 b) (omega arith) j.result j.ensures (get_or l.sets j.result _) r.result _ r.ensures few w.if-c-eq0.true done _ _ _ w.n-is w.sets-is w.env-is
+          | else-c-eq0 w ↦ odd_goes c.args.s.now c.args.q c.args.line.now c.args.z (record { write = c.args.write; lent = c.args.out.now; at = c.args.at }) l.c-index l.env l.n l.sets l.to l.out b (l.invariant.1.1 b) (omega arith) j.result j.ensures (get_or l.sets j.result _) r.result _ r.ensures few l.invariant.1.0 (get_d_any l.sets j.result _ bare_saved (omega (arith, few, l.invariant.1.0))) w.if-c-eq0.false done _ _ _ w.n-is w.sets-is w.env-is
         ],
       ),
     )
 
 pub standing-requires : goal.standing-requires
 standing-requires c =
-    omega (arith, c.requires.line_len_bound, c.requires.count_bound, (c.loop-i.invariant.1.1 []).few)
+    omega (arith, c.requires.line_len_bound, c.requires.count_bound, (c.loop-c.invariant.1.1 []).few)
 
 pub returns : goal.returns
 returns c =
-    let l = c.loop-i in
-    λ b. subst (λ (h : Live). BracketsAs c.args.s.now c.args.q c.args.line.now (full c.args.z b) (record { write = c.args.write; lent = c.args.out.now; at = c.args.at }) (record { ok = true; at = l.to; state = full h b }) l.out) (sym c.standing.ensures)
-    (none_left c.args.s.now c.args.q c.args.line.now (full c.args.z b) (record { write = c.args.write; lent = c.args.out.now; at = c.args.at }) l.i (full (standing_at c.args.z l.i l.env l.n l.sets) b) l.to l.out (l.invariant.1.1 b) c.requires.line_len_bound c.loop-i-test.false)
+    let l = c.loop-c in
+    let e : l.c-index ≡ length c.args.line.now = omega arith in
+    λ b. subst (λ (h : Live). BracketsAs c.args.s.now c.args.q c.args.line.now (full c.args.z b) (record { write = c.args.write; lent = c.args.out.now; at = c.args.at }) (record { ok = true; at = l.to; state = full h b }) l.out)
+    (ap (λ (n : ℕ). standing_at c.args.z n l.env l.n l.sets) e ∙ sym c.standing.ensures)
+    (none_left c.args.s.now c.args.q c.args.line.now (full c.args.z b) (record { write = c.args.write; lent = c.args.out.now; at = c.args.at }) l.c-index (full (standing_at c.args.z l.c-index l.env l.n l.sets) b) l.to l.out (l.invariant.1.1 b) c.requires.line_len_bound (omega arith))
 
 pub overflow_cast-c : goal.overflow_cast-c
 overflow_cast-c c = search (c.slot-j.ensures.byte, rules)

@@ -1,4 +1,3 @@
-use borrow.Author.Rules.{rules}
 use Rattle.acts.proofs.Echoing.{tag_echoed, not_echoed}
 use Rattle.acts.proofs.echo_tag.Goals as goal
 

@@ -1,4 +1,3 @@
-use borrow.Author.Rules.{rules}
 use native.Mathlib.Omega.{arith}
 use mathlib.Core.Path.{refl, sym, ap, subst, ◌∙◌}
 use Rattle.state.specs.Changes.{pushed}
@@ -9,7 +8,6 @@ use Rattle.live.specs.declared.Live.{Live}
 use Rattle.live.specs.Live.{full}
 use Rattle.visits.proofs.Running.{on, off}
 use Rattle.acts.proofs.Acting.{enter_rejected, entered}
-use mathlib.Core.Bool.{not}
 use Rattle.acts.proofs.enter.Goals as goal
 
 -- The first visit; rejected, or then the echo and the push.

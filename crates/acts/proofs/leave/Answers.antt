@@ -1,4 +1,3 @@
-use borrow.Author.Rules.{rules}
 use native.Mathlib.Omega.{arith}
 use mathlib.Core.Path.{refl, ap, ◌∙◌}
 use Rattle.state.specs.Changes.{Restored, with_env}
@@ -8,7 +7,6 @@ use Rattle.live.specs.declared.Live.{Live}
 use Rattle.live.proofs.Stacks.{full_restored}
 use Rattle.visits.proofs.Running.{on, off}
 use Rattle.acts.proofs.Acting.{visited_again, leave_rejected, left}
-use mathlib.Core.Bool.{not}
 use Rattle.acts.proofs.leave.Goals as goal
 
 -- The set taken off, the second visit with its values; rejected, or then the echo, the return of echo and the pop.

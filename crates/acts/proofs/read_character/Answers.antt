@@ -1,4 +1,3 @@
-use borrow.Author.Rules.{rules}
 use Rattle.live.specs.Live.{full}
 use Rattle.acts.proofs.Acting.{read_echoed, read_silent}
 use Rattle.acts.proofs.read_character.Goals as goal

@@ -4,7 +4,6 @@ use mathlib.Core.Bool.{Bool}
 use native.Mathlib.Omega.{arith}
 use lib.ListN.{length}
 use Rattle.live.specs.Live.{full}
-use borrow.Author.Rules.{rules}
 use Rattle.steps.specs.Parts.{PassesAs}
 use Rattle.ahead.proofs.Going.{stays, stays_after, passes_blanks, takes_after}
 use Rattle.ahead.proofs.onward.Goals as goal

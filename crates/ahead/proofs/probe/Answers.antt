@@ -1,10 +1,8 @@
-use mathlib.Core.Path.{refl, ap}
+use mathlib.Core.Path.{refl}
 use native.Mathlib.Omega.{arith}
 use Rattle.live.specs.Live.{full}
 use Rattle.steps.specs.Seen.{whole}
-use borrow.Author.Rules.{rules}
 use Rattle.ahead.proofs.Going.{tried_char, not_probed, probed}
-use mathlib.Core.Bool.{not}
 use Rattle.ahead.proofs.probe.Goals as goal
 
 pub character-tried-requires : goal.character-tried-requires

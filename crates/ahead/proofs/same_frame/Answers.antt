@@ -1,6 +1,4 @@
 use mathlib.Core.Path.{refl}
-use native.Mathlib.Omega.{arith}
-use borrow.Author.Rules.{rules}
 use Rattle.ahead.proofs.Going.{not_told, frame_told}
 use Rattle.ahead.proofs.same_frame.Goals as goal
 

@@ -1,20 +1,7 @@
-use borrow.Author.Tests.{not-false}
-use mathlib.Core.Path.{sym, ◌∙◌}
-use borrow.Author.Rules.{rules}
-use Rattle.ahead.proofs.Going.{not_told, set_told}
-use mathlib.Core.Path.{ap}
+use Rattle.std.proofs.lemmas.Bool.Decides.{Decides-eqb}
+use Rattle.std.proofs.lemmas.Slice.Eq.{slice_eq-Decides}
+use Rattle.ahead.proofs.Going.{set_told, echo_told}
 use Rattle.ahead.proofs.same_set.Goals as goal
 
-pub returns-then-not-b : goal.returns-then-not-b
-returns-then-not-b c = not_told
-
-pub returns-then-a : goal.returns-then-a
-returns-then-a c =
-    set_told c.args.a c.args.b _ (c.if-a.true ∙ sym (not-false _ c.if-not-b.false)) c.same_name.ensures
-
-pub returns-then-b : goal.returns-then-b
-returns-then-b c = not_told
-
-pub returns : goal.returns
-returns c =
-    set_told c.args.a c.args.b _ (c.if-a.false ∙ sym c.if-b.false) c.same_name-2.ensures
+pub returns-then-a-b : goal.returns-then-a-b
+returns-then-a-b c = λ e. set_told c.args.a c.args.b (echo_told _ _ c.if-a-b.true) ((slice_eq-Decides Decides-eqb _ _ _ c.eq.ensures).0 e)

@@ -1,4 +1,3 @@
-use borrow.Author.Rules.{rules}
 use Rattle.ahead.proofs.Going.{wide_on, wide_off}
 use Rattle.ahead.proofs.width.Goals as goal
 

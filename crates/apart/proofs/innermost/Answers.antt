@@ -1,6 +1,5 @@
 use mathlib.Core.Path.{sym, ap, ◌∙◌}
 use Prim.Native.Nat.{ℕ}
-use borrow.Author.Rules.{rules}
 use Rattle.apart.specs.Apart.{innermost_in}
 use Rattle.apart.proofs.Parting.{innermost_is}
 use Rattle.apart.proofs.innermost.Goals as goal

@@ -1,6 +1,5 @@
 use mathlib.Core.Path.{sym, subst}
 use Prim.Native.Nat.{◌≤◌}
-use borrow.Author.Rules.{rules}
 use Rattle.runs.specs.Machine.{most}
 use Rattle.state.specs.declared.Heading.{Heading}
 use Rattle.apart.proofs.Parting.{deep_in, read_live}

@@ -1,5 +1,3 @@
-use native.Mathlib.Omega.{arith}
-use borrow.Author.Rules.{rules}
 use Rattle.apart.proofs.Parting.{in_use_none, in_use_more}
 use Rattle.apart.proofs.put_frames_in_use.Goals as goal
 

@@ -1,4 +1,3 @@
-use Rattle.std.proofs.Common.{rules}
 use Rattle.behind.proofs.TagLaws.{end_tag, no_end_tag}
 use Rattle.behind.proofs.is_end_tag.Goals as goal
 

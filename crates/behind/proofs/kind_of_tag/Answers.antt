@@ -1,4 +1,4 @@
-use Rattle.std.proofs.Common.{sym, refl, ◌∙◌, rules}
+use Rattle.std.proofs.Common.{sym, refl, ◌∙◌}
 use Rattle.behind.proofs.TagLaws.{no_tag_at, tag_at}
 use Rattle.behind.proofs.kind_of_tag.Goals as goal
 

@@ -1,4 +1,4 @@
-use Rattle.std.proofs.Common.{arith, rules}
+use Rattle.std.proofs.Common.{arith}
 use Rattle.behind.proofs.LineLaws.{closed, opened, full, unchanged}
 use Rattle.behind.proofs.note.Goals as goal
 

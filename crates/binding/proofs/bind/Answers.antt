@@ -1,5 +1,4 @@
 use Rattle.binding.proofs.Sections.{trailer_fits, end_small, bound}
-use borrow.Author.Rules.{rules}
 use Rattle.binding.proofs.bind.Goals as goal
 
 -- `bind`: six puts, each where the last one stopped. Assumes nothing.

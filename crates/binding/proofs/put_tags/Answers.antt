@@ -1,56 +1,79 @@
-use mathlib.Core.Path.{refl, ◌∙◌}
-use Prim.Native.Nat.{◌-◌}
+use mathlib.Core.Path.{refl, sym, ◌∙◌}
 use native.Mathlib.Omega.{arith}
-use lib.ListN.{get_or}
 use borrow.Author.Rules.{rules}
-use Rattle.binding.proofs.Tags.{all_left, next_name, name_put, tags_put, sixteen_more, short_part, same_room}
+use Rattle.stores.proofs.Behind.{ends_counted, end_read}
+use Rattle.binding.proofs.Tags.{has_rows, all_left, next_name, name_put, tags_put, sixteen_more, short_part, same_room}
 use Rattle.binding.proofs.put_tags.Goals as goal
 
-pub loop-i-init : goal.loop-i-init
-loop-i-init c =
+pub slice_bounds-to-items-end : goal.slice_bounds-to-items-end
+slice_bounds-to-items-end c =
     let a = c.args in
-    (omega arith, (omega arith, (refl, all_left a.bytes.now a.ends.now a.count a.memory.now a.at)))
+    sym (ends_counted a.bytes.now a.ends.now a.count (has_rows a.bytes.now a.ends.now a.count c.requires.tag_rows))
+
+pub loop-to-init : goal.loop-to-init
+loop-to-init c =
+    let a = c.args in
+    (omega arith, (refl, all_left a.bytes.now a.ends.now a.count a.memory.now a.at))
 
 pub put_tag-n-requires : goal.put_tag-n-requires
 put_tag-n-requires c =
-    let few = c.requires.tag_rows.few in
-    record { at_bound = omega (arith, c.loop-i.invariant.1.0, c.loop-i-test.true, few, c.requires.at_bound); name_len_bound = short_part c.args.bytes.now c.loop-i.from _ (next_name c.args.bytes.now c.args.ends.now c.args.count c.args.memory.now c.args.at c.requires.tag_rows.rows c.loop-i.i c.loop-i.from c.loop-i.n c.loop-i.memory (c.loop-i.invariant.1.1.1 c.requires.tag_rows.rows c.requires.tag_rows.are c.requires.tag_rows.short) c.loop-i-test.true).short }
-
-pub loop-i-preserved : goal.loop-i-preserved
-loop-i-preserved c =
     let a = c.args in
-    let put = c.put_tag-n.ensures in
-    let e = next_name c.args.bytes.now c.args.ends.now c.args.count c.args.memory.now c.args.at c.requires.tag_rows.rows c.loop-i.i c.loop-i.from c.loop-i.n c.loop-i.memory (c.loop-i.invariant.1.1.1 c.requires.tag_rows.rows c.requires.tag_rows.are c.requires.tag_rows.short) c.loop-i-test.true in (
-      search rules,
+    let t = c.requires.tag_rows in
+    let l = c.loop-to in
+    let r = end_read a.bytes.now a.ends.now a.count l.to-index (has_rows a.bytes.now a.ends.now a.count t) c.loop-to-test.true in
+    let e = next_name a.bytes.now a.ends.now a.count a.memory.now a.at t.rows l.to-index l.from l.n l.memory (l.invariant.1.1 t.rows t.are t.short) r.0 _ r.1 in
+    let few = t.few in
+    record { at_bound = omega (arith, l.invariant.0, r.0, few, c.requires.at_bound); name_len_bound = short_part a.bytes.now l.from _ e.short }
+
+pub loop-to-preserved : goal.loop-to-preserved
+loop-to-preserved c =
+    let a = c.args in
+    let t = c.requires.tag_rows in
+    let l = c.loop-to in
+    let r = end_read a.bytes.now a.ends.now a.count l.to-index (has_rows a.bytes.now a.ends.now a.count t) c.loop-to-test.true in
+    let e = next_name a.bytes.now a.ends.now a.count a.memory.now a.at t.rows l.to-index l.from l.n l.memory (l.invariant.1.1 t.rows t.are t.short) r.0 _ r.1 in
+    let put = c.put_tag-n.ensures in (
+      (let s = sixteen_more a.bytes.now l.from _ l.n _ l.memory _ e.short e.high put in omega (arith, s, l.invariant.0)),
       (
-        (let s = sixteen_more a.bytes.now c.loop-i.from (get_or a.ends.now c.loop-i.i 0) c.loop-i.n _ c.loop-i.memory _ e.short e.high put in omega (arith, s, c.loop-i.invariant.1.0)),
-        (
-          same_room c.loop-i.memory _ _ c.loop-i.n _ put ∙ c.loop-i.invariant.1.1.0,
-          λ l h s.
-              name_put a.bytes.now a.ends.now a.count a.memory.now a.at l c.loop-i.i c.loop-i.from c.loop-i.n c.loop-i.memory (get_or a.ends.now c.loop-i.i 0) _ _ (c.loop-i.invariant.1.1.1 l h s) c.loop-i-test.true refl put,
-        ),
+        same_room l.memory _ _ l.n _ put ∙ l.invariant.1.0,
+        λ names h s. name_put a.bytes.now a.ends.now a.count a.memory.now a.at names l.to-index l.from l.n l.memory _ _ _ (l.invariant.1.1 names h s) r.0 r.1 put,
       ),
     )
 
 pub shape_of-memory : goal.shape_of-memory
-shape_of-memory c = c.loop-i.invariant.1.1.0
+shape_of-memory c = c.loop-to.invariant.1.0
 
 pub returns : goal.returns
 returns c =
     let a = c.args in
-    tags_put a.bytes.now a.ends.now a.count a.memory.now a.at c.loop-i.i c.loop-i.from c.loop-i.n c.loop-i.memory c.requires.tag_rows c.loop-i.invariant.1.1.1 c.loop-i.invariant.0 (search rules) c.loop-i.invariant.1.0
-
-pub offset_bounds-ends-i : goal.offset_bounds-ends-i
-offset_bounds-ends-i c = search (next_name c.args.bytes.now c.args.ends.now c.args.count c.args.memory.now c.args.at c.requires.tag_rows.rows c.loop-i.i c.loop-i.from c.loop-i.n c.loop-i.memory (c.loop-i.invariant.1.1.1 c.requires.tag_rows.rows c.requires.tag_rows.are c.requires.tag_rows.short) c.loop-i-test.true, rules)
-
-pub bounds-ends-i : goal.bounds-ends-i
-bounds-ends-i c = search (next_name c.args.bytes.now c.args.ends.now c.args.count c.args.memory.now c.args.at c.requires.tag_rows.rows c.loop-i.i c.loop-i.from c.loop-i.n c.loop-i.memory (c.loop-i.invariant.1.1.1 c.requires.tag_rows.rows c.requires.tag_rows.are c.requires.tag_rows.short) c.loop-i-test.true, rules)
+    let t = c.requires.tag_rows in
+    let l = c.loop-to in
+    let k = ends_counted a.bytes.now a.ends.now a.count (has_rows a.bytes.now a.ends.now a.count t) in
+    tags_put a.bytes.now a.ends.now a.count a.memory.now a.at l.to-index l.from l.n l.memory t l.invariant.1.1 (omega (arith, k)) (omega (arith, k)) l.invariant.0
 
 pub slice_bounds-put_tag-count : goal.slice_bounds-put_tag-count
-slice_bounds-put_tag-count c = search (next_name c.args.bytes.now c.args.ends.now c.args.count c.args.memory.now c.args.at c.requires.tag_rows.rows c.loop-i.i c.loop-i.from c.loop-i.n c.loop-i.memory (c.loop-i.invariant.1.1.1 c.requires.tag_rows.rows c.requires.tag_rows.are c.requires.tag_rows.short) c.loop-i-test.true, rules)
+slice_bounds-put_tag-count c =
+    let a = c.args in
+    let t = c.requires.tag_rows in
+    let l = c.loop-to in
+    let r = end_read a.bytes.now a.ends.now a.count l.to-index (has_rows a.bytes.now a.ends.now a.count t) c.loop-to-test.true in
+    let e = next_name a.bytes.now a.ends.now a.count a.memory.now a.at t.rows l.to-index l.from l.n l.memory (l.invariant.1.1 t.rows t.are t.short) r.0 _ r.1 in
+    search (e, rules)
 
 pub slice_bounds-put_tag-start : goal.slice_bounds-put_tag-start
-slice_bounds-put_tag-start c = search (next_name c.args.bytes.now c.args.ends.now c.args.count c.args.memory.now c.args.at c.requires.tag_rows.rows c.loop-i.i c.loop-i.from c.loop-i.n c.loop-i.memory (c.loop-i.invariant.1.1.1 c.requires.tag_rows.rows c.requires.tag_rows.are c.requires.tag_rows.short) c.loop-i-test.true, rules)
+slice_bounds-put_tag-start c =
+    let a = c.args in
+    let t = c.requires.tag_rows in
+    let l = c.loop-to in
+    let r = end_read a.bytes.now a.ends.now a.count l.to-index (has_rows a.bytes.now a.ends.now a.count t) c.loop-to-test.true in
+    let e = next_name a.bytes.now a.ends.now a.count a.memory.now a.at t.rows l.to-index l.from l.n l.memory (l.invariant.1.1 t.rows t.are t.short) r.0 _ r.1 in
+    search (e, rules)
 
 pub slice_bounds-put_tag-end : goal.slice_bounds-put_tag-end
-slice_bounds-put_tag-end c = search (next_name c.args.bytes.now c.args.ends.now c.args.count c.args.memory.now c.args.at c.requires.tag_rows.rows c.loop-i.i c.loop-i.from c.loop-i.n c.loop-i.memory (c.loop-i.invariant.1.1.1 c.requires.tag_rows.rows c.requires.tag_rows.are c.requires.tag_rows.short) c.loop-i-test.true, rules)
+slice_bounds-put_tag-end c =
+    let a = c.args in
+    let t = c.requires.tag_rows in
+    let l = c.loop-to in
+    let r = end_read a.bytes.now a.ends.now a.count l.to-index (has_rows a.bytes.now a.ends.now a.count t) c.loop-to-test.true in
+    let e = next_name a.bytes.now a.ends.now a.count a.memory.now a.at t.rows l.to-index l.from l.n l.memory (l.invariant.1.1 t.rows t.are t.short) r.0 _ r.1 in
+    search (e, rules)

@@ -77,7 +77,7 @@ fn turn_for(
 }
 
 // Converts until the converter answers anything but "more is to come" or "the room is full", or a file fails. A proved loop has to end, and
-// nothing says that a file does: so the turns are counted down from a number that no run uses up.
+// nothing says that a file does: so the turns are numbered up to one that no run comes to.
 pub(crate) fn run(
     rt: HostRuntime,
     sheet: &[u8],
@@ -88,13 +88,14 @@ pub(crate) fn run(
     caller: Caller,
 ) -> Standing {
     let mut s = Standing::fresh();
-    let mut turns = u64::MAX;
-    while turns > 0 && s.going {
+    for _ in 0..u64::MAX {
+        if !s.going {
+            break;
+        }
         let before = s.place;
         s = turn_for(rt, caller, sheet, from, to, part, out, s);
         let after = s.place;
         tell_progress(caller.watches, before.offset, after.offset);
-        turns -= 1;
     }
     let last = s.place;
     end_progress(caller.watches, last.offset);

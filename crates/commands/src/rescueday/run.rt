@@ -162,7 +162,7 @@ fn turn(
     )
 }
 
-// Calls until anything but "more is to come" or "the room is full" is answered, or a file fails; the turns are counted down, as in a conversion.
+// Calls until anything but "more is to come" or "the room is full" is answered, or a file fails; the turns are numbered, as in a conversion.
 fn run(
     rt: HostRuntime,
     sheet: &[u8],
@@ -175,12 +175,13 @@ fn run(
     caller: Caller,
 ) -> Rescue {
     let mut r = Rescue::fresh();
-    let mut turns = u64::MAX;
-    while turns > 0 && r.goes() {
+    for _ in 0..u64::MAX {
+        if !r.goes() {
+            break;
+        }
         let before = r.offset();
         r = turn(rt, caller, sheet, from, to, part, waiting, report, state, r);
         tell_progress(caller.watches, before, r.offset());
-        turns -= 1;
     }
     end_progress(caller.watches, r.offset());
     r

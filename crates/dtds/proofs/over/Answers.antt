@@ -1,6 +1,5 @@
 use mathlib.Core.Path.{sym, ◌∙◌}
-use Prim.Native.Nat.{◌-◌}
-use borrow.Author.Rules.{rules}
+use native.Mathlib.Omega.{arith}
 use Rattle.scans.proofs.Gaps.{read_first}
 use Rattle.dtds.proofs.Strides.{byte_halted, byte_onward, at_end}
 use Rattle.dtds.proofs.over.Goals as goal
@@ -10,7 +9,7 @@ loop-at-init c =
     read_first c.args.text.now c.fresh-s.result _ _ _ _ _ _ c.fresh-s.ensures c.requires
 
 pub stride-s-requires : goal.stride-s-requires
-stride-s-requires c = record { at_in_bounds = c.loop-at-test.true; read_up_to = c.loop-at.invariant }
+stride-s-requires c = record { at_in_bounds = omega arith; read_up_to = c.loop-at.invariant }
 
 pub shape_of-names-then-s-ne0 : goal.shape_of-names-then-s-ne0
 shape_of-names-then-s-ne0 c = c.stride-s.ensures.rooms.name_room.room ∙ sym c.requires.name_room.room
@@ -34,24 +33,13 @@ pub returns-then-s-ne0 : goal.returns-then-s-ne0
 returns-then-s-ne0 c =
     byte_halted c.args.text.now c.loop-at.at c.stride-s.result _ _ _ _ _ _ c.args.area.now c.stride-s.ensures c.if-s-ne0.true
 
-pub overflow_add-at : goal.overflow_add-at
-overflow_add-at c =
-    let z = c.loop-at-test.true in
-    let g = c.well_formed in
-    search (z, g, rules)
-
-pub loop-at-smaller : goal.loop-at-smaller
-loop-at-smaller c =
-    let z = c.loop-at-test.true in
-    search (z, rules)
-
 pub loop-at-preserved : goal.loop-at-preserved
 loop-at-preserved c =
     byte_onward c.args.text.now c.loop-at.at c.stride-s.result _ _ _ _ _ _ c.stride-s.ensures c.if-s-ne0.false
 
 pub settle-requires : goal.settle-requires
 settle-requires c =
-    at_end c.args.text.now c.loop-at.at c.loop-at.s _ _ _ _ _ _ (search (c.loop-at-test.false, rules)) c.loop-at.invariant
+    at_end c.args.text.now c.loop-at.at c.loop-at.s _ _ _ _ _ _ (omega arith) c.loop-at.invariant
 
 pub shape_of-names : goal.shape_of-names
 shape_of-names c = c.loop-at.invariant.rooms.name_room.room ∙ sym c.requires.name_room.room

@@ -1,6 +1,5 @@
 use mathlib.Core.Path.{sym, ◌∙◌}
 use Rattle.extents.proofs.KindTests.{operand_value, operand_target, operand_left, no_operand}
-use borrow.Author.Rules.{rules}
 use Rattle.extents.proofs.is_operand.Goals as goal
 
 -- Each answer by the law that it names. Assumes nothing.

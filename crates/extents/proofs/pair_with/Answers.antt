@@ -1,6 +1,4 @@
 use Rattle.extents.proofs.Parts.{side_sized, paired_of}
-use borrow.Author.Rules.{rules}
-use Rattle.extents.proofs.pair.Reads as Pair-reads
 use Rattle.extents.proofs.pair_with.Goals as goal
 
 -- Each answer by the law that it names. Assumes nothing.

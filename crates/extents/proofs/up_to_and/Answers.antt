@@ -1,5 +1,4 @@
 use native.Mathlib.Omega.{arith}
-use borrow.Author.Rules.{rules}
 use Rattle.extents.proofs.up_to_and.Goals as goal
 
 -- Each answer by the law that it names. Assumes nothing.

@@ -1,4 +1,3 @@
-use borrow.Author.Rules.{rules}
 use Rattle.sheet.proofs.SheetLaws.{is_sheet}
 use Rattle.faults.proofs.Answered.{answer_0, answer_10, answer_8_or_9}
 use Rattle.faults.proofs.check_faults.Goals as goal

@@ -1,6 +1,5 @@
-use borrow.Author.Rules.{rules}
 use mathlib.Core.Path.{◌≡◌, ap, ◌∙◌}
-use Prim.Native.Nat.{ℕ, ◌-◌}
+use Prim.Native.Nat.{ℕ}
 use native.Mathlib.Omega.{arith}
 use Rattle.expressions.specs.Grammar.{tags_of}
 use Rattle.expressions.specs.Listed.{gather, s_faults_of}
@@ -15,16 +14,9 @@ loop-q-init c =
     let e : production_count s ≡ c.args.l.productions = omega (arith, c.requires.laid_out.layout_is.productions_is.is) in
     loop_begun _ 8712 (λ g i. s_gathered s (tag_count s) g i ∙ ap (λ (k : ℕ). gather 0 k (λ q. s_faults_of (tag_count s) (tags_of g) q (content_of g q))) e)
 
-pub s_faults_of-n-requires : goal.s_faults_of-n-requires
-s_faults_of-n-requires c =
-    record { laid_out = c.requires.laid_out; well_formed = c.requires.well_formed; all_alike = c.requires.all_alike; at_bound = omega arith; q_lt_productions = omega arith }
-
 pub loop-q-preserved : goal.loop-q-preserved
 loop-q-preserved c =
-    loop_on _ 8712 _ c.loop-q-test.true c.loop-q.invariant c.s_faults_of-n.ensures c.s_faults_of-n.auto.list
-
-pub shape_of-list : goal.shape_of-list
-shape_of-list c = c.loop-q.invariant.3
+    loop_on _ 8712 _ (omega arith) c.loop-q.invariant c.s_faults_of-n.ensures c.s_faults_of-n.auto.list
 
 pub returns : goal.returns
-returns c = loop_done _ 8712 _ 557568 c.loop-q-test.false (omega arith) c.loop-q.invariant
+returns c = loop_done _ 8712 _ 557568 (omega arith) (omega arith) c.loop-q.invariant

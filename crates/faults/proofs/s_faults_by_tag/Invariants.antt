@@ -1,7 +1,5 @@
-use borrow.Author.Rules.{rules}
 use mathlib.Core.List.{List}
-use Prim.Native.Nat.{ℕ, ◌-◌}
-use native.Mathlib.Omega.{arith}
+use Prim.Native.Nat.{ℕ}
 use Rattle.expressions.specs.Grammar.{Production, content_of, tags_of, tag}
 use Rattle.expressions.specs.Listed.{s_fault_at}
 use Rattle.layout.specs.Layout.{tag_count}
@@ -13,7 +11,4 @@ use Rattle.faults.proofs.s_faults_by_tag.Given as goal
 abbrev pub invariant-loop-t : goal.invariant-loop-t
 invariant-loop-t l =
     Loop l.s (λ (g : List Production). s_by_tag (tag_count l.s) (tags_of g) (content_of g l.q) l.q l.p)
-    (λ (g : List Production) (t : ℕ). s_fault_at (tags_of g) (content_of g l.q) l.q l.p (tag t)) l.l.tags 4 l.write l.initial.list l.at l.list l.n l.t
-
-abbrev pub decreases-loop-t : goal.decreases-loop-t
-decreases-loop-t l = l.l.tags - l.t
+    (λ (g : List Production) (t : ℕ). s_fault_at (tags_of g) (content_of g l.q) l.q l.p (tag t)) l.fn.l.tags 4 l.write l.initial.list l.at l.list l.n l.t

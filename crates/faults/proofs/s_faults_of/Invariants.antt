@@ -1,7 +1,5 @@
-use borrow.Author.Rules.{rules}
 use mathlib.Core.List.{List}
-use Prim.Native.Nat.{◌+◌, ◌-◌, ◌≤◌}
-use native.Mathlib.Omega.{arith}
+use Prim.Native.Nat.{◌+◌, ◌≤◌}
 use Rattle.expressions.specs.Grammar.{Production, tags_of}
 use Rattle.expressions.specs.Listed.{s_faults_at, s_faults_of}
 use Rattle.layout.specs.Layout.{tag_count}
@@ -14,6 +12,3 @@ abbrev pub invariant-loop-p : goal.invariant-loop-p
 invariant-loop-p l =
     (l.atoms ≤ 32) × Loop l.s (λ (g : List Production). s_faults_of (tag_count l.s) (tags_of g) l.q (content_of g l.q))
     (λ (g : List Production). s_faults_at (tag_count l.s) (tags_of g) (content_of g l.q) l.q) (l.atoms + 1) 264 l.write l.initial.list l.at l.list l.n l.p
-
-abbrev pub decreases-loop-p : goal.decreases-loop-p
-decreases-loop-p l = l.atoms + 1 - l.p

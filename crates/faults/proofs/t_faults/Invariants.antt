@@ -1,7 +1,4 @@
-use borrow.Author.Rules.{rules}
 use mathlib.Core.List.{List}
-use Prim.Native.Nat.{◌-◌}
-use native.Mathlib.Omega.{arith}
 use Rattle.expressions.specs.Grammar.{Production}
 use Rattle.expressions.specs.Listed.{t_faults_of, t_faults}
 use Rattle.layout.specs.Layout.{tag_count}
@@ -11,6 +8,3 @@ use Rattle.faults.proofs.t_faults.Given as goal
 -- The loop goes over the nonterminals.
 abbrev pub invariant-loop-m : goal.invariant-loop-m
 invariant-loop-m l = Loop l.s (λ (g : List Production). t_faults (tag_count l.s) g) (λ (g : List Production). t_faults_of (tag_count l.s) g) 64 256 l.write l.initial.list l.at l.list l.n l.m
-
-abbrev pub decreases-loop-m : goal.decreases-loop-m
-decreases-loop-m l = 64 - l.m

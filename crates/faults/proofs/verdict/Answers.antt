@@ -1,4 +1,3 @@
-use borrow.Author.Rules.{rules}
 use native.Mathlib.Omega.{arith}
 use Rattle.layout.proofs.Laws.{laid_out}
 use Rattle.sheet.proofs.SheetLaws.{is_sheet}

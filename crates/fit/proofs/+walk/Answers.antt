@@ -1,7 +1,6 @@
 use mathlib.Core.Path.{refl, sym, ◌∙◌}
 use mathlib.Core.Bool.{true, false}
 use native.Mathlib.Omega.{arith}
-use borrow.Author.Rules.{rules}
 use borrow.Author.Tests.{lt-ltb, le-ltb}
 use Rattle.trees.proofs.Tallies.{room, inner, no_atom}
 use Rattle.fit.proofs.Spots.{empty_walked, nonterminal_walked, character_walked, star_walked, second_tree, pair_walked}

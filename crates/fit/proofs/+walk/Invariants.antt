@@ -1,5 +1,3 @@
-use native.Mathlib.Omega.{arith}
-use borrow.Author.Rules.{rules}
 use Rattle.fit.proofs.+walk.Given as goal
 
 -- `walk` calls itself on the trees behind a node, the nodes left falling; each return is one law about what is found at a node from what was

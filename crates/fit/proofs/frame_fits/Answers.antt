@@ -1,9 +1,7 @@
 use mathlib.Core.Path.{refl}
 use native.Mathlib.Omega.{arith}
-use borrow.Author.Rules.{rules}
 use Rattle.std.proofs.lemmas.Bool.{not-true, not-false}
 use Rattle.fit.proofs.Frames.{no_production, other_nonterminal, no_place, other_sets, other_values, frame_fits_lem}
-use mathlib.Core.Bool.{not}
 use Rattle.tells.proofs.Laws.{told}
 use Rattle.tells.proofs.Laws.{not_told}
 use Rattle.fit.proofs.frame_fits.Goals as goal

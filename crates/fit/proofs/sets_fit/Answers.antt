@@ -1,32 +1,24 @@
-use mathlib.Core.Path.{◌≡◌, subst}
-use Prim.Native.Nat.{ℕ, ◌-◌}
+use mathlib.Core.Path.{refl}
 use native.Mathlib.Omega.{arith}
-use lib.ListN.{length, take}
-use borrow.Author.Rules.{rules}
+use lib.ListN.{take}
 use Rattle.tells.specs.Tells.{holds, fails}
-use Rattle.state.specs.Bounds.{most_sets}
-use Rattle.state.specs.Meaning.{Every, none}
-use Rattle.state.proofs.Laws.{length_mapped, all_more}
+use Rattle.state.specs.Meaning.{none}
+use Rattle.state.proofs.Laws.{all_more, all_whole}
 use Rattle.fit.specs.Fit.{SetFits}
-use Rattle.fit.proofs.Lists.{all_first}
+use Rattle.fit.proofs.Lists.{all_at}
 use Rattle.tells.proofs.Laws.{told}
 use Rattle.tells.proofs.Laws.{not_told}
 use Rattle.fit.proofs.sets_fit.Goals as goal
 
-pub loop-i-init : goal.loop-i-init
-loop-i-init c = (omega arith, none)
+pub loop-set-init : goal.loop-set-init
+loop-set-init c = none
 
 pub returns-then-not-values_fit : goal.returns-then-not-values_fit
 returns-then-not-values_fit c =
-    let k : length c.args.sets ≡ most_sets = search (length_mapped, rules) in
-    fails (λ a. not_told c.values_fit.ensures c.if-not-values_fit.true (all_first c.args.n c.args.sets c.loop-i.i _ (omega arith) (omega arith) a))
+    fails (λ a. not_told c.values_fit.ensures c.if-not-values_fit.true (all_at (take c.args.n c.args.sets) c.loop-set.set-index _ (omega arith) a))
 
-pub loop-i-preserved : goal.loop-i-preserved
-loop-i-preserved c =
-    let k : length c.args.sets ≡ most_sets = search (length_mapped, rules) in
-    (omega arith, all_more SetFits _ c.loop-i.i _ (omega arith) c.loop-i.invariant.1 (told c.values_fit.ensures c.if-not-values_fit.false))
+pub loop-set-preserved : goal.loop-set-preserved
+loop-set-preserved c = all_more SetFits _ c.loop-set.set-index _ (omega arith) c.loop-set.invariant (told c.values_fit.ensures c.if-not-values_fit.false)
 
 pub returns : goal.returns
-returns c =
-    let e : c.loop-i.i ≡ c.args.n = omega arith in
-    holds (subst (λ (m : ℕ). Every SetFits (take m c.args.sets)) e c.loop-i.invariant.1)
+returns c = holds (all_whole SetFits _ _ c.loop-set.set-index refl (omega arith) c.loop-set.invariant)

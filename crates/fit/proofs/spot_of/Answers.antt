@@ -1,7 +1,6 @@
 use mathlib.Core.Path.{refl}
 use Prim.Native.Nat.{◌<◌}
 use native.Mathlib.Omega.{arith}
-use borrow.Author.Rules.{rules}
 use Rattle.layout.specs.Layout.{production_count}
 use Rattle.trees.proofs.Answers.{tree_there}
 use Rattle.fit.proofs.Frames.{start_spot, empty_spot, walked_spot}

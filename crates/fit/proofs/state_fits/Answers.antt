@@ -1,6 +1,5 @@
 use mathlib.Core.Path.{sym, ap, subst}
 use native.Mathlib.Omega.{arith}
-use borrow.Author.Rules.{rules}
 use Rattle.tells.specs.Tells.{fails}
 use Rattle.sheet.proofs.DefectLaws.{runs_inside}
 use Rattle.programs.specs.Limits.{Value}

@@ -1,22 +1,17 @@
-use Prim.Native.Nat.{◌-◌}
-use native.Mathlib.Omega.{arith}
-use borrow.Author.Rules.{rules}
-use Rattle.tells.specs.Tells.{holds, fails}
+use mathlib.Core.Path.{subst, sym}
+use lib.Dec.{leb}
+use borrow.Author.Tests.{tests}
+use Rattle.std.proofs.Common.{rules}
+use Rattle.std.proofs.lemmas.Iterator.{YieldsList-from_slice}
+use Rattle.std.proofs.lemmas.Iterator.Search.{all_from_yields_List}
+use Rattle.tells.specs.Tells.{Tells}
+use Rattle.programs.specs.Bounds.{bounds}
 use Rattle.programs.specs.Limits.{Value}
-use Rattle.runs.specs.Visits.{attributes}
-use Rattle.state.specs.Meaning.{none}
-use Rattle.state.proofs.Laws.{all_whole}
-use Rattle.fit.proofs.Lists.{value_over, value_more}
+use Rattle.state.specs.Meaning.{Every}
+use Rattle.fit.proofs.Lists.{values_told}
 use Rattle.fit.proofs.values_fit.Goals as goal
 
-pub loop-i-init : goal.loop-i-init
-loop-i-init c = (omega arith, none)
-
-pub returns-then-values-i-gt-HIGHEST : goal.returns-then-values-i-gt-HIGHEST
-returns-then-values-i-gt-HIGHEST c = fails (value_over _ _ _ (omega arith) c.if-values-i-gt-HIGHEST.true)
-
-pub loop-i-preserved : goal.loop-i-preserved
-loop-i-preserved c = (omega arith, value_more c.args.values c.loop-i.i _ (omega arith) c.loop-i.invariant.1 c.if-values-i-gt-HIGHEST.false)
-
 pub returns : goal.returns
-returns c = holds (all_whole Value _ attributes c.loop-i.i (search rules) (omega arith) c.loop-i.invariant.1)
+returns c =
+    let v = c.args.values in
+    subst (Tells (Every Value v)) (sym (all_from_yields_List (λ v. leb v bounds.highest_value) _ _ c.all.result c.all.ensures.ran (YieldsList-from_slice v cc) (λ x b q k. search (rules, tests)))) (values_told v)

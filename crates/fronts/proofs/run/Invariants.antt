@@ -1,13 +1,11 @@
 use mathlib.Core.Path.{◌≡◌}
-use Prim.Native.Nat.{◌-◌, ◌≤◌}
+use Prim.Native.Nat.{◌≤◌}
 use lib.ListN.{length}
-use native.Mathlib.Omega.{arith}
-use borrow.Author.Rules.{rules}
 use Rattle.fronts.proofs.run.Given as goal
 
 -- The loop keeps that the front so far lies in its memory, whose length does not change.
-abbrev pub invariant-loop-i : goal.invariant-loop-i
-invariant-loop-i l = (l.i ≤ length l.s) × (l.len ≤ length l.front) × (length l.front ≡ length l.initial.front) × (length l.out ≡ length l.initial.out)
+abbrev pub invariant-loop-left : goal.invariant-loop-left
+invariant-loop-left l = (l.len ≤ length l.front) × (length l.front ≡ length l.initial.front)
 
-abbrev pub decreases-loop-i : goal.decreases-loop-i
-decreases-loop-i l = length l.s - l.i
+abbrev pub decreases-loop-left : goal.decreases-loop-left
+decreases-loop-left l = length l.left

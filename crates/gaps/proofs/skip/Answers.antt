@@ -1,6 +1,5 @@
 use native.Mathlib.Omega.{arith}
 use mathlib.Core.Path.{sym, ◌∙◌}
-use Prim.Native.Nat.{◌-◌}
 use Rattle.notation.specs.Gaps.{Gap}
 use Rattle.gaps.proofs.Skipping.{blank_more, skip_to, skip_end, skip_open, skip_bad, comment_more}
 use borrow.Author.Rules.{rules}

@@ -1,8 +1,6 @@
-use native.Mathlib.Omega.{arith}
 use Prim.Native.Nat.{◌-◌, ◌≤◌}
 use lib.ListN.{length, take}
 use Rattle.notation.specs.Gaps.{Gap}
-use borrow.Author.Rules.{rules}
 use Rattle.gaps.proofs.skip.Given as goal
 
 -- The loop keeps that what is behind it is a gap.

@@ -1,5 +1,3 @@
-use borrow.Author.Rules.{rules}
-use Prim.Native.Nat.{◌-◌}
 use native.Mathlib.Omega.{arith}
 use Rattle.layout.specs.Layout.{node_count}
 use Rattle.layout.specs.Records.{first_program_of_node, second_program_of_node}
@@ -7,48 +5,40 @@ use Rattle.hoards.proofs.Laws.{each_left, one_less, one_full, none_left, kept, n
 use Rattle.hoards.proofs.keep_nodes.Goals as goal
 
 pub loop-i-init : goal.loop-i-init
-loop-i-init c = (omega arith, each_left c.args.s.now (first_program_of_node c.args.s.now) (second_program_of_node c.args.s.now) (node_count c.args.s.now) c.args.bytes.now c.args.ends.now c.args.count c.requires.has_rows)
+loop-i-init c = each_left c.args.s.now (first_program_of_node c.args.s.now) (second_program_of_node c.args.s.now) (node_count c.args.s.now) c.args.bytes.now c.args.ends.now c.args.count c.requires.has_rows
 
 pub first_program_of_node-first-requires : goal.first_program_of_node-first-requires
-first_program_of_node-first-requires c = record { laid_out = c.requires.laid_out; i_lt_nodes = c.loop-i-test.true }
+first_program_of_node-first-requires c = record { laid_out = c.requires.laid_out; i_lt_nodes = omega arith }
 
 pub second_program_of_node-second-requires : goal.second_program_of_node-second-requires
-second_program_of_node-second-requires c = record { laid_out = c.requires.laid_out; i_lt_nodes = c.loop-i-test.true }
+second_program_of_node-second-requires c = record { laid_out = c.requires.laid_out; i_lt_nodes = omega arith }
 
 pub keep_both-kept-requires : goal.keep_both-kept-requires
-keep_both-kept-requires c = record { laid_out = c.requires.laid_out; has_rows = c.loop-i.invariant.1.rows }
+keep_both-kept-requires c = record { laid_out = c.requires.laid_out; has_rows = c.loop-i.invariant.rows }
 
 pub shape_of-bytes-then-not-kept : goal.shape_of-bytes-then-not-kept
-shape_of-bytes-then-not-kept c = omega (arith, c.keep_both-kept.ensures.same_bytes, c.loop-i.invariant.1.as_many_bytes)
+shape_of-bytes-then-not-kept c = omega (arith, c.keep_both-kept.ensures.same_bytes, c.loop-i.invariant.as_many_bytes)
 
 pub shape_of-ends-then-not-kept : goal.shape_of-ends-then-not-kept
-shape_of-ends-then-not-kept c = omega (arith, c.keep_both-kept.ensures.same_ends, c.loop-i.invariant.1.as_many_ends)
+shape_of-ends-then-not-kept c = omega (arith, c.keep_both-kept.ensures.same_ends, c.loop-i.invariant.as_many_ends)
 
 pub returns-then-not-kept : goal.returns-then-not-kept
 returns-then-not-kept c =
     let l = c.loop-i in
-    one_full c.args.s.now (first_program_of_node c.args.s.now) (second_program_of_node c.args.s.now) (node_count c.args.s.now) c.args.bytes.now c.args.ends.now c.args.count l.i l.n l.bytes l.ends (omega (arith, c.loop-i-test.true, c.requires.laid_out.layout_is.nodes_is.is)) l.invariant.1 _ _ c.first_program_of_node-first.ensures.is c.second_program_of_node-second.ensures.is _ _ _ c.keep_both-kept.ensures (not_kept _ c.if-not-kept.true)
-
-pub overflow_add-i : goal.overflow_add-i
-overflow_add-i c = record { fits = omega (arith, c.loop-i-test.true, c.requires.laid_out.few_nodes) }
-
-pub loop-i-smaller : goal.loop-i-smaller
-loop-i-smaller c = omega (arith, c.loop-i-test.true)
+    one_full c.args.s.now (first_program_of_node c.args.s.now) (second_program_of_node c.args.s.now) (node_count c.args.s.now) c.args.bytes.now c.args.ends.now c.args.count l.i l.n l.bytes l.ends (omega (arith, c.requires.laid_out.layout_is.nodes_is.is)) l.invariant _ _ c.first_program_of_node-first.ensures.is c.second_program_of_node-second.ensures.is _ _ _ c.keep_both-kept.ensures (not_kept _ c.if-not-kept.true)
 
 pub loop-i-preserved : goal.loop-i-preserved
 loop-i-preserved c =
-    let l = c.loop-i in (
-      omega (arith, c.loop-i-test.true),
-      one_less c.args.s.now (first_program_of_node c.args.s.now) (second_program_of_node c.args.s.now) (node_count c.args.s.now) c.args.bytes.now c.args.ends.now c.args.count l.i l.n l.bytes l.ends (omega (arith, c.loop-i-test.true, c.requires.laid_out.layout_is.nodes_is.is)) l.invariant.1 _ _ c.first_program_of_node-first.ensures.is c.second_program_of_node-second.ensures.is _ _ _ c.keep_both-kept.ensures (kept _ c.if-not-kept.false),
-    )
+    let l = c.loop-i in
+    one_less c.args.s.now (first_program_of_node c.args.s.now) (second_program_of_node c.args.s.now) (node_count c.args.s.now) c.args.bytes.now c.args.ends.now c.args.count l.i l.n l.bytes l.ends (omega (arith, c.requires.laid_out.layout_is.nodes_is.is)) l.invariant _ _ c.first_program_of_node-first.ensures.is c.second_program_of_node-second.ensures.is _ _ _ c.keep_both-kept.ensures (kept _ c.if-not-kept.false)
 
 pub shape_of-bytes : goal.shape_of-bytes
-shape_of-bytes c = c.loop-i.invariant.1.as_many_bytes
+shape_of-bytes c = c.loop-i.invariant.as_many_bytes
 
 pub shape_of-ends : goal.shape_of-ends
-shape_of-ends c = c.loop-i.invariant.1.as_many_ends
+shape_of-ends c = c.loop-i.invariant.as_many_ends
 
 pub returns : goal.returns
 returns c =
     let l = c.loop-i in
-    none_left c.args.s.now (first_program_of_node c.args.s.now) (second_program_of_node c.args.s.now) (node_count c.args.s.now) c.args.bytes.now c.args.ends.now c.args.count l.i l.n l.bytes l.ends (omega (arith, c.loop-i-test.false, c.requires.laid_out.layout_is.nodes_is.is)) l.invariant.1
+    none_left c.args.s.now (first_program_of_node c.args.s.now) (second_program_of_node c.args.s.now) (node_count c.args.s.now) c.args.bytes.now c.args.ends.now c.args.count l.i l.n l.bytes l.ends (omega (arith, c.requires.laid_out.layout_is.nodes_is.is)) l.invariant

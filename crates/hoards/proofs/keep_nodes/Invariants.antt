@@ -1,15 +1,9 @@
-use borrow.Author.Rules.{rules}
-use Prim.Native.Nat.{◌-◌, ◌≤◌}
-use native.Mathlib.Omega.{arith}
 use Rattle.layout.specs.Layout.{node_count}
 use Rattle.layout.specs.Records.{first_program_of_node, second_program_of_node}
-use Rattle.hoards.proofs.Laws.{EachLeft, kept}
+use Rattle.hoards.proofs.Laws.{EachLeft}
 use Rattle.hoards.proofs.keep_nodes.Given as goal
 
 -- The loop is stated by what is left: the records from i on, behind all whose strings are kept.
 abbrev pub invariant-loop-i : goal.invariant-loop-i
 invariant-loop-i l =
-    (l.i ≤ l.l.nodes) × EachLeft l.s (first_program_of_node l.s) (second_program_of_node l.s) (node_count l.s) l.initial.bytes l.initial.ends l.count l.i l.n l.bytes l.ends
-
-abbrev pub decreases-loop-i : goal.decreases-loop-i
-decreases-loop-i l = l.l.nodes - l.i
+    EachLeft l.s (first_program_of_node l.s) (second_program_of_node l.s) (node_count l.s) l.initial.bytes l.initial.ends l.count l.i l.n l.bytes l.ends

@@ -1,5 +1,3 @@
-use borrow.Author.Rules.{rules}
-use Prim.Native.Nat.{◌-◌}
 use native.Mathlib.Omega.{arith}
 use Rattle.layout.specs.Layout.{production_count}
 use Rattle.layout.specs.Records.{first_program_of, second_program_of}
@@ -7,48 +5,40 @@ use Rattle.hoards.proofs.Laws.{each_left, one_less, one_full, none_left, kept, n
 use Rattle.hoards.proofs.keep_productions.Goals as goal
 
 pub loop-q-init : goal.loop-q-init
-loop-q-init c = (omega arith, each_left c.args.s.now (first_program_of c.args.s.now) (second_program_of c.args.s.now) (production_count c.args.s.now) c.args.bytes.now c.args.ends.now c.args.count c.requires.has_rows)
+loop-q-init c = each_left c.args.s.now (first_program_of c.args.s.now) (second_program_of c.args.s.now) (production_count c.args.s.now) c.args.bytes.now c.args.ends.now c.args.count c.requires.has_rows
 
 pub first_program_of-first-requires : goal.first_program_of-first-requires
-first_program_of-first-requires c = record { laid_out = c.requires.laid_out; q_lt_productions = c.loop-q-test.true }
+first_program_of-first-requires c = record { laid_out = c.requires.laid_out; q_lt_productions = omega arith }
 
 pub second_program_of-second-requires : goal.second_program_of-second-requires
-second_program_of-second-requires c = record { laid_out = c.requires.laid_out; q_lt_productions = c.loop-q-test.true }
+second_program_of-second-requires c = record { laid_out = c.requires.laid_out; q_lt_productions = omega arith }
 
 pub keep_both-kept-requires : goal.keep_both-kept-requires
-keep_both-kept-requires c = record { laid_out = c.requires.laid_out; has_rows = c.loop-q.invariant.1.rows }
+keep_both-kept-requires c = record { laid_out = c.requires.laid_out; has_rows = c.loop-q.invariant.rows }
 
 pub shape_of-bytes-then-not-kept : goal.shape_of-bytes-then-not-kept
-shape_of-bytes-then-not-kept c = omega (arith, c.keep_both-kept.ensures.same_bytes, c.loop-q.invariant.1.as_many_bytes)
+shape_of-bytes-then-not-kept c = omega (arith, c.keep_both-kept.ensures.same_bytes, c.loop-q.invariant.as_many_bytes)
 
 pub shape_of-ends-then-not-kept : goal.shape_of-ends-then-not-kept
-shape_of-ends-then-not-kept c = omega (arith, c.keep_both-kept.ensures.same_ends, c.loop-q.invariant.1.as_many_ends)
+shape_of-ends-then-not-kept c = omega (arith, c.keep_both-kept.ensures.same_ends, c.loop-q.invariant.as_many_ends)
 
 pub returns-then-not-kept : goal.returns-then-not-kept
 returns-then-not-kept c =
     let l = c.loop-q in
-    one_full c.args.s.now (first_program_of c.args.s.now) (second_program_of c.args.s.now) (production_count c.args.s.now) c.args.bytes.now c.args.ends.now c.args.count l.q l.n l.bytes l.ends (omega (arith, c.loop-q-test.true, c.requires.laid_out.layout_is.productions_is.is)) l.invariant.1 _ _ c.first_program_of-first.ensures.is c.second_program_of-second.ensures.is _ _ _ c.keep_both-kept.ensures (not_kept _ c.if-not-kept.true)
-
-pub overflow_add-q : goal.overflow_add-q
-overflow_add-q c = record { fits = omega (arith, c.loop-q-test.true, c.requires.laid_out.few_productions) }
-
-pub loop-q-smaller : goal.loop-q-smaller
-loop-q-smaller c = omega (arith, c.loop-q-test.true)
+    one_full c.args.s.now (first_program_of c.args.s.now) (second_program_of c.args.s.now) (production_count c.args.s.now) c.args.bytes.now c.args.ends.now c.args.count l.q l.n l.bytes l.ends (omega (arith, c.requires.laid_out.layout_is.productions_is.is)) l.invariant _ _ c.first_program_of-first.ensures.is c.second_program_of-second.ensures.is _ _ _ c.keep_both-kept.ensures (not_kept _ c.if-not-kept.true)
 
 pub loop-q-preserved : goal.loop-q-preserved
 loop-q-preserved c =
-    let l = c.loop-q in (
-      omega (arith, c.loop-q-test.true),
-      one_less c.args.s.now (first_program_of c.args.s.now) (second_program_of c.args.s.now) (production_count c.args.s.now) c.args.bytes.now c.args.ends.now c.args.count l.q l.n l.bytes l.ends (omega (arith, c.loop-q-test.true, c.requires.laid_out.layout_is.productions_is.is)) l.invariant.1 _ _ c.first_program_of-first.ensures.is c.second_program_of-second.ensures.is _ _ _ c.keep_both-kept.ensures (kept _ c.if-not-kept.false),
-    )
+    let l = c.loop-q in
+    one_less c.args.s.now (first_program_of c.args.s.now) (second_program_of c.args.s.now) (production_count c.args.s.now) c.args.bytes.now c.args.ends.now c.args.count l.q l.n l.bytes l.ends (omega (arith, c.requires.laid_out.layout_is.productions_is.is)) l.invariant _ _ c.first_program_of-first.ensures.is c.second_program_of-second.ensures.is _ _ _ c.keep_both-kept.ensures (kept _ c.if-not-kept.false)
 
 pub shape_of-bytes : goal.shape_of-bytes
-shape_of-bytes c = c.loop-q.invariant.1.as_many_bytes
+shape_of-bytes c = c.loop-q.invariant.as_many_bytes
 
 pub shape_of-ends : goal.shape_of-ends
-shape_of-ends c = c.loop-q.invariant.1.as_many_ends
+shape_of-ends c = c.loop-q.invariant.as_many_ends
 
 pub returns : goal.returns
 returns c =
     let l = c.loop-q in
-    none_left c.args.s.now (first_program_of c.args.s.now) (second_program_of c.args.s.now) (production_count c.args.s.now) c.args.bytes.now c.args.ends.now c.args.count l.q l.n l.bytes l.ends (omega (arith, c.loop-q-test.false, c.requires.laid_out.layout_is.productions_is.is)) l.invariant.1
+    none_left c.args.s.now (first_program_of c.args.s.now) (second_program_of c.args.s.now) (production_count c.args.s.now) c.args.bytes.now c.args.ends.now c.args.count l.q l.n l.bytes l.ends (omega (arith, c.requires.laid_out.layout_is.productions_is.is)) l.invariant

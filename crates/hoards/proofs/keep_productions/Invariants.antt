@@ -1,15 +1,9 @@
-use borrow.Author.Rules.{rules}
-use Prim.Native.Nat.{◌-◌, ◌≤◌}
-use native.Mathlib.Omega.{arith}
 use Rattle.layout.specs.Layout.{production_count}
 use Rattle.layout.specs.Records.{first_program_of, second_program_of}
-use Rattle.hoards.proofs.Laws.{EachLeft, kept}
+use Rattle.hoards.proofs.Laws.{EachLeft}
 use Rattle.hoards.proofs.keep_productions.Given as goal
 
 -- The loop is stated by what is left: the records from q on, behind all whose strings are kept.
 abbrev pub invariant-loop-q : goal.invariant-loop-q
 invariant-loop-q l =
-    (l.q ≤ l.l.productions) × EachLeft l.s (first_program_of l.s) (second_program_of l.s) (production_count l.s) l.initial.bytes l.initial.ends l.count l.q l.n l.bytes l.ends
-
-abbrev pub decreases-loop-q : goal.decreases-loop-q
-decreases-loop-q l = l.l.productions - l.q
+    EachLeft l.s (first_program_of l.s) (second_program_of l.s) (production_count l.s) l.initial.bytes l.initial.ends l.count l.q l.n l.bytes l.ends

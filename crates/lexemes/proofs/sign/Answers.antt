@@ -1,6 +1,5 @@
 use native.Mathlib.Omega.{arith}
 use Rattle.lexemes.proofs.Found.{sign_long, sign_cut}
-use borrow.Author.Rules.{rules}
 use Rattle.lexemes.proofs.sign.Goals as goal
 
 -- The part of the row is the sign of the kind.

@@ -1,6 +1,5 @@
 use native.Mathlib.Omega.{arith}
 use Rattle.lexemes.proofs.Found.{word_long, word_cut}
-use borrow.Author.Rules.{rules}
 use Rattle.lexemes.proofs.word.Goals as goal
 
 -- The part of the row is the word of the kind.

@@ -1,14 +1,8 @@
-use borrow.Author.Rules.{rules}
-use native.Mathlib.Omega.{arith}
 use mathlib.Core.Path.{◌≡◌}
-use Prim.Native.Nat.{◌-◌, ◌≤◌}
+use Prim.Native.Nat.{◌≤◌}
 use lib.ListN.{length, take}
-use Rattle.lexing.proofs.Spellings
 use Rattle.lexing.proofs.common.Given as goal
 
 -- The loop keeps that the first i bytes of both are the same.
 abbrev pub invariant-loop-i : goal.invariant-loop-i
-invariant-loop-i l = (l.i ≤ length l.x) × (l.i ≤ length l.w) × (take l.i l.x ≡ take l.i l.w)
-
-abbrev pub decreases-loop-i : goal.decreases-loop-i
-decreases-loop-i l = length l.w - l.i
+invariant-loop-i l = (l.i ≤ length l.x) × (take l.i l.x ≡ take l.i l.w)

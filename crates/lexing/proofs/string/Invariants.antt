@@ -1,8 +1,6 @@
-use native.Mathlib.Omega.{arith}
 use Prim.Native.Nat.{◌-◌, ◌≤◌}
 use lib.ListN.{length}
 use Rattle.lexing.proofs.Pieces.{SoFar}
-use borrow.Author.Rules.{rules}
 use Rattle.lexing.proofs.string.Given as goal
 
 -- The loop keeps the characters read so far.

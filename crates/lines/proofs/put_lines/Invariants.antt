@@ -1,7 +1,5 @@
-use borrow.Author.Rules.{rules}
 use mathlib.Core.Path.{◌≡◌}
-use Prim.Native.Nat.{◌+◌, ◌*◌, ◌-◌, ◌≤◌}
-use native.Mathlib.Omega.{arith}
+use Prim.Native.Nat.{◌+◌, ◌*◌, ◌≤◌}
 use lib.ListN.{length}
 use Rattle.lines.specs.Lines.{most_of_a_line}
 use Rattle.lines.proofs.Laws.{LinesLeft}
@@ -10,7 +8,4 @@ use Rattle.lines.proofs.put_lines.Given as goal
 -- The loop is stated by what is left: writing the lines from q on at n now leaves what writing all of them at `at` would have left.
 abbrev pub invariant-loop-q : goal.invariant-loop-q
 invariant-loop-q l =
-    (l.q ≤ l.l.productions) × (l.n ≤ l.at + most_of_a_line * l.q) × (length l.out ≡ length l.initial.out) × LinesLeft l.s (record { write = l.write; lent = l.initial.out; at = l.at }) l.q l.n l.out
-
-abbrev pub decreases-loop-q : goal.decreases-loop-q
-decreases-loop-q l = l.l.productions - l.q
+    (l.n ≤ l.at + most_of_a_line * l.q) × (length l.out ≡ length l.initial.out) × LinesLeft l.s (record { write = l.write; lent = l.initial.out; at = l.at }) l.q l.n l.out

@@ -1,5 +1,5 @@
 use mathlib.Core.Path.{sym, ◌∙◌}
-use Prim.Native.Nat.{◌-◌, ◌<◌}
+use Prim.Native.Nat.{◌+◌, ◌<◌}
 use native.Mathlib.Omega.{arith}
 use borrow.Author.Count.{below_more}
 use borrow.Author.Rules.{rules}
@@ -15,16 +15,16 @@ pub loop-i-init : goal.loop-i-init
 loop-i-init c =
     let p = c.requires.laid_out.layout_is in
     let b : c.args.q < production_count c.args.s.now = omega (arith, p.productions_is.is, c.requires.q_lt_productions) in
-    (search rules, search rules, omega (arith, c.requires.runs_inside.inside c.args.q b, p.nodes_is.is, c.node_count_of-count.ensures.is, c.first_node_of-first.ensures.is), λ k z y. absurd (omega arith))
+    (omega (arith, c.requires.runs_inside.inside c.args.q b, p.nodes_is.is, c.node_count_of-count.ensures.is, c.first_node_of-first.ensures.is), λ k z y. absurd (omega arith))
 
 pub returns-then-kind_of-eq2 : goal.returns-then-kind_of-eq2
 returns-then-kind_of-eq2 c =
-    blanks_count c.args.s.now c.args.q (omega (arith, c.requires.laid_out.layout_is.productions_is.is, c.requires.q_lt_productions)) _ _ c.first_node_of-first.ensures.is (search rules) c.loop-i.i c.loop-i.invariant.0 c.loop-i-test.true (sym c.kind_of.ensures.is ∙ c.if-kind_of-eq2.true)
+    blanks_count c.args.s.now c.args.q (omega (arith, c.requires.laid_out.layout_is.productions_is.is, c.requires.q_lt_productions)) _ (c.first_node_of-first.result + c.node_count_of-count.result) c.first_node_of-first.ensures.is (search rules) c.loop-i.i (omega arith) (omega arith) (sym c.kind_of.ensures.is ∙ c.if-kind_of-eq2.true)
 
 pub loop-i-preserved : goal.loop-i-preserved
 loop-i-preserved c =
-    (search rules, search rules, search rules, below_more _ _ c.loop-i.invariant.3 (λ y e. c.if-kind_of-eq2.false (c.kind_of.ensures.is ∙ e)))
+    (search rules, below_more _ _ c.loop-i.invariant.1 (λ y e. c.if-kind_of-eq2.false (c.kind_of.ensures.is ∙ e)))
 
 pub returns : goal.returns
 returns c =
-    blanks_pass_lem c.args.s.now c.args.q (omega (arith, c.requires.laid_out.layout_is.productions_is.is, c.requires.q_lt_productions)) _ _ c.first_node_of-first.ensures.is (search rules) c.loop-i.i c.loop-i-test.false (λ z. c.if-count-eq0.false (c.node_count_of-count.ensures.is ∙ z)) c.loop-i.invariant.3
+    blanks_pass_lem c.args.s.now c.args.q (omega (arith, c.requires.laid_out.layout_is.productions_is.is, c.requires.q_lt_productions)) _ (c.first_node_of-first.result + c.node_count_of-count.result) c.first_node_of-first.ensures.is (search rules) c.loop-i.i (omega arith) (λ z. c.if-count-eq0.false (c.node_count_of-count.ensures.is ∙ z)) c.loop-i.invariant.1

@@ -1,13 +1,8 @@
-use Prim.Native.Nat.{◌-◌, ◌≤◌}
-use native.Mathlib.Omega.{arith}
-use borrow.Author.Rules.{rules}
+use Prim.Native.Nat.{◌≤◌}
 use Rattle.lookups.proofs.Blanks.{NoneOfKind2}
 use Rattle.lookups.proofs.blanks_pass.Given as goal
 
 -- No node passed so far is any one character; the first that is settles the test, and so does a production with no nodes.
 -- Assumes nothing.
 abbrev pub invariant-loop-i : goal.invariant-loop-i
-invariant-loop-i l = (l.first ≤ l.i) × (l.i ≤ l.past) × (l.past ≤ l.l.nodes) × NoneOfKind2 l.s l.first l.i
-
-abbrev pub decreases-loop-i : goal.decreases-loop-i
-decreases-loop-i l = l.past - l.i
+invariant-loop-i l = (l.past ≤ l.l.nodes) × NoneOfKind2 l.s l.first l.i

@@ -1,4 +1,3 @@
-use borrow.Author.Rules.{rules}
 use Rattle.lookups.proofs.Names.{name_too_long, name_told}
 use Rattle.lookups.proofs.has_name.Goals as goal
 

@@ -1,4 +1,3 @@
-use Rattle.std.proofs.Common.{rules}
 use Rattle.losses.proofs.Laws.{none_dropped, last_dropped}
 use Rattle.losses.proofs.end_of_last.Goals as goal
 

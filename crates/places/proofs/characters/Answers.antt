@@ -1,20 +1,15 @@
-use Rattle.std.proofs.Common.{not, sym, ap, ◌∙◌, arith, rules}
-use Rattle.places.specs.Lines.{starts}
-use Rattle.places.proofs.Laws.{counts_on, passes_on, counts_all}
+use borrow.Author.Tests.{tests}
+use Rattle.std.proofs.Common.{not, sym, ◌∙◌, rules}
+use Rattle.std.proofs.lemmas.Iterator.{YieldsList-from_slice}
+use Rattle.std.proofs.lemmas.Iterator.Consumers.{YieldsList-from_filter, count_from_yields_List}
+use Rattle.std.proofs.lemmas.List.Sums.{length-filter}
+use Rattle.places.specs.Lines.{goes_on}
+use Rattle.places.proofs.Laws.{characters_counted}
 use Rattle.places.proofs.characters.Goals as goal
-use Rattle.places.proofs.characters.Goals.{then-not-goes_on, else-not-goes_on}
-
-pub loop-i-preserved : goal.loop-i-preserved
-loop-i-preserved c =
-    let at = c.loop-i in
-    let below = c.loop-i-test.true in
-    let tells = sym c.goes_on.ensures in (
-      search rules,
-      elim c.if-not-goes_on.branch [
-        | then-not-goes_on w ↦ counts_on starts _ at.i at.n _ below (omega arith) at.invariant.1 (ap not (tells ∙ w.if-not-goes_on.true)) (w.n-is ∙ w.wrapping_add_u64-n.ensures.value)
-        | else-not-goes_on w ↦ passes_on starts _ at.i at.n _ below at.invariant.1 (ap not (tells ∙ w.if-not-goes_on.false)) w.n-is
-      ],
-    )
 
 pub returns : goal.returns
-returns c = counts_all starts _ c.loop-i.i _ c.loop-i-test.false c.loop-i.invariant.1
+returns c =
+    let s = c.args.bytes.now in
+    count_from_yields_List c.filter.result c.count.result c.count.ensures.ran
+    (YieldsList-from_filter _ (λ b. not (goes_on b)) (YieldsList-from_slice s cc) c.filter.ensures.closure (λ x b q k. search (rules, tests)))
+    ∙ length-filter (λ b. not (goes_on b)) s ∙ sym (characters_counted s)

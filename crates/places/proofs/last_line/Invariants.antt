@@ -1,10 +1,7 @@
-use Rattle.std.proofs.Common.{◌≡◌, ◌≤◌, length, drop}
+use Rattle.std.proofs.Common.{◌≡◌, drop}
 use Rattle.places.specs.Lines.{line_ends}
 use Rattle.places.proofs.last_line.Given as goal
 
 -- The bytes are passed one by one, from the last; in those that are passed no line ends.
 abbrev pub invariant-loop-i : goal.invariant-loop-i
-invariant-loop-i l = (l.i ≤ length l.bytes) × (line_ends (drop l.i l.bytes) ≡ 0)
-
-abbrev pub decreases-loop-i : goal.decreases-loop-i
-decreases-loop-i l = l.i
+invariant-loop-i l = line_ends (drop l.i l.bytes) ≡ 0

@@ -1,4 +1,4 @@
-use borrow.Author.Rules.{rules}
+use mathlib.Core.Path.{refl}
 use Prim.Native.Nat.{◌-◌}
 use native.Mathlib.Omega.{arith}
 use mathlib.Core.Logic.{inl, inr}
@@ -43,4 +43,4 @@ returns-in_default-condition t c =
 pub returns : goal.returns
 returns t c =
     let a = c.args in
-    double_at a.s.now a.i (omega (arith, c.if-s-i.false)) a.room c.if-k-eq0.false c.if-room-eq0.false c.if-k-eq1.false (omega (arith, c.if-k-gt3.false)) (in_turn_lem (conditions (a.room - 1)) (conditions (a.room - 1)) (rw c.in-Whole.is at c.condition.ensures) (rw c.in-Whole-condition.is at c.condition-2.ensures) c.both.ensures c.both-2.ensures)
+    double_at a.s.now a.i (omega (arith, c.if-s-i.false)) a.room c.if-k-eq0.false c.if-room-eq0.false c.if-k-eq1.false (omega (arith, c.if-k-gt3.false)) (in_turn_lem (conditions (a.room - 1)) (conditions (a.room - 1)) (rw c.in-Whole.is at c.condition.ensures) (rw c.in-Whole-condition.is at c.condition-2.ensures) refl refl)

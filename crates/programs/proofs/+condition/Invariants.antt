@@ -1,8 +1,5 @@
-use borrow.Author.Rules.{rules}
 use Prim.Native.Nat.{◌-◌}
-use native.Mathlib.Omega.{arith}
 use lib.ListN.{length}
-use Rattle.programs.proofs.Reading.{ends}
 use Rattle.programs.proofs.+condition.Given as goal
 
 -- The bytes left fall with each call, since a reading ends past its start. A condition with parts is read from the readings of its parts,

@@ -1,4 +1,4 @@
-use borrow.Author.Rules.{rules}
+use mathlib.Core.Path.{refl}
 use Prim.Native.Nat.{◌-◌}
 use native.Mathlib.Omega.{arith}
 use Rattle.programs.proofs.Agree.{condition_agree, condition_some, statement_agree, statement_some, program_agree, program_some}
@@ -30,7 +30,7 @@ list-returns-in_default-list t c =
 pub list-returns : goal.list-returns
 list-returns t c =
     let a = c.args in
-    step_at a.s.now a.i (omega (arith, c.if-s-i.false)) a.tags a.strings.now a.room c.if-s-i-eq0.false (in_turn_lem (statements a.tags a.strings.now a.room) (lists a.tags a.strings.now a.room) (rw c.in-Whole.is at c.statement.ensures) (rw c.in-Whole-list.is at c.list.ensures) c.both.ensures c.both-2.ensures)
+    step_at a.s.now a.i (omega (arith, c.if-s-i.false)) a.tags a.strings.now a.room c.if-s-i-eq0.false (in_turn_lem (statements a.tags a.strings.now a.room) (lists a.tags a.strings.now a.room) (rw c.in-Whole.is at c.statement.ensures) (rw c.in-Whole-list.is at c.list.ensures) refl refl)
 
 pub statement-returns-then-s-i-ne10 : goal.statement-returns-then-s-i-ne10
 statement-returns-then-s-i-ne10 t c = c.plain.ensures c.args.room
@@ -60,4 +60,4 @@ statement-returns-in_default-list-2 t c =
 
 pub statement-returns : goal.statement-returns
 statement-returns t c =
-    branch_at c.args.s.now c.args.i c.requires c.args.tags c.args.strings.now c.args.room c.if-s-i-ne10.false c.if-room-eq0.false (in_turn_lem (conditions (c.args.room - 1)) (then (lists c.args.tags c.args.strings.now (c.args.room - 1)) (lists c.args.tags c.args.strings.now (c.args.room - 1))) (rw c.in-Whole.is at c.condition.ensures) (in_turn_lem (lists c.args.tags c.args.strings.now (c.args.room - 1)) (lists c.args.tags c.args.strings.now (c.args.room - 1)) (rw c.in-Whole-list.is at c.list.ensures) (rw c.in-Whole-list-2.is at c.list-2.ensures) c.both.ensures c.both-3.ensures) c.both-2.ensures c.both-4.ensures)
+    branch_at c.args.s.now c.args.i c.requires c.args.tags c.args.strings.now c.args.room c.if-s-i-ne10.false c.if-room-eq0.false (in_turn_lem (conditions (c.args.room - 1)) (then (lists c.args.tags c.args.strings.now (c.args.room - 1)) (lists c.args.tags c.args.strings.now (c.args.room - 1))) (rw c.in-Whole.is at c.condition.ensures) (in_turn_lem (lists c.args.tags c.args.strings.now (c.args.room - 1)) (lists c.args.tags c.args.strings.now (c.args.room - 1)) (rw c.in-Whole-list.is at c.list.ensures) (rw c.in-Whole-list-2.is at c.list-2.ensures) refl refl) refl refl)

@@ -1,8 +1,5 @@
-use borrow.Author.Rules.{rules}
 use Prim.Native.Nat.{◌-◌, ◌+◌, ◌*◌}
-use native.Mathlib.Omega.{arith}
 use lib.ListN.{length}
-use Rattle.programs.proofs.Forms.{lists}
 use Rattle.programs.proofs.+list_statement.Given as goal
 
 -- The bytes left fall: a list calls a statement at the same byte and a list past it, a statement calls lists past its first byte, hence twice the

@@ -1,4 +1,4 @@
-use borrow.Author.Rules.{rules}
+use mathlib.Core.Path.{refl}
 use Rattle.programs.proofs.Agree.{operand_agree}
 use Rattle.programs.proofs.Reading.{no_first, no_second, in_turn_lem}
 use Rattle.programs.proofs.Forms.{operands, equal_at}
@@ -16,4 +16,4 @@ returns-in_default-operand c =
 
 pub returns : goal.returns
 returns c =
-    equal_at c.args.s.now c.args.i c.requires.0 c.args.room c.requires.1 (in_turn_lem operands operands (rw c.in-Whole.is at c.operand.ensures) (rw c.in-Whole-operand.is at c.operand-2.ensures) c.both.ensures c.both-2.ensures)
+    equal_at c.args.s.now c.args.i c.requires.0 c.args.room c.requires.1 (in_turn_lem operands operands (rw c.in-Whole.is at c.operand.ensures) (rw c.in-Whole-operand.is at c.operand-2.ensures) refl refl)

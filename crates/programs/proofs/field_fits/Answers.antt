@@ -1,9 +1,7 @@
-use borrow.Author.Rules.{rules}
 use native.Mathlib.Omega.{arith}
 use mathlib.Core.Path.{refl, sym, ◌∙◌}
 use mathlib.Core.Bool.{true≢false}
 use mathlib.Core.Option.{none}
-use Prim.Native.Nat.{◌-◌}
 use Rattle.programs.specs.Section.{no_program}
 use Rattle.tells.specs.Tells.{holds}
 use Rattle.programs.proofs.Agree.{program_some}

@@ -1,10 +1,8 @@
-use borrow.Author.Rules.{rules}
-use native.Mathlib.Omega.{arith}
 use mathlib.Core.List.{List}
 use Prim.Native.Nat.{◌-◌}
 use Rattle.programs.specs.Program.{Program}
 use Rattle.programs.specs.Section.{Fill}
-use Rattle.programs.proofs.Sections.{programs, Walked}
+use Rattle.programs.proofs.Sections.{Walked}
 use Rattle.programs.proofs.field_fits.Given as goal
 
 -- The invariant: what is left is filled by the programs ahead, and a program starts at the field among all exactly when it starts among those

@@ -1,4 +1,3 @@
-use borrow.Author.Rules.{rules}
 use native.Mathlib.Omega.{arith}
 use Rattle.tells.specs.Tells.{fails}
 use Rattle.programs.proofs.Characters.{range_told}

@@ -1,4 +1,3 @@
-use borrow.Author.Rules.{rules}
 use native.Mathlib.Omega.{arith}
 use mathlib.Core.Path.{◌≡◌, ap}
 use Prim.Native.Nat.{ℕ, ◌+◌, ◌-◌, min}
@@ -16,5 +15,5 @@ pub returns : goal.returns
 returns c =
     let a = c.args in
     let s = a.section.now in
-    let e : a.i + c.smaller.result - 0 ≡ a.i + min (length s - a.i) 256 = omega arith in
+    let e : a.i + c.min.result - 0 ≡ a.i + min (length s - a.i) 256 = omega arith in
     within s a.i (omega arith) a.tags a.strings.now _ (ap (λ (n : ℕ). take n s) e) c.list.ensures

@@ -1,6 +1,4 @@
-use borrow.Author.Rules.{rules}
 use native.Mathlib.Omega.{arith}
-use Prim.Native.Nat.{◌-◌}
 use lib.ListN.{drop, length-drop}
 use Rattle.tells.specs.Tells.{holds, fails}
 use Rattle.programs.proofs.Agree.{program_some}

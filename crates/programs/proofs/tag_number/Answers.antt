@@ -1,4 +1,3 @@
-use borrow.Author.Rules.{rules}
 use native.Mathlib.Omega.{arith}
 use Rattle.tells.specs.Tells.{holds, fails}
 use Rattle.programs.proofs.tag_number.Goals as goal
@@ -7,8 +6,8 @@ use Rattle.programs.proofs.tag_number.Goals as goal
 pub returns-then-s-i-lt2 : goal.returns-then-s-i-lt2
 returns-then-s-i-lt2 c = fails (λ w. omega arith)
 
-pub returns-then-tags-wide : goal.returns-then-tags-wide
-returns-then-tags-wide c = fails (λ w. omega arith)
+pub returns-then-tags-from : goal.returns-then-tags-from
+returns-then-tags-from c = fails (λ w. omega arith)
 
 pub returns : goal.returns
 returns c = holds (omega arith, omega arith)

@@ -1,4 +1,3 @@
-use borrow.Author.Rules.{rules}
 use native.Mathlib.Omega.{arith}
 use Rattle.tells.specs.Tells.{fails}
 use Rattle.tells.proofs.Laws.{beside}
@@ -9,4 +8,4 @@ pub returns-then-s-i-lt4 : goal.returns-then-s-i-lt4
 returns-then-s-i-lt4 c = fails (λ w. omega arith)
 
 pub returns : goal.returns
-returns c = beside (omega arith) (rw (c.wide-low.ensures.0, c.wide-high.ensures.0, c.wide-n.ensures.0) at c.printable.ensures)
+returns c = beside (omega arith) (rw (c.from-low.ensures, c.from-high.ensures, c.from-n.ensures) at c.printable.ensures)

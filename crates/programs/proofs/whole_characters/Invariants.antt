@@ -1,13 +1,10 @@
-use borrow.Author.Rules.{rules}
-use native.Mathlib.Omega.{arith}
-use Prim.Native.Nat.{◌≤◌, ◌-◌}
-use lib.ListN.{length, drop}
+use lib.ListN.{length}
 use Rattle.text.specs.Characters.{WholeCharacters}
 use Rattle.programs.proofs.whole_characters.Given as goal
 
 -- The invariant: what is left is whole characters exactly when all was. Each turn takes one character from the front. Assumes nothing.
-abbrev pub invariant-loop-i : goal.invariant-loop-i
-invariant-loop-i l = (l.i ≤ length l.f) × (WholeCharacters (drop l.i l.f) → WholeCharacters l.f) × (WholeCharacters l.f → WholeCharacters (drop l.i l.f))
+abbrev pub invariant-loop-rest : goal.invariant-loop-rest
+invariant-loop-rest l = (WholeCharacters l.rest → WholeCharacters l.f) × (WholeCharacters l.f → WholeCharacters l.rest)
 
-abbrev pub decreases-loop-i : goal.decreases-loop-i
-decreases-loop-i l = length l.f - l.i
+abbrev pub decreases-loop-rest : goal.decreases-loop-rest
+decreases-loop-rest l = length l.rest

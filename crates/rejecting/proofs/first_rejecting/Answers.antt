@@ -1,63 +1,52 @@
 use borrow.Author.Tests.{not-true, not-false}
-use mathlib.Core.Path.{sym, ap}
-use Prim.Native.Nat.{◌+◌, ◌-◌}
+use mathlib.Core.Path.{◌≡◌, sym, ap, subst}
+use Prim.Native.Nat.{ℕ, ◌+◌, ◌-◌}
 use native.Mathlib.Omega.{arith}
 use native.Mathlib.Numerals.{add-one}
-use lib.ListN.{length-take}
+use lib.ListN.{length, length-take}
 use lib.Seq.{length-take-le}
 use Rattle.live.specs.Live.{full}
+use Rattle.rejecting.specs.Told.{FirstBracketAs}
 use Rattle.rejecting.proofs.Rows.{none_yet, one_more, rejects_here, none_rejects}
 use borrow.Author.Rules.{rules}
 use Rattle.rejecting.proofs.first_rejecting.Goals as goal
 
--- src/lib.rt:57:5
 pub loop-i-init : goal.loop-i-init
 loop-i-init c =
     let a = c.args in
-    (omega arith, λ b. none_yet a.s.now a.q a.line.now (full a.z b))
+    λ b. none_yet a.s.now a.q a.line.now (full a.z b)
 
--- src/lib.rt:58:19
 pub overflow_add-end : goal.overflow_add-end
 overflow_add-end c = search rules
 
--- src/lib.rt:59:44
 pub slice_bounds-brackets-end : goal.slice_bounds-brackets-end
 slice_bounds-brackets-end c =
     let n = c.loop-i.i in
     sym (length-take-le (n + 1) c.args.line.now (omega arith))
 
--- src/lib.rt:59:61
 pub slice_bounds-brackets-end-in-loop-i : goal.slice_bounds-brackets-end-in-loop-i
 slice_bounds-brackets-end-in-loop-i c = search rules
 
--- src/lib.rt:59:13
 pub brackets-done-requires : goal.brackets-done-requires
 brackets-done-requires c =
     let n = c.loop-i.i in
     record { laid_out = c.requires.laid_out; q_lt_productions = c.requires.q_lt_productions; line_len_bound = omega (arith, c.requires.line_len_bound, length-take (n + 1) c.args.line.now); at_bound = omega arith; count_bound = omega (arith, c.requires.count_bound); well_formed = c.requires.well_formed }
 
--- src/lib.rt:61:13
 pub returns-then-not-done : goal.returns-then-not-done
 returns-then-not-done c =
     let a = c.args in
     let l = c.loop-i in
-    λ b. rejects_here a.s.now a.q a.line.now (full a.z b) l.i (l.i + 1) (add-one l.i) l.invariant.0 (l.invariant.1 b) (c.brackets-done.ensures b) (not-true _ c.if-not-done.true)
+    λ b. rejects_here a.s.now a.q a.line.now (full a.z b) l.i (l.i + 1) (add-one l.i) (omega arith) (l.invariant b) (c.brackets-done.ensures b) (not-true _ c.if-not-done.true)
 
--- src/lib.rt:57:5
-pub loop-i-smaller : goal.loop-i-smaller
-loop-i-smaller c = search rules
-
--- src/lib.rt:57:5
 pub loop-i-preserved : goal.loop-i-preserved
 loop-i-preserved c =
     let a = c.args in
     let l = c.loop-i in
-    let t = c.loop-i-test in
-    (omega (arith, t.true), λ b. one_more a.s.now a.q a.line.now (full a.z b) (l.i + 1) (c.brackets-done.ensures b) (not-false _ c.if-not-done.false))
+    λ b. one_more a.s.now a.q a.line.now (full a.z b) (l.i + 1) (c.brackets-done.ensures b) (not-false _ c.if-not-done.false)
 
--- src/lib.rt:47:1
 pub returns : goal.returns
 returns c =
     let a = c.args in
     let l = c.loop-i in
-    λ b. none_rejects a.s.now a.q a.line.now (full a.z b) l.i (omega (arith, l.invariant.0, c.loop-i-test.false)) (l.invariant.1 b)
+    let e : l.i ≡ length a.line.now = omega arith in
+    λ b. subst (λ (n : ℕ). FirstBracketAs a.s.now a.q a.line.now (full a.z b) n) e (none_rejects a.s.now a.q a.line.now (full a.z b) l.i (omega arith) (l.invariant b))

@@ -9,7 +9,4 @@ use Rattle.rejecting.proofs.first_rejecting.Given as goal
 
 -- The loop keeps that the brackets so far pass.
 abbrev pub invariant-loop-i : goal.invariant-loop-i
-invariant-loop-i l = (l.i ≤ length l.line) × ((b : List ℕ) → PassedTo l.s l.q l.line (full l.z b) l.i)
-
-abbrev pub decreases-loop-i : goal.decreases-loop-i
-decreases-loop-i l = length l.line - l.i
+invariant-loop-i l = (b : List ℕ) → PassedTo l.s l.q l.line (full l.z b) l.i

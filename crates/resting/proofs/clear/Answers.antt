@@ -1,13 +1,14 @@
 use mathlib.Core.Path.{refl, sym, ◌∙◌}
 use mathlib.Core.Bool.{true}
 use Prim.Native.Nat.{◌-◌}
+use native.Mathlib.Omega.{arith}
 use borrow.Author.Rules.{rules}
 use Rattle.resting.proofs.Laws.{clear_one, clear_all}
 use Rattle.resting.proofs.clear.Goals as goal
 
 pub loop-i-preserved : goal.loop-i-preserved
 loop-i-preserved c =
-    (c.put_byte.auto.memory ∙ c.loop-i.invariant.0, clear_one c.loop-i.memory _ c.loop-i.i c.args.to c.loop-i-test.true c.put_byte.ensures ∙ c.loop-i.invariant.1)
+    (c.put_byte.auto.memory ∙ c.loop-i.invariant.0, clear_one c.loop-i.memory _ c.loop-i.i c.args.to (omega arith) c.put_byte.ensures ∙ c.loop-i.invariant.1)
 
 pub returns : goal.returns
 returns c =

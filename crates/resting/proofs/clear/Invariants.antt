@@ -10,6 +10,3 @@ use Rattle.resting.proofs.clear.Given as goal
 -- Assumes nothing.
 abbrev pub invariant-loop-i : goal.invariant-loop-i
 invariant-loop-i l = (length l.memory ≡ length l.initial.memory) × (put true l.memory l.i (replicate (l.to - l.i) 0) ≡ put true l.initial.memory l.from (replicate (l.to - l.from) 0))
-
-abbrev pub decreases-loop-i : goal.decreases-loop-i
-decreases-loop-i l = l.to - l.i

@@ -1,5 +1,4 @@
-use mathlib.Core.Path.{refl, sym, subst}
-use Prim.Native.Nat.{◌-◌}
+use mathlib.Core.Path.{refl, sym, subst, ◌∙◌}
 use native.Mathlib.Omega.{arith}
 use Rattle.programs.specs.Parsed.{which_visit}
 use Rattle.rows.specs.Rows.{Marked}
@@ -14,24 +13,18 @@ loop-k-init c = (c.requires, nothing_filled _ _ refl)
 pub could-requires : goal.could-requires
 could-requires c = search rules
 
-pub step-t-requires : goal.step-t-requires
-step-t-requires c = search rules
+pub step-requires : goal.step-requires
+step-requires c = search rules
 
 pub bounds-may-k : goal.bounds-may-k
 bounds-may-k c = search rules
-
-pub overflow_add-k : goal.overflow_add-k
-overflow_add-k c = omega arith
-
-pub loop-k-smaller : goal.loop-k-smaller
-loop-k-smaller c = omega arith
 
 pub loop-k-preserved : goal.loop-k-preserved
 loop-k-preserved c = (
   c.loop-k.invariant.0,
   one_filled _ _ _ _ c.loop-k.invariant.1 (omega (arith, c.loop-k-test.true))
       (elim c.if-could.branch [
-        | then-could w ↦ subst (Marked (which_visit c.args.second) c.args.s c.loop-k.k) (sym w.ok-is) (tried (which_visit c.args.second) c.args.s c.loop-k.k w.step-t.result w.step-t.ensures)
+        | then-could w ↦ subst (Marked (which_visit c.args.second) c.args.s c.loop-k.k) (sym (w.ok-is ∙ w.is_some-ok.ensures)) (tried (which_visit c.args.second) c.args.s c.loop-k.k w.step.result w.step.ensures)
         | else-could w ↦ subst (Marked (which_visit c.args.second) c.args.s c.loop-k.k) (sym w.ok-is) (untried (which_visit c.args.second) c.args.s c.loop-k.k c.could.result c.could.ensures w.if-could.false)
       ]),
 )

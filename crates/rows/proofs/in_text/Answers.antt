@@ -1,5 +1,4 @@
-use mathlib.Core.Path.{refl, sym, subst}
-use Prim.Native.Nat.{◌-◌}
+use mathlib.Core.Path.{refl, sym, subst, ◌∙◌}
 use native.Mathlib.Omega.{arith}
 use Rattle.rows.proofs.Rows.{nothing_filled, one_filled, MarkIn, unmoved, moved, text_row}
 use borrow.Author.Rules.{rules}
@@ -12,24 +11,18 @@ loop-k-init c = (c.requires, nothing_filled _ _ refl)
 pub goes-requires : goal.goes-requires
 goes-requires c = (omega (arith, c.loop-k-test.true), c.loop-k.invariant.0.small.point)
 
-pub step-t-requires : goal.step-t-requires
-step-t-requires c = (omega (arith, c.loop-k-test.true), c.loop-k.invariant.0)
+pub step-requires : goal.step-requires
+step-requires c = (omega (arith, c.loop-k-test.true), c.loop-k.invariant.0)
 
 pub bounds-may-k : goal.bounds-may-k
 bounds-may-k c = search rules
-
-pub overflow_add-k : goal.overflow_add-k
-overflow_add-k c = omega arith
-
-pub loop-k-smaller : goal.loop-k-smaller
-loop-k-smaller c = omega arith
 
 pub loop-k-preserved : goal.loop-k-preserved
 loop-k-preserved c = (
   c.loop-k.invariant.0,
   one_filled _ _ _ _ c.loop-k.invariant.1 (omega (arith, c.loop-k-test.true))
       (elim c.if-goes.branch [
-        | then-goes w ↦ subst (MarkIn c.args.d c.loop-k.k) (sym w.ok-is) (moved c.args.d c.loop-k.k w.step-t.result w.step-t.ensures)
+        | then-goes w ↦ subst (MarkIn c.args.d c.loop-k.k) (sym (w.ok-is ∙ w.is_some-ok.ensures)) (moved c.args.d c.loop-k.k w.step.result w.step.ensures)
         | else-goes w ↦ subst (MarkIn c.args.d c.loop-k.k) (sym w.ok-is) (unmoved c.args.d c.loop-k.k c.goes.result c.goes.ensures w.if-goes.false)
       ]),
 )

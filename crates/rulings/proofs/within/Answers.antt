@@ -1,12 +1,10 @@
-use borrow.Author.Rules.{rules}
+use mathlib.Core.Path.{sym, subst}
+use Rattle.rulings.specs.Readers.{AnswerIs}
 use Rattle.rulings.proofs.Answers.{within_takes, within_refuses}
 use Rattle.rulings.proofs.within.Goals as goal
 
-pub step-t-requires : goal.step-t-requires
-step-t-requires c = search rules
-
-pub returns-then-t : goal.returns-then-t
-returns-then-t c = search (within_takes, rules)
+pub returns-in_err-next : goal.returns-in_err-next
+returns-in_err-next c = subst (AnswerIs c.args.r c.args.kind) (sym c.from_residual.ensures) (within_refuses c.args.r c.args.kind c.args.second c.requires c.in_err-next.ensures)
 
 pub returns : goal.returns
-returns c = search (within_refuses, rules)
+returns c = within_takes c.args.r c.args.kind c.args.second _ c.requires c.in_ok-next.ensures

@@ -1,4 +1,3 @@
-use borrow.Author.Rules.{rules}
 use mathlib.Core.Path.{sym, subst}
 use Rattle.salvaging.specs.Resumed.{EitherIs}
 use Rattle.salvaging.proofs.Words.{either_is}

@@ -1,30 +1,28 @@
-use borrow.Author.Rules.{rules}
 use native.Mathlib.Omega.{arith}
-use Prim.Native.Nat.{◌-◌}
 use Rattle.salvaging.proofs.Words.{stands_here, waits_here, passes_here, passed_all, none_yet}
 use Rattle.salvaging.proofs.resumption.Goals as goal
 
 pub loop-at-init : goal.loop-at-init
-loop-at-init c = let a = c.args in (omega arith, none_yet a.first.now a.second.now a.part.now a.from)
+loop-at-init c = let a = c.args in none_yet a.first.now a.second.now a.part.now a.from
 
 pub returns-in-Whole : goal.returns-in-Whole
 returns-in-Whole c =
     let a = c.args in
-    stands_here a.first.now a.second.now a.part.now a.from c.loop-at.at _ c.either.ensures c.loop-at.invariant.0 c.loop-at-test.true
-    c.loop-at.invariant.1 c.in-Whole.is
+    stands_here a.first.now a.second.now a.part.now a.from c.loop-at.at _ c.either.ensures (omega arith) (omega arith)
+    c.loop-at.invariant c.in-Whole.is
 
 pub returns-in-Begun : goal.returns-in-Begun
 returns-in-Begun c =
     let a = c.args in
-    waits_here a.first.now a.second.now a.part.now a.from c.loop-at.at _ c.either.ensures c.loop-at.invariant.0 c.loop-at-test.true
-    c.loop-at.invariant.1 c.in-Begun.is
+    waits_here a.first.now a.second.now a.part.now a.from c.loop-at.at _ c.either.ensures (omega arith) (omega arith)
+    c.loop-at.invariant c.in-Begun.is
 
 pub loop-at-preserved : goal.loop-at-preserved
 loop-at-preserved c =
     let a = c.args in
-    (omega (arith, c.loop-at.invariant.0), passes_here a.first.now a.second.now a.part.now a.from c.loop-at.at _ c.either.ensures c.loop-at.invariant.1 c.in-No.is)
+    passes_here a.first.now a.second.now a.part.now a.from c.loop-at.at _ c.either.ensures c.loop-at.invariant c.in-No.is
 
 pub returns : goal.returns
 returns c =
     let a = c.args in
-    passed_all a.first.now a.second.now a.part.now a.from c.loop-at.at (omega (arith, c.loop-at-test.false)) c.loop-at.invariant.1
+    passed_all a.first.now a.second.now a.part.now a.from c.loop-at.at (omega arith) c.loop-at.invariant

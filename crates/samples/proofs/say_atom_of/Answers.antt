@@ -1,8 +1,7 @@
 use Rattle.words.proofs.Laws.{found_inside}
-use borrow.Author.Rules.{rules}
 use Rattle.samples.proofs.say_atom_of.Goals as goal
 
 -- The atom that was found is a node of the sheet.
 pub say_node-requires : goal.say_node-requires
 say_node-requires c =
-    record { laid_out = c.requires.laid_out; i_lt_nodes = found_inside c.args.p c.requires.laid_out c.requires.runs_inside c.requires.q_lt_productions (rw c.in-At.is at c.node_of_atom-found.ensures) }
+    record { laid_out = c.requires.laid_out; i_lt_nodes = found_inside c.args.p c.requires.laid_out c.requires.runs_inside c.requires.q_lt_productions (rw c.in-Some.is at c.node_of_atom.ensures) }

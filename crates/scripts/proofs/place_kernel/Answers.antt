@@ -1,7 +1,6 @@
 use mathlib.Core.Path.{sym, ◌∙◌, ap}
 use Rattle.scripts.specs.Scripts.{reading_place}
 use Rattle.outlines.specs.Statements.{kernel, at}
-use borrow.Author.Rules.{rules}
 use Rattle.scripts.proofs.place_kernel.Goals as goal
 
 -- Each answer by the law that it names. Assumes nothing.

@@ -1,5 +1,4 @@
 use native.Mathlib.Omega.{arith}
-use borrow.Author.Rules.{rules}
 use Rattle.sheet.specs.Defect.{its_size, its_sections}
 use Rattle.tells.proofs.Laws.{told, not_told}
 use Rattle.layout.proofs.Laws.{laid_out}

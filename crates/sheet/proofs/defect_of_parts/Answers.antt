@@ -1,4 +1,3 @@
-use borrow.Author.Rules.{rules}
 use Rattle.sheet.specs.Defect.{a_tag, a_production, a_tree, a_program, not_grounded, well_formed_lem}
 use Rattle.tells.proofs.Laws.{told, not_told}
 use Rattle.sheet.proofs.DefectLaws.{runs_inside}

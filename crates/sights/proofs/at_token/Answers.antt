@@ -4,8 +4,8 @@ use Rattle.sights.proofs.Seen.{seen_token, seen_stuck}
 use borrow.Author.Rules.{rules}
 use Rattle.sights.proofs.at_token.Goals as goal
 
-pub take-a-requires : goal.take-a-requires
-take-a-requires c =
+pub take-requires : goal.take-requires
+take-requires c =
     let x = c.args.x.now in
     let y = lexed_as c.row-may.result x c.args.i c.lex.result (Lexeme.Token _ _ _) c.in-Token.is c.lex.ensures in
     ((token_within c.row-may.result x c.args.i _ _ _ c.requires.1.0 y).0, c.requires.0)
@@ -14,7 +14,7 @@ pub returns-in-Token : goal.returns-in-Token
 returns-in-Token c =
     let x = c.args.x.now in
     let y = lexed_as c.row-may.result x c.args.i c.lex.result (Lexeme.Token _ _ _) c.in-Token.is c.lex.ensures in
-    seen_token x c.args.r c.row-may.result c.args.i _ _ _ c.take-a.result c.requires.1 c.row-may.ensures y c.take-a.ensures
+    seen_token x c.args.r c.row-may.result c.args.i _ _ _ c.take.result c.unwrap_or-next.result c.requires.0 c.requires.1 c.row-may.ensures y c.take.ensures c.unwrap_or-next.ensures
 
 pub overflow_add-i : goal.overflow_add-i
 overflow_add-i c =

@@ -1,4 +1,3 @@
-use Prim.Native.Nat.{◌-◌}
 use native.Mathlib.Omega.{arith}
 use Rattle.sights.proofs.Rest.{along_first, along_onward, along_on, rest_rules, rest_refusal}
 use borrow.Author.Rules.{rules}

@@ -1,8 +1,6 @@
 use Prim.Native.Nat.{◌-◌}
-use native.Mathlib.Omega.{arith}
 use lib.ListN.{length}
 use Rattle.sights.proofs.Rest.{Along}
-use borrow.Author.Rules.{rules}
 use Rattle.sights.proofs.judge_rest.Given as goal
 
 abbrev pub invariant-loop-g : goal.invariant-loop-g

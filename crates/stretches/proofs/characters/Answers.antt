@@ -7,7 +7,6 @@ use Rattle.tokens.specs.Tokens.{front}
 use Rattle.tokens.proofs.Streams.{event_char}
 use Rattle.stretches.proofs.Nexts.{allowed_is, stands, onward}
 use Rattle.stretches.proofs.Stretching.{none_yet, one_more}
-use borrow.Author.Rules.{rules}
 use Rattle.stretches.proofs.characters.Goals as goal
 
 pub loop-far-init : goal.loop-far-init

@@ -1,8 +1,6 @@
 use Prim.Native.Nat.{◌-◌}
-use native.Mathlib.Omega.{arith}
 use lib.ListN.{length}
 use Rattle.stretches.specs.Stretched.{StretchedAs}
-use borrow.Author.Rules.{rules}
 use Rattle.stretches.proofs.characters.Given as goal
 
 -- The loop takes a stretch of plain bytes, and then one character that the reader tells.

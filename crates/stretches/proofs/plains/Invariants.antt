@@ -1,15 +1,10 @@
-use Prim.Native.Nat.{◌-◌, ◌≤◌}
-use native.Mathlib.Omega.{arith}
+use Prim.Native.Nat.{◌≤◌}
 use lib.ListN.{length}
 use Rattle.runs.specs.Visits.{most_visits}
 use Rattle.stretches.specs.Stretched.{CarriedAs}
-use borrow.Author.Rules.{rules}
 use Rattle.stretches.proofs.plains.Given as goal
 
 -- The loop carries the stretch on by one plain byte.
 abbrev pub invariant-loop-at : goal.invariant-loop-at
 invariant-loop-at l =
-    (l.at ≤ length l.part) × (l.to ≤ length l.out) × (l.count ≤ most_visits) × CarriedAs l.part l.on l.k (record { at = l.initial.at; put = l.initial.to; count = l.initial.count }) l.initial.out (record { at = l.at; put = l.to; count = l.count }) l.out
-
-abbrev pub decreases-loop-at : goal.decreases-loop-at
-decreases-loop-at l = length l.part - l.at
+    (l.to ≤ length l.out) × (l.count ≤ most_visits) × CarriedAs l.part l.on l.k (record { at = l.initial.at; put = l.initial.to; count = l.initial.count }) l.initial.out (record { at = l.at; put = l.to; count = l.count }) l.out

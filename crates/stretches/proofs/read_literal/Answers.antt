@@ -1,8 +1,5 @@
-use borrow.Author.Rules.{rules}
 use native.Mathlib.Omega.{arith}
 use Rattle.stretches.proofs.Nexts.{no_token, no_character, by_reference, read_character, reaches}
-use mathlib.Core.Path.{ap}
-use mathlib.Core.Bool.{not}
 use Rattle.stretches.proofs.read_literal.Goals as goal
 
 pub returns-in_default : goal.returns-in_default

@@ -1,4 +1,3 @@
-use borrow.Author.Rules.{rules}
 use Rattle.stretches.proofs.Stretching.{shown_put, not_shown}
 use Rattle.stretches.proofs.show.Goals as goal
 

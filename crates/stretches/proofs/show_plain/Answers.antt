@@ -1,6 +1,5 @@
 use Rattle.stretches.proofs.Carrying.{plain_put}
 use Rattle.stretches.proofs.Stretching.{not_shown}
-use borrow.Author.Rules.{rules}
 use Rattle.stretches.proofs.show_plain.Goals as goal
 
 -- Where echo is on the byte itself is put.

@@ -1,7 +1,6 @@
 use native.Mathlib.Omega.{arith}
 use Rattle.tokens.proofs.Reading
 use Rattle.text.specs.declared.Decoded.TheVariants.{Whole, Begun, Bad}
-use borrow.Author.Rules.{rules}
 use Rattle.tokens.proofs.character.Goals as goal
 
 -- What `decode` answers of the bytes is what the reader answers, because the first byte is none of < & >.

@@ -2,7 +2,6 @@ use native.Mathlib.Omega.{arith}
 use lib.ListN.{length}
 use mathlib.Core.Path.{sym, ◌∙◌}
 use Rattle.tokens.proofs.Reading
-use borrow.Author.Rules.{rules}
 use Rattle.tokens.proofs.end_tag.Goals as goal
 
 -- As for `open_tag`.

@@ -1,6 +1,5 @@
 use native.Mathlib.Omega.{arith}
 use Rattle.tokens.proofs.Reading
-use borrow.Author.Rules.{rules}
 use Rattle.tokens.proofs.line_end.Goals as goal
 
 -- Each return cites the law of `Reading` for what follows the carriage return.

@@ -1,10 +1,9 @@
 use native.Mathlib.Omega.{arith}
-use Prim.Native.Nat.{◌-◌, ◌+◌}
+use Prim.Native.Nat.{◌+◌}
 use lib.ListN.{length}
 use Rattle.text.proofs.NumeralLaws.{char_yes, char_no}
 use Rattle.tokens.proofs.Reading
 use Rattle.tokens.proofs.Numerals
-use borrow.Author.Rules.{rules}
 use Rattle.tokens.proofs.number.Goals as goal
 
 pub loop-i-init : goal.loop-i-init
@@ -33,9 +32,6 @@ overflow_add-n c = let l = c.loop-i in omega (arith, c.if-radix-d.false, Numeral
 
 pub returns-then-n-gt1114111 : goal.returns-then-n-gt1114111
 returns-then-n-gt1114111 c = let l = c.loop-i in Numerals.number_past c.args.f.now c.args.at c.args.from c.args.radix c.requires.opens_numeric l.i l.n l.invariant c.loop-i-test.true c.digit-d.result c.digit-d.ensures (omega (arith, c.if-radix-d.false)) (omega (arith, c.if-n-gt1114111.true))
-
-pub loop-i-smaller : goal.loop-i-smaller
-loop-i-smaller c = omega arith
 
 pub loop-i-preserved : goal.loop-i-preserved
 loop-i-preserved c = let l = c.loop-i in Numerals.counted_more c.args.f.now c.args.from c.args.radix l.i l.n c.digit-d.result l.invariant c.loop-i-test.true c.digit-d.ensures (omega (arith, c.if-radix-d.false)) (omega (arith, c.if-n-gt1114111.false))

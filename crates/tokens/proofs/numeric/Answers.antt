@@ -1,6 +1,5 @@
 use native.Mathlib.Omega.{arith}
 use Rattle.tokens.proofs.Numerals
-use borrow.Author.Rules.{rules}
 use Rattle.tokens.proofs.numeric.Goals as goal
 
 -- What opens the reference chooses the base (`OpensNumeric`).

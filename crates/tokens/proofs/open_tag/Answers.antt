@@ -2,7 +2,6 @@ use native.Mathlib.Omega.{arith}
 use lib.ListN.{length}
 use mathlib.Core.Path.{sym, ◌∙◌}
 use Rattle.tokens.proofs.Reading
-use borrow.Author.Rules.{rules}
 use Rattle.tokens.proofs.open_tag.Goals as goal
 
 -- Each return cites the law of `Reading` for the place it comes to; `tag` is the name and the white space found.

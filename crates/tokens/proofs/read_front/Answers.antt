@@ -1,6 +1,5 @@
 use native.Mathlib.Omega.{arith}
 use Rattle.tokens.proofs.Reading
-use borrow.Author.Rules.{rules}
 use Rattle.tokens.proofs.read_front.Goals as goal
 
 -- The first byte, or the first two, choose the function that answers.

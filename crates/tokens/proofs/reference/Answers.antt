@@ -1,7 +1,6 @@
 use native.Mathlib.Omega.{arith}
 use Rattle.tokens.proofs.Reading
 use Rattle.tokens.specs.Tokens.{amp, lt, gt, apos, quot}
-use borrow.Author.Rules.{rules}
 use Rattle.tokens.proofs.reference.Goals as goal
 
 -- Each word is compared in turn: whole, it is the token; begun, the front is begun; else the front is apart from it. Apart from all five, it is none.

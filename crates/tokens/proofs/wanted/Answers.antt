@@ -2,7 +2,6 @@ use native.Mathlib.Omega.{arith}
 use mathlib.Core.Logic.{inl, inr}
 use Rattle.text.proofs.NumeralLaws.{char_yes, char_no}
 use Rattle.tokens.proofs.Numerals.{fewest_none, fewest_one, fewest_two, product_most}
-use borrow.Author.Rules.{rules}
 use Rattle.tokens.proofs.wanted.Goals as goal
 
 -- No digit after a character, two where no one digit comes to a character, else one.

@@ -1,4 +1,3 @@
-use borrow.Author.Rules.{rules}
 use native.Mathlib.Omega.{arith}
 use Rattle.trees.proofs.Parses.{ends, no_nodes, no_depth, no_fit, leaf_tree, empty_tree, inner_none, star_tree, two_tree}
 use Rattle.tells.proofs.Laws.{told}

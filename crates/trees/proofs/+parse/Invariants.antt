@@ -1,5 +1,3 @@
-use borrow.Author.Rules.{rules}
-use native.Mathlib.Omega.{arith}
 use Rattle.trees.proofs.+parse.Given as goal
 
 -- `parse` calls itself on the trees behind a node, the nodes left falling; each return is one law about what a node and the trees behind it are.

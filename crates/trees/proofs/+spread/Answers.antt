@@ -1,6 +1,5 @@
 use mathlib.Core.Path.{refl, sym, ◌∙◌}
 use native.Mathlib.Omega.{arith}
-use borrow.Author.Rules.{rules}
 use Rattle.trees.proofs.Unique.{by_kind_1}
 use Rattle.trees.proofs.Tallies.{room, inner, inner_2, no_atom, four}
 use Rattle.trees.proofs.Spreads.{empty_spread, nonterminal_spread, character_spread, star_spread, cat_spread, alt_spread}

@@ -1,5 +1,3 @@
-use native.Mathlib.Omega.{arith}
-use borrow.Author.Rules.{rules}
 use Rattle.trees.proofs.+spread.Given as goal
 
 -- `spread` calls itself on the trees behind a node, the nodes left falling; each return is one law about what the parts' counts come to.

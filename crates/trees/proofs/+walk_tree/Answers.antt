@@ -1,6 +1,5 @@
 use mathlib.Core.Path.{sym, ◌∙◌}
 use native.Mathlib.Omega.{arith}
-use borrow.Author.Rules.{rules}
 use Rattle.trees.proofs.Tallies.{room, inner, inner_2, four, leaf_tallied, empty_tallied, star_tallied, cat_tallied, alt_tallied}
 use Rattle.trees.proofs.+walk_tree.Goals as goal
 

@@ -1,5 +1,3 @@
-use native.Mathlib.Omega.{arith}
-use borrow.Author.Rules.{rules}
 use Rattle.trees.proofs.+walk_tree.Given as goal
 
 -- `walk_tree` calls itself on the trees behind a node, the nodes left falling; each return is one law about a node's counts from its parts'.

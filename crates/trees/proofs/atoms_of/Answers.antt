@@ -1,6 +1,5 @@
 use Prim.Native.Nat.{◌<◌}
 use native.Mathlib.Omega.{arith}
-use borrow.Author.Rules.{rules}
 use Rattle.layout.specs.Layout.{production_count}
 use Rattle.trees.proofs.Answers.{no_atoms, tree_there, atoms_are, some_atom}
 use Rattle.trees.proofs.atoms_of.Goals as goal

@@ -1,6 +1,5 @@
 use mathlib.Core.Path.{refl, ap}
 use lib.Dec.{ltb}
-use borrow.Author.Rules.{rules}
 use Rattle.trees.proofs.can_be.Goals as goal
 
 -- `can_be`: a nonterminal can be the tag that some production of it has, and no other symbol.

@@ -1,5 +1,4 @@
 use mathlib.Core.Path.{refl, ap₂, ◌∙◌}
-use borrow.Author.Rules.{rules}
 use Rattle.expressions.specs.Count.{add, mul}
 use Rattle.trees.proofs.cat.Goals as goal
 

@@ -1,6 +1,5 @@
 use Prim.Native.Nat.{◌<◌}
 use native.Mathlib.Omega.{arith}
-use borrow.Author.Rules.{rules}
 use Rattle.layout.specs.Layout.{production_count}
 use Rattle.trees.proofs.Parses.{content_none, content_bad, content_told}
 use Rattle.trees.proofs.content_fits.Goals as goal

@@ -1,6 +1,5 @@
 use Prim.Native.Nat.{◌<◌}
 use native.Mathlib.Omega.{arith}
-use borrow.Author.Rules.{rules}
 use Rattle.layout.specs.Layout.{production_count}
 use Rattle.trees.proofs.Answers.{tree_there}
 use Rattle.trees.proofs.Spreads.{none_counted_from, tree_counted_from}

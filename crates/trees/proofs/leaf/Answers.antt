@@ -1,5 +1,4 @@
 use mathlib.Core.Path.{refl, ap, ◌∙◌}
-use borrow.Author.Rules.{rules}
 use Rattle.expressions.specs.Count.{bit}
 use Rattle.trees.proofs.leaf.Goals as goal
 

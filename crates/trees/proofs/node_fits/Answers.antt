@@ -1,4 +1,3 @@
-use native.Mathlib.Omega.{arith}
 use Rattle.trees.proofs.Parses.{names_told, low_told, high_told, zero_told}
 use Rattle.trees.proofs.node_fits.Goals as goal
 

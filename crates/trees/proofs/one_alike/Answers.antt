@@ -1,5 +1,4 @@
 use native.Mathlib.Omega.{arith}
-use borrow.Author.Rules.{rules}
 use Rattle.trees.specs.Sums.{cell_of}
 use Rattle.trees.proofs.Alikes.{no_such_nonterminal, no_such_tag, one_more}
 use Rattle.trees.proofs.one_alike.Goals as goal

@@ -1,4 +1,3 @@
-use borrow.Author.Rules.{rules}
 use Rattle.trees.proofs.Counts.{raise_none, raise_first, raise_second, raise_many}
 use Rattle.trees.proofs.raise.Goals as goal
 

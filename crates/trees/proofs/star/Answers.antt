@@ -1,5 +1,4 @@
 use mathlib.Core.Path.{refl, ap, ap₂, ◌∙◌}
-use borrow.Author.Rules.{rules}
 use Rattle.expressions.specs.Count.{Count, one, mul, rep}
 use Rattle.trees.proofs.star.Goals as goal
 

@@ -1,5 +1,4 @@
 use mathlib.Core.Path.{ap₂, ◌∙◌}
-use borrow.Author.Rules.{rules}
 use Rattle.expressions.specs.Count.{mul}
 use Rattle.trees.proofs.turned.Goals as goal
 

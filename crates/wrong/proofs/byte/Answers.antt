@@ -1,4 +1,3 @@
-use borrow.Author.Rules.{rules}
 use Rattle.wrong.proofs.Laws.{byte_past}
 use Rattle.wrong.proofs.byte.Goals as goal
 

@@ -1,4 +1,3 @@
-use borrow.Author.Rules.{rules}
 use Rattle.wrong.proofs.Laws.{word_is}
 use Rattle.wrong.proofs.word.Goals as goal
 

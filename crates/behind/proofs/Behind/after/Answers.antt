@@ -1,4 +1,3 @@
-use Rattle.std.proofs.Common.{rules}
 use Rattle.behind.proofs.Behind.after.Goals as goal
 
 pub returns : goal.returns

@@ -1,4 +1,3 @@
-use Rattle.std.proofs.Common.{rules}
 use Rattle.behind.specs.Behinds.{nothing_behind}
 use Rattle.behind.proofs.Behind.start.Goals as goal
 

@@ -1,4 +1,4 @@
-use Rattle.std.proofs.Common.{◌-◌, refl, rules}
+use Rattle.std.proofs.Common.{refl, rules}
 use Rattle.behind.specs.Lines.{open_on}
 use Rattle.behind.proofs.LineLaws.{tag_on, all_passed}
 use Rattle.behind.proofs.Lines.after.Goals as goal

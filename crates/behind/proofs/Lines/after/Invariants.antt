@@ -1,4 +1,4 @@
-use Rattle.std.proofs.Common.{◌≡◌, suc, ◌-◌, ◌≤◌, length, drop, rules}
+use Rattle.std.proofs.Common.{◌≡◌, suc, ◌-◌, ◌≤◌, length, drop}
 use Rattle.behind.specs.Lines.{open_on, lines_passing}
 use Rattle.behind.proofs.Lines.after.Given as goal
 

@@ -1,4 +1,3 @@
-use Rattle.std.proofs.Common.{rules}
 use Rattle.behind.proofs.LineLaws.{root_kept, root_found}
 use Rattle.behind.proofs.Lines.root_after.Goals as goal
 

@@ -1,5 +1,4 @@
 use Rattle.levels.proofs.Measuring.{outward_start, outward_on, sized_is, sized_far}
-use Rattle.extents.proofs.Parts.{length_of_structs}
 use borrow.Author.Rules.{rules}
 use Rattle.levels.proofs.Nest.sized.Goals as goal
 
@@ -10,7 +9,7 @@ pub loop-i-init : goal.loop-i-init
 loop-i-init c = outward_start _ _ _
 
 pub loop-i-preserved : goal.loop-i-preserved
-loop-i-preserved c = search (outward_on, length_of_structs, rules)
+loop-i-preserved c = search (outward_on, rules)
 
 pub returns : goal.returns
 returns c = search (sized_is, rules)

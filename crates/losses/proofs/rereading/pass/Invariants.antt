@@ -1,4 +1,4 @@
-use Rattle.std.proofs.Common.{◌≡◌, ◌-◌, length, rules}
+use Rattle.std.proofs.Common.{◌≡◌, length}
 use Rattle.losses.proofs.rereading.pass.Given as goal
 
 -- What is left to be passed gets less.

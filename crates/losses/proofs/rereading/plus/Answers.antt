@@ -1,4 +1,3 @@
-use Rattle.std.proofs.Common.{rules}
 use Rattle.losses.proofs.Laws.{line_ended}
 use Rattle.losses.proofs.rereading.plus.Goals as goal
 

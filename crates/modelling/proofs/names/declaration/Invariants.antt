@@ -1,8 +1,6 @@
-use Rattle.std.proofs.Common.{◌-◌, ◌≤◌, length, rules}
+use Rattle.std.proofs.Common.{◌≡◌}
 use Rattle.modelling.proofs.names.declaration.Given as goal
 
+-- The names are those of the text.
 abbrev pub invariant-loop-w : goal.invariant-loop-w
-invariant-loop-w l = (l.w.from ≤ l.w.to) × (l.w.to ≤ length l.text)
-
-abbrev pub decreases-loop-w : goal.decreases-loop-w
-decreases-loop-w l = length l.text - l.w.from
+invariant-loop-w l = (goal.iterator-loop-w).can_next l.w-iterator × (goal.iterator-loop-w).is_finite l.w-iterator × (l.w-iterator.text.now ≡ l.text)

@@ -1,4 +1,4 @@
-use Rattle.std.proofs.Common.{◌-◌, ◌≤◌, length, rules}
+use Rattle.std.proofs.Common.{◌-◌, ◌≤◌, length}
 use Rattle.modelling.proofs.names.next_name.Given as goal
 
 abbrev pub invariant-loop-w : goal.invariant-loop-w

@@ -1,8 +1,6 @@
-use Rattle.std.proofs.Common.{◌-◌, ◌≤◌, length, rules}
+use Rattle.std.proofs.Common.{◌≡◌}
 use Rattle.modelling.proofs.told.tell_several.Given as goal
 
+-- The names are those of the text.
 abbrev pub invariant-loop-e : goal.invariant-loop-e
-invariant-loop-e l = (l.e.from ≤ l.e.to) × (l.e.to ≤ length l.text)
-
-abbrev pub decreases-loop-e : goal.decreases-loop-e
-decreases-loop-e l = length l.text - l.e.from
+invariant-loop-e l = (goal.iterator-loop-e).can_next l.e-iterator × (goal.iterator-loop-e).is_finite l.e-iterator × (l.e-iterator.text.now ≡ l.text)

@@ -1,6 +1,5 @@
 use mathlib.Core.Path.{sym, ◌∙◌}
 use Rattle.scripts.proofs.Answers.{taken_if, none_if}
-use borrow.Author.Rules.{rules}
 use Rattle.scripts.proofs.Script.assigned.Goals as goal
 
 -- Each answer by the law that it names. Assumes nothing.
@@ -8,4 +7,4 @@ pub returns-then-is_operand : goal.returns-then-is_operand
 returns-then-is_operand c = c.plain.ensures ∙ taken_if _ _ (sym c.is_operand.ensures ∙ c.if-is_operand.true)
 
 pub returns : goal.returns
-returns c = c.refused.ensures ∙ none_if _ _ (sym c.is_operand.ensures ∙ c.if-is_operand.false)
+returns c = none_if _ _ (sym c.is_operand.ensures ∙ c.if-is_operand.false)

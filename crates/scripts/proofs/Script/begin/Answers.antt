@@ -1,15 +1,14 @@
 use mathlib.Core.Path.{◌∙◌}
 use Rattle.scripts.proofs.Answers.{begin_opening, begin_separated, begin_branching}
 use Rattle.scripts.specs.Scripts.{layers_in}
-use borrow.Author.Rules.{rules}
 use Rattle.scripts.proofs.Script.begin.Goals as goal
 
 -- Each answer by the law that it names. Assumes nothing.
 pub returns-in-Opening : goal.returns-in-Opening
-returns-in-Opening c = c.refused.ensures ∙ begin_opening _ (layers_in c.args.self) c.in-Opening.is
+returns-in-Opening c = begin_opening _ (layers_in c.args.self) c.in-Opening.is
 
 pub returns-in-Separated : goal.returns-in-Separated
-returns-in-Separated c = c.refused-in-Separated.ensures ∙ begin_separated _ (layers_in c.args.self) c.in-Separated.is
+returns-in-Separated c = begin_separated _ (layers_in c.args.self) c.in-Separated.is
 
 pub returns-in-Branching : goal.returns-in-Branching
 returns-in-Branching c = c.layered.ensures ∙ begin_branching _ (layers_in c.args.self) c.in-Branching.is

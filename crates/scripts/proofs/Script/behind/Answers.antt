@@ -8,7 +8,6 @@ use mathlib.Core.Option.{some, none}
 use mathlib.Core.List.{◌∷◌}
 use Rattle.outlines.specs.Conditions.{margin, wanting, a_single, got_at}
 use Rattle.outlines.specs.Statements.{in_condition, then_of}
-use borrow.Author.Rules.{rules}
 use Rattle.scripts.proofs.Script.behind.Goals as goal
 
 -- Each answer by the law that it names. Assumes nothing.
@@ -28,7 +27,7 @@ pub returns-then-deep-eq0 : goal.returns-then-deep-eq0
 returns-then-deep-eq0 c = c.branch-self.ensures ∙ (with_layers _ (ap (λ x. then_of x ∷ layers_in c.args.self) (extent_same c.pair_with-c.ensures)) ∙ (then_closed (extent_of c.args.d) (side_of c.args.o) c.args.self.margins c.args.self.deep (layers_in c.args.self) c.args.kind c.if-deep-eq0.true c.if-kind-eq16.true ∙ behind_then (extent_of c.args.d) (side_of c.args.o) (margins_in c.args.self) (layers_in c.args.self) c.args.kind c.if-kind-eq20.false c.if-kind-eq21.false c.if-kind-eq26.false))
 
 pub returns-then-kind-eq16 : goal.returns-then-kind-eq16
-returns-then-kind-eq16 c = c.refused.ensures ∙ (then_open (extent_of c.args.d) (side_of c.args.o) c.args.self.margins c.args.self.deep (layers_in c.args.self) c.args.kind c.if-deep-eq0.false ∙ behind_then (extent_of c.args.d) (side_of c.args.o) (margins_in c.args.self) (layers_in c.args.self) c.args.kind c.if-kind-eq20.false c.if-kind-eq21.false c.if-kind-eq26.false)
+returns-then-kind-eq16 c = (then_open (extent_of c.args.d) (side_of c.args.o) c.args.self.margins c.args.self.deep (layers_in c.args.self) c.args.kind c.if-deep-eq0.false ∙ behind_then (extent_of c.args.d) (side_of c.args.o) (margins_in c.args.self) (layers_in c.args.self) c.args.kind c.if-kind-eq20.false c.if-kind-eq21.false c.if-kind-eq26.false)
 
 pub returns : goal.returns
-returns c = c.refused-2.ensures ∙ behind_none (extent_of c.args.d) (side_of c.args.o) (margins_in c.args.self) (layers_in c.args.self) c.args.kind c.if-kind-eq20.false c.if-kind-eq21.false c.if-kind-eq26.false c.if-kind-eq16.false
+returns c = behind_none (extent_of c.args.d) (side_of c.args.o) (margins_in c.args.self) (layers_in c.args.self) c.args.kind c.if-kind-eq20.false c.if-kind-eq21.false c.if-kind-eq26.false c.if-kind-eq16.false

@@ -2,7 +2,6 @@ use mathlib.Core.Path.{refl, ◌∙◌, ap}
 use native.Mathlib.Omega.{arith}
 use Rattle.scripts.specs.declared.Stage.TheVariants.{At, Past}
 use Rattle.scripts.proofs.Standings.{steady, firmly, past_extent, ends_as, small_extent}
-use borrow.Author.Rules.{rules}
 use Rattle.scripts.proofs.Script.ends.Goals as goal
 
 -- Each answer by the law that it names. Assumes nothing.

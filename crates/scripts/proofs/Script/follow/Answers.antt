@@ -4,7 +4,6 @@ use Rattle.scripts.proofs.Answers.{past_short, past_long, past_semicolon, past_e
 use Rattle.extents.specs.Held.{extent_of}
 use Rattle.scripts.specs.Scripts.{layers_in}
 use Rattle.outlines.specs.Statements.{closed_list}
-use borrow.Author.Rules.{rules}
 use Rattle.scripts.proofs.Script.follow.Goals as goal
 
 -- Each answer by the law that it names. Assumes nothing.
@@ -24,4 +23,4 @@ pub returns-then-kind-eq19 : goal.returns-then-kind-eq19
 returns-then-kind-eq19 c = c.unblock.ensures ∙ past_end c.args.print (extent_of c.args.p) (closed_list (layers_in c.args.self) (extent_of c.args.p)) (layers_in c.args.self) c.args.kind (sym (c.both.ensures ∙ ap (λ x. c.args.print && x) c.is_short_item.ensures) ∙ c.if-both.false) (sym (c.both-2.ensures ∙ ap (λ x. c.args.print && x) c.is_long_item.ensures) ∙ c.if-both-2.false) c.if-kind-eq32.false c.if-kind-eq17.false c.if-kind-eq19.true
 
 pub returns : goal.returns
-returns c = c.refused.ensures ∙ past_none c.args.print (extent_of c.args.p) (closed_list (layers_in c.args.self) (extent_of c.args.p)) (layers_in c.args.self) c.args.kind (sym (c.both.ensures ∙ ap (λ x. c.args.print && x) c.is_short_item.ensures) ∙ c.if-both.false) (sym (c.both-2.ensures ∙ ap (λ x. c.args.print && x) c.is_long_item.ensures) ∙ c.if-both-2.false) c.if-kind-eq32.false c.if-kind-eq17.false c.if-kind-eq19.false
+returns c = past_none c.args.print (extent_of c.args.p) (closed_list (layers_in c.args.self) (extent_of c.args.p)) (layers_in c.args.self) c.args.kind (sym (c.both.ensures ∙ ap (λ x. c.args.print && x) c.is_short_item.ensures) ∙ c.if-both.false) (sym (c.both-2.ensures ∙ ap (λ x. c.args.print && x) c.is_long_item.ensures) ∙ c.if-both-2.false) c.if-kind-eq32.false c.if-kind-eq17.false c.if-kind-eq19.false

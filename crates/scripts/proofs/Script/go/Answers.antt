@@ -4,7 +4,6 @@ use Rattle.scripts.specs.declared.Stage.TheVariants.{At, Assign, Operand, Item, 
 use Rattle.scripts.proofs.Standings.{steady, firmly, level_single, level_other, level_behind, room_behind, behind_extent, behind_side, past_extent, step_as, none_tested}
 use Rattle.scripts.specs.Scripts.{layers_in, margins_in}
 use Rattle.outlines.specs.Conditions.{step_wanting, a_single, an_equals, an_operand}
-use borrow.Author.Rules.{rules}
 use Rattle.scripts.proofs.Script.go.Goals as goal
 
 -- Each answer by the law that it names. Assumes nothing.

@@ -5,7 +5,6 @@ use Rattle.scripts.proofs.Standings.{kernel_as, extent_under, small_extent, leve
 use Rattle.extents.proofs.Parts.{extent_same, side_grows, extent_sized}
 use Rattle.extents.specs.Held.{extent_of, side_of}
 use Rattle.scripts.specs.Scripts.{margins_in}
-use borrow.Author.Rules.{rules}
 use Rattle.scripts.proofs.Script.kernel.Goals as goal
 
 -- Each answer by the law that it names. Assumes nothing.

@@ -1,7 +1,6 @@
 use mathlib.Core.Path.{◌∙◌, ap}
 use Rattle.scripts.specs.Scripts.{layers_in}
 use Rattle.outlines.specs.Statements.{wrapped_in}
-use borrow.Author.Rules.{rules}
 use Rattle.scripts.proofs.Script.measure.Goals as goal
 
 -- Each answer by the law that it names. Assumes nothing.

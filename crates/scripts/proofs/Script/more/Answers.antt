@@ -4,7 +4,6 @@ use Rattle.extents.proofs.Parts.{extent_same}
 use Rattle.scripts.specs.Scripts.{layers_in}
 use Rattle.outlines.specs.Statements.{past}
 use mathlib.Core.Bool.{true}
-use borrow.Author.Rules.{rules}
 use Rattle.scripts.proofs.Script.more.Goals as goal
 
 -- Each answer by the law that it names. Assumes nothing.

@@ -11,7 +11,7 @@ use Rattle.scripts.proofs.Script.not.Goals as goal
 
 -- Each answer by the law that it names. Assumes nothing.
 pub returns-then-deep-eq0 : goal.returns-then-deep-eq0
-returns-then-deep-eq0 c = c.refused.ensures ∙ no_not (layers_in c.args.self) c.args.self.margins c.args.self.deep c.if-deep-eq0.true
+returns-then-deep-eq0 c = no_not (layers_in c.args.self) c.args.self.margins c.args.self.deep c.if-deep-eq0.true
 
 pub overflow_add-margin : goal.overflow_add-margin
 overflow_add-margin c = let k : length c.args.self.margins ≡ most_margins = search (length_of_structs, rules) in let p : 0 < c.args.self.deep = omega (arith, c.if-deep-eq0.false) in let m = margin_top c.args.self.margins c.args.self.deep p (omega (arith, k, c.requires.room)) c.requires.small in record { fits = omega (arith, m.few_nots) }

@@ -19,7 +19,7 @@ pub bounds-layers-i : goal.bounds-layers-i
 bounds-layers-i c = omega (arith, c.loop-i.invariant.0.at_most, c.requires.layer_room.room, c.loop-i-test.true)
 
 pub returns-in-Among : goal.returns-in-Among
-returns-in-Among c = let l = c.loop-i in let t = c.loop-i-test.true in let k : length c.args.self.layers ≡ most_around = search (length_of_structs, rules) in let m : l.i ≤ length c.args.self.layers = omega (arith, l.invariant.0.at_most, c.requires.layer_room.room, k) in c.refused.ensures ∙ else_list c.args.self.layers l.i (extent_of l.e) _ l.invariant.1 t m _ (ap layer_of c.in-Among.is)
+returns-in-Among c = let l = c.loop-i in let t = c.loop-i-test.true in let k : length c.args.self.layers ≡ most_around = search (length_of_structs, rules) in let m : l.i ≤ length c.args.self.layers = omega (arith, l.invariant.0.at_most, c.requires.layer_room.room, k) in else_list c.args.self.layers l.i (extent_of l.e) _ l.invariant.1 t m _ (ap layer_of c.in-Among.is)
 
 pub layered-requires : goal.layered-requires
 layered-requires c = omega (arith, c.loop-i.invariant.0.at_most, c.requires.layer_room.room, c.loop-i-test.true)
@@ -34,4 +34,4 @@ pub loop-i-preserved : goal.loop-i-preserved
 loop-i-preserved c = let l = c.loop-i in let t = c.loop-i-test.true in let k : length c.args.self.layers ≡ most_around = search (length_of_structs, rules) in let m : l.i ≤ length c.args.self.layers = omega (arith, l.invariant.0.at_most, c.requires.layer_room.room, k) in (going_on c.args.self.layers c.args.self.depth l.i l.e c.branch-e.result bare_around l.invariant.0 t m (wrapped_as _ _ l.e c.branch-e.result c.in-Else.is c.branch-e.ensures), else_on c.args.self.layers l.i (extent_of l.e) _ l.invariant.1 t m _ _ _ (ap layer_of c.in-Else.is) (extent_same c.branch-e.ensures))
 
 pub returns : goal.returns
-returns c = c.refused-2.ensures ∙ else_over c.args.self.layers c.loop-i.i (extent_of c.loop-i.e) _ c.loop-i.invariant.1 c.loop-i-test.false
+returns c = else_over c.args.self.layers c.loop-i.i (extent_of c.loop-i.e) _ c.loop-i.invariant.1 c.loop-i-test.false

@@ -1,5 +1,4 @@
 use Rattle.scripts.proofs.Answers.{none_outside_lem}
-use borrow.Author.Rules.{rules}
 use Rattle.scripts.proofs.Script.outermost.Goals as goal
 
 -- Each answer by the law that it names. Assumes nothing.

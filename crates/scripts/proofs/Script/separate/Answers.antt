@@ -1,6 +1,5 @@
 use mathlib.Core.Path.{sym, ◌∙◌, ap}
 use Rattle.scripts.specs.Scripts.{separated_as}
-use borrow.Author.Rules.{rules}
 use Rattle.scripts.proofs.Script.separate.Goals as goal
 
 -- Each answer by the law that it names. Assumes nothing.

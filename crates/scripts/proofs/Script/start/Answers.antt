@@ -2,7 +2,6 @@ use mathlib.Core.Path.{sym, ◌∙◌}
 use Rattle.programs.specs.Parsed.{which_visit}
 use Rattle.scripts.proofs.Answers.{start_plain, start_target, start_print, start_if_lem, start_begin, start_end, start_none}
 use Rattle.scripts.specs.Scripts.{reading_place, layers_in}
-use borrow.Author.Rules.{rules}
 use Rattle.scripts.proofs.Script.start.Goals as goal
 
 -- Each answer by the law that it names. Assumes nothing.
@@ -25,4 +24,4 @@ pub returns-then-kind-eq19 : goal.returns-then-kind-eq19
 returns-then-kind-eq19 c = c.end.ensures ∙ start_end (which_visit c.args.second) (reading_place c.args.place) (layers_in c.args.self) c.args.kind (sym c.is_plain.ensures ∙ c.if-is_plain.false) (sym c.is_target.ensures ∙ c.if-is_target.false) c.if-kind-eq14.false c.if-kind-eq15.false c.if-kind-eq18.false c.if-kind-eq19.true
 
 pub returns : goal.returns
-returns c = c.refused.ensures ∙ start_none (which_visit c.args.second) (reading_place c.args.place) (layers_in c.args.self) c.args.kind (sym c.is_plain.ensures ∙ c.if-is_plain.false) (sym c.is_target.ensures ∙ c.if-is_target.false) c.if-kind-eq14.false c.if-kind-eq15.false c.if-kind-eq18.false c.if-kind-eq19.false
+returns c = start_none (which_visit c.args.second) (reading_place c.args.place) (layers_in c.args.self) c.args.kind (sym c.is_plain.ensures ∙ c.if-is_plain.false) (sym c.is_target.ensures ∙ c.if-is_target.false) c.if-kind-eq14.false c.if-kind-eq15.false c.if-kind-eq18.false c.if-kind-eq19.false

@@ -3,7 +3,6 @@ use native.Mathlib.Omega.{arith}
 use Rattle.extents.proofs.Parts.{extent_same}
 use Rattle.outlines.specs.Extents as outlines
 use Rattle.outlines.specs.Extents.{vacant}
-use borrow.Author.Rules.{rules}
 use Rattle.scripts.proofs.Script.tested.Goals as goal
 
 -- Each answer by the law that it names. Assumes nothing.

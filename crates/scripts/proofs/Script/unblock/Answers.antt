@@ -1,6 +1,5 @@
 use mathlib.Core.Path.{sym, ◌∙◌, ap}
 use Rattle.scripts.specs.Scripts.{unblocked_as}
-use borrow.Author.Rules.{rules}
 use Rattle.scripts.proofs.Script.unblock.Goals as goal
 
 -- Each answer by the law that it names. Assumes nothing.

@@ -1,4 +1,3 @@
-use borrow.Author.Rules.{rules}
 use Rattle.sheet.proofs.FieldLaws.{named_told}
 use Rattle.sheet.proofs.fields.both_named.Goals as goal
 

@@ -1,13 +1,8 @@
-use Prim.Native.Nat.{◌-◌}
 use native.Mathlib.Omega.{arith}
-use borrow.Author.Count.{below_more, below_none}
-use borrow.Author.Rules.{rules}
+use borrow.Author.Count.{below_more}
 use Rattle.tells.specs.Tells.{holds, fails}
 use Rattle.tells.proofs.Laws.{told, not_told}
 use Rattle.sheet.proofs.fields.each_named.Goals as goal
-
-pub loop-k-init : goal.loop-k-init
-loop-k-init c = (search rules, below_none _)
 
 pub overflow_mul-i : goal.overflow_mul-i
 overflow_mul-i c = record { fits = omega (arith, c.requires.by_index c.loop-k.k c.loop-k-test.true, c.well_formed) }
@@ -31,11 +26,9 @@ returns-then-not-both_named c =
     (h c.loop-k.k c.loop-k-test.true))
 
 pub loop-k-preserved : goal.loop-k-preserved
-loop-k-preserved c = (
-  search rules,
-  below_more _ _ c.loop-k.invariant.1
-      (told (rw (c.word_at-one.ensures.is, c.word_at-two.ensures.is) at c.both_named.ensures) c.if-not-both_named.false),
-)
+loop-k-preserved c =
+    below_more _ _ c.loop-k.invariant
+    (told (rw (c.word_at-one.ensures.is, c.word_at-two.ensures.is) at c.both_named.ensures) c.if-not-both_named.false)
 
 pub returns : goal.returns
-returns c = holds (λ k z. c.loop-k.invariant.1 k (omega (arith, z, c.loop-k-test.false)))
+returns c = holds (λ k z. c.loop-k.invariant k (omega (arith, z, c.loop-k-test.false)))

@@ -1,4 +1,3 @@
-use borrow.Author.Rules.{rules}
 use Rattle.tells.specs.Tells.{fails}
 use Rattle.tells.proofs.Laws.{as_told, told, not_told}
 use Rattle.sheet.proofs.FieldLaws.{fill_told, filled_of, productions_told, productions_named, production_inside, nodes_told, nodes_named, node_inside, programs_from}

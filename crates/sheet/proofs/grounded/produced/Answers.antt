@@ -1,10 +1,7 @@
 use mathlib.Core.Path.{sym, ◌∙◌}
-use Prim.Native.Nat.{◌-◌}
 use native.Mathlib.Omega.{arith}
 use borrow.Author.Count.{below_more}
-use borrow.Author.Rules.{rules}
 use Rattle.tells.specs.Tells.{holds, fails}
-use Rattle.layout.specs.Records.{nonterminal_of}
 use Rattle.sheet.proofs.grounded.produced.Goals as goal
 
 pub returns-then-nonterminal_of-n : goal.returns-then-nonterminal_of-n
@@ -14,9 +11,9 @@ returns-then-nonterminal_of-n c =
     holds (record { number = q; there = omega (arith, p.layout_is.productions_is.is, c.loop-q-test.true); its = sym c.nonterminal_of.ensures.is ∙ c.if-nonterminal_of-n.true })
 
 pub loop-q-preserved : goal.loop-q-preserved
-loop-q-preserved c = (search rules, below_more _ _ c.loop-q.invariant.1 (λ e. c.if-nonterminal_of-n.false (c.nonterminal_of.ensures.is ∙ e)))
+loop-q-preserved c = below_more _ _ c.loop-q.invariant (λ e. c.if-nonterminal_of-n.false (c.nonterminal_of.ensures.is ∙ e))
 
 pub returns : goal.returns
 returns c =
     let p = c.requires in
-    fails (λ h. c.loop-q.invariant.1 h.number (omega (arith, h.there, p.layout_is.productions_is.is, c.loop-q-test.false)) h.its)
+    fails (λ h. c.loop-q.invariant h.number (omega (arith, h.there, p.layout_is.productions_is.is, c.loop-q-test.false)) h.its)

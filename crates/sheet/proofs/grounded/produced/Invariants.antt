@@ -1,13 +1,8 @@
 use mathlib.Core.Path.{◌≡◌}
-use Prim.Native.Nat.{ℕ, ◌-◌, ◌≤◌, ◌<◌}
-use native.Mathlib.Omega.{arith}
-use borrow.Author.Rules.{rules}
+use Prim.Native.Nat.{ℕ, ◌<◌}
 use Rattle.layout.specs.Records.{nonterminal_of}
 use Rattle.sheet.proofs.grounded.produced.Given as goal
 
 -- No production passed so far is of the nonterminal; the first that is settles the test.
 abbrev pub invariant-loop-q : goal.invariant-loop-q
-invariant-loop-q l = (l.q ≤ l.count) × ((k : ℕ) → k < l.q → nonterminal_of l.s k ≡ l.n → ⊥)
-
-abbrev pub decreases-loop-q : goal.decreases-loop-q
-decreases-loop-q l = l.count - l.q
+invariant-loop-q l = (k : ℕ) → k < l.q → nonterminal_of l.s k ≡ l.n → ⊥

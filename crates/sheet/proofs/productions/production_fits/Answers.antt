@@ -1,4 +1,3 @@
-use borrow.Author.Rules.{rules}
 use Rattle.sheet.proofs.ProductionLaws.{production_told}
 use Rattle.sheet.proofs.productions.production_fits.Goals as goal
 

@@ -1,4 +1,3 @@
-use Prim.Native.Nat.{◌-◌}
 use native.Mathlib.Omega.{arith}
 use borrow.Author.Count.{below_more}
 use borrow.Author.Rules.{rules}
@@ -17,13 +16,12 @@ pub loop-q-preserved : goal.loop-q-preserved
 loop-q-preserved c =
     let i = c.loop-q.invariant in (
       search rules,
-      search rules,
-      nodes_next c.args.s.now c.loop-q.q c.loop-q.before c.node_count_of-before.result i.2 c.node_count_of-before.ensures.is,
-      below_more _ _ i.3 (told c.production_fits.ensures c.if-not-production_fits.false),
+      nodes_next c.args.s.now c.loop-q.q c.loop-q.before c.node_count_of-before.result i.1 c.node_count_of-before.ensures.is,
+      below_more _ _ i.2 (told c.production_fits.ensures c.if-not-production_fits.false),
     )
 
 pub returns : goal.returns
 returns c =
     let p = c.requires in
     let i = c.loop-q.invariant in
-    productions_told _ _ p c.loop-q.q c.loop-q.before (omega (arith, i.0, c.loop-q-test.false)) i.3 i.2
+    productions_told _ _ p c.loop-q.q c.loop-q.before (omega (arith, c.loop-q-test.false)) i.2 i.1

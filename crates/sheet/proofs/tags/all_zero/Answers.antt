@@ -1,16 +1,10 @@
-use Prim.Native.Nat.{◌-◌}
-use native.Mathlib.Omega.{arith}
-use borrow.Author.Count.{below_more}
-use borrow.Author.Rules.{rules}
-use Rattle.tells.specs.Tells.{holds, fails}
-use Rattle.sheet.proofs.TagLaws.{zeros_at, at_zeros}
+use lib.Dec.{eqb}
+use borrow.Author.Tests.{tests}
+use Rattle.std.proofs.Common.{rules}
+use Rattle.std.proofs.lemmas.Iterator.{YieldsList-from_slice}
+use Rattle.std.proofs.lemmas.Iterator.Search.{all_from_yields_List}
+use Rattle.sheet.proofs.TagLaws.{zeros_listed}
 use Rattle.sheet.proofs.tags.all_zero.Goals as goal
 
-pub returns-then-f-i-ne0 : goal.returns-then-f-i-ne0
-returns-then-f-i-ne0 c = fails (λ h. c.if-f-i-ne0.true (at_zeros c.args.f.now h c.loop-i.i))
-
-pub loop-i-preserved : goal.loop-i-preserved
-loop-i-preserved c = (search rules, below_more _ _ c.loop-i.invariant.1 c.if-f-i-ne0.false)
-
 pub returns : goal.returns
-returns c = holds (zeros_at c.args.f.now (λ k z. c.loop-i.invariant.1 k (omega arith)))
+returns c = zeros_listed c.args.f.now c.all.result (all_from_yields_List (λ x. eqb x 0) _ _ _ c.all.ensures.ran (YieldsList-from_slice c.args.f.now cc) (λ x b q k. search (rules, tests)))

@@ -1,6 +1,5 @@
 use mathlib.Core.Path.{refl}
 use native.Mathlib.Omega.{arith}
-use borrow.Author.Rules.{rules}
 use Rattle.stack.specs.Stacked.{off, as_was}
 use Rattle.stack.proofs.Stack.pop.Goals as goal
 

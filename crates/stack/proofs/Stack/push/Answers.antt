@@ -9,7 +9,7 @@ use Rattle.stack.proofs.Stack.push.Goals as goal
 
 -- The run's own push, where there is room for one more element.
 pub returns-then-live-ge-DEPTH : goal.returns-then-live-ge-DEPTH
-returns-then-live-ge-DEPTH c = refused c.if-live-ge-DEPTH.true refl refl
+returns-then-live-ge-DEPTH c = refused c.if-live-ge-DEPTH.true refl
 
 pub push-next-requires : goal.push-next-requires
 push-next-requires c =
@@ -18,4 +18,4 @@ push-next-requires c =
     record { depth_lt_most = omega (arith, c.if-live-ge-DEPTH.false); stack_width_in_bounds = omega (arith, n) }
 
 pub returns : goal.returns
-returns c = put (omega (arith, c.if-live-ge-DEPTH.false)) refl c.push-next.ensures
+returns c = put _ (omega (arith, c.if-live-ge-DEPTH.false)) refl c.push-next.ensures

@@ -1,5 +1,4 @@
 use Rattle.state.specs.Changes.{bare_frame}
-use borrow.Author.Rules.{rules}
 use Rattle.state.proofs.Frame.bare.Goals as goal
 
 -- Field by field, with what `Saved::bare` answers.

@@ -1,6 +1,5 @@
 use borrow.Author.Tests.{lt-ltb, le-ltb}
 use Rattle.state.specs.Changes.{keeping}
-use borrow.Author.Rules.{rules}
 use Rattle.state.proofs.Frame.keep.Goals as goal
 
 -- By the test for room.

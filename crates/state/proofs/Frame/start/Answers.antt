@@ -1,5 +1,4 @@
 use Rattle.state.specs.Changes.{started}
-use borrow.Author.Rules.{rules}
 use Rattle.state.proofs.Frame.start.Goals as goal
 
 -- Field by field, with what `Saved::bare` answers.

@@ -1,8 +1,5 @@
 use mathlib.Core.Path.{◌≡◌}
-use Prim.Native.Nat.{◌-◌}
-use native.Mathlib.Omega.{arith}
 use lib.ListN.{length}
-use borrow.Author.Rules.{rules}
 use Rattle.state.specs.Bounds.{most_sets}
 use Rattle.state.specs.Changes.{bare_saved, bare_from}
 use Rattle.state.proofs.Frame.tidy.Given as goal
@@ -11,6 +8,3 @@ use Rattle.state.proofs.Frame.tidy.Given as goal
 abbrev pub invariant-loop-i : goal.invariant-loop-i
 invariant-loop-i l =
     (length l.saved ≡ most_sets) × (bare_from bare_saved l.i l.saved ≡ bare_from bare_saved l.self.«open» l.self.saved)
-
-abbrev pub decreases-loop-i : goal.decreases-loop-i
-decreases-loop-i l = most_sets - l.i

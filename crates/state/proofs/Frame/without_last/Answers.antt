@@ -1,4 +1,3 @@
-use borrow.Author.Rules.{rules}
 use Rattle.state.proofs.Frame.without_last.Goals as goal
 
 -- With no set in use, one less is none too.

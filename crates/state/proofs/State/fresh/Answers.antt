@@ -1,5 +1,4 @@
 use Rattle.state.specs.Changes.{fresh_state}
-use borrow.Author.Rules.{rules}
 use Rattle.state.proofs.State.fresh.Goals as goal
 
 -- Field by field, with what `Frame::bare` answers.

@@ -1,6 +1,5 @@
 use mathlib.Core.Path.{sym}
 use lib.ListN.{get_or-eq_default}
-use borrow.Author.Rules.{rules}
 use Rattle.state.proofs.bytes.byte_at.Goals as goal
 
 -- Past the end `byte_at` is 0.

@@ -1,5 +1,4 @@
 use Rattle.state.specs.Bytes.{state_from}
-use borrow.Author.Rules.{rules}
 use Rattle.state.proofs.bytes.from_bytes.Goals as goal
 
 -- All but the frames, and the frames.

@@ -1,4 +1,3 @@
-use borrow.Author.Rules.{rules}
 use Rattle.state.proofs.bytes.heading_at.Goals as goal
 
 -- Field by field.

@@ -1,4 +1,3 @@
-use borrow.Author.Rules.{rules}
 use Rattle.state.proofs.bytes.on_at.Goals as goal
 
 -- The test of the byte that was read.

@@ -1,4 +1,3 @@
-use borrow.Author.Rules.{rules}
 use Rattle.state.proofs.bytes.put_flag.Goals as goal
 
 -- By cases of the flag.

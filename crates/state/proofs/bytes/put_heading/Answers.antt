@@ -1,6 +1,5 @@
 use Rattle.state.specs.Bytes.{heading_bytes}
 use Rattle.state.proofs.Written.{wrote_then}
-use borrow.Author.Rules.{rules}
 use Rattle.state.proofs.bytes.put_heading.Goals as goal
 
 -- Field by field, one after another (wrote_then).

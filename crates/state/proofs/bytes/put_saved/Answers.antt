@@ -1,6 +1,5 @@
 use Rattle.state.specs.Bytes.{saved_bytes}
 use Rattle.state.proofs.Written.{wrote_then}
-use borrow.Author.Rules.{rules}
 use Rattle.state.proofs.bytes.put_saved.Goals as goal
 
 -- The values, then echo.

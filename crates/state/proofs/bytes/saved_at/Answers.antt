@@ -1,5 +1,4 @@
 use Rattle.state.specs.Bytes.{saved_at}
-use borrow.Author.Rules.{rules}
 use Rattle.state.proofs.bytes.saved_at.Goals as goal
 
 -- Field by field.

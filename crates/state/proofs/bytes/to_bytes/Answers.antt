@@ -1,7 +1,6 @@
 use Rattle.state.proofs.Written.{wrote_then, wrote_same, heading_first}
 use Rattle.state.proofs.Back.{state_back}
 use Rattle.state.proofs.Sizes.{state_sized}
-use borrow.Author.Rules.{rules}
 use Rattle.state.proofs.bytes.to_bytes.Goals as goal
 
 -- All but the frames, then the frames (wrote_then). The bytes read back since every array is as long as its type says (state-sized).

@@ -1,6 +1,5 @@
 use native.Mathlib.Omega.{arith}
 use Rattle.tokens.proofs.Reading
-use borrow.Author.Rules.{rules}
 use Rattle.tokens.proofs.Cursor.read.Goals as goal
 
 -- The part handed on is the front; past the end the front is empty.

@@ -1,4 +1,3 @@
-use borrow.Author.Rules.{rules}
 use Rattle.wrong.proofs.Laws.{record_is}
 use Rattle.wrong.proofs.productions.record_of.Goals as goal
 

@@ -1,4 +1,3 @@
-use borrow.Author.Rules.{rules}
 use Rattle.wrong.proofs.Laws.{field_is}
 use Rattle.wrong.proofs.trailer.field_of.Goals as goal
 

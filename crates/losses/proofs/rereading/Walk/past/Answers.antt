@@ -1,4 +1,4 @@
-use Rattle.std.proofs.Common.{refl, rules}
+use Rattle.std.proofs.Common.{refl}
 use Rattle.losses.proofs.WalkLaws.{walk_past}
 use Rattle.losses.proofs.rereading.Walk.past.Goals as goal
 

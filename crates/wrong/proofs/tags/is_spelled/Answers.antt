@@ -1,7 +1,0 @@
-use Prim.Native.Nat.{◌-◌}
-use native.Mathlib.Omega.{arith}
-use borrow.Author.Rules.{rules}
-use Rattle.wrong.proofs.tags.is_spelled.Goals as goal
-
-pub loop-k-smaller : goal.loop-k-smaller
-loop-k-smaller c = omega arith
