@@ -3,7 +3,8 @@
 -- count of the sets in use.
 -- Assumes nothing.
 use mathlib.Core.Path.{◌≡◌, refl, sym, ap, ap₂, ◌∙◌, subst}
-use mathlib.Core.Bool.{Bool, true, false, true≢false}
+use Rattle.std.specs.Prelude.{Option as Taken, Some, None}
+use mathlib.Core.Bool.{Bool, true, false}
 use mathlib.Core.List.{List, [], ◌∷◌, ◌++◌, append-nil}
 use mathlib.Core.Option.{Option, none, some, none-ne-some as none_some}
 use Prim.Native.Nat.{ℕ, zero, suc, ◌+◌, ◌-◌, ◌*◌, ◌/◌, ◌%◌, ◌≤◌, ◌<◌}
@@ -36,6 +37,7 @@ use Rattle.state.specs.declared.State.{State}
 use Rattle.state.proofs.Meant.{inside_open, meaning_saved, meaning_restored, shaped_env, shaped_saved}
 use Rattle.visits.specs.Written.{Pen}
 use Rattle.visits.specs.Ran.{Came}
+use Rattle.visits.proofs.Settling.{no_effect}
 use Rattle.visits.proofs.Running.{pen_at}
 use Rattle.ways.specs.Held.{code_of, codes}
 use Rattle.few.specs.Strings.{most_brackets}
@@ -73,35 +75,35 @@ saved_sets z k h deep n = ap (λ (f : Frame). f.«open») (top_put z (keeping (t
 restored_sets : (z : State) → Shaped z → 0 < z.depth → (top_of (restored z).state).«open» ≡ (top_of z).«open» - 1
 restored_sets z h deep = ap (λ (f : Frame). f.«open») (top_put z (record { production = (top_of z).production; place = (top_of z).place; «open» = (top_of z).«open» - 1; saved = (top_of z).saved }) h deep)
 
-module _ (s : List ℕ) (q i : ℕ) (kept : List ℕ) (z : State) (p : Pen) (v : ActedSeen) (d : List ℕ) (G : VisitedAs s q i false kept z p v d) where
-  abbrev opening_comes : Option Effect → Option Store
-  opening_comes t = bind (bind t (λ x. some (visited (meaning_of z).store.env x))) (λ w. some (record { kept = with_node (saved (meaning_of z).store.env w) (meaning_of z).store.kept; env = w }))
+abbrev opening_comes : State → Option Effect → Option Store
+opening_comes z t = bind (bind t (λ x. some (visited (meaning_of z).store.env x))) (λ w. some (record { kept = with_node (saved (meaning_of z).store.env w) (meaning_of z).store.kept; env = w }))
 
-  pub open_rejected : v.ok ≡ false → NodeAs s q (opening i) z p v d
-  unfolding meaning_of
-  open_rejected f =
-      record {
-        reach = omega (arith, G.reach);
-        count = omega (arith, G.count);
-        deep = ap (λ (u : State). u.depth) G.state_is;
-        dry = G.dry;
-        sets = λ h deep n ok. absurd (true≢false (sym ok ∙ f));
-        right = λ a y h o os e n. go (performed a [] (programs_of a.rules q i).first_visit z.values z.echo) (G.right a y);
-      }
-    where
-      go : (t : Option Effect) → Came t p v.ok v.at (record { values = v.state.values; echo = v.state.echo }) d → Comes (opening_comes t) (meaning_of z).control z p v d
-      go none c = f
-      go (some x) c = absurd (true≢false (sym c.0 ∙ f))
+pub open_rejected : (s : List ℕ) (q i : ℕ) (kept : List ℕ) (z : State) (p : Pen) (d : List ℕ) → VisitedAs s q i false kept z p None d → NodeAs s q (opening i) z p None d
+unfolding meaning_of
+open_rejected s q i kept z p d G =
+    record {
+      reach = tt;
+      count = tt;
+      deep = tt;
+      dry = G.dry;
+      sets = λ h deep n. tt;
+      right = λ a y h o os e n. go (performed a [] (programs_of a.rules q i).first_visit z.values z.echo) (G.right a y);
+    }
+  where
+    go : (t : Option Effect) → t ≡ none → opening_comes z t ≡ none
+    go none c = refl
+    go (some x) c = absurd (no_effect x (sym c))
 
-  pub opened : v.ok ≡ true → (st : State) → st ≡ saving v.state (record { values = v.state.values; echo = z.echo }) → NodeAs s q (opening i) z p (record { ok = true; at = v.at; state = st }) d
+module _ (s : List ℕ) (q i : ℕ) (kept : List ℕ) (z : State) (p : Pen) (v : ActedSeen) (d : List ℕ) (G : VisitedAs s q i false kept z p (Some v) d) where
+  pub opened : (st : State) → st ≡ saving v.state (record { values = v.state.values; echo = z.echo }) → NodeAs s q (opening i) z p (Some (record { at = v.at; state = st })) d
   unfolding meaning_of
-  opened on st is =
+  opened st is =
       record {
         reach = omega (arith, G.reach);
         count = omega (arith, ap (λ (u : State). u.count) is, G.count);
         deep = ap (λ (u : State). u.depth) is ∙ ap (λ (u : State). u.depth) G.state_is;
         dry = G.dry;
-        sets = λ h deep n ok. sets_are h deep n;
+        sets = sets_are;
         right = λ a y h o os e n. go h o os e n (performed a [] (programs_of a.rules q i).first_visit z.values z.echo) (G.right a y);
       }
     where
@@ -112,22 +114,21 @@ module _ (s : List ℕ) (q i : ℕ) (kept : List ℕ) (z : State) (p : Pen) (v :
           ∙ saved_sets (with_env z v.state.values v.state.echo (suc z.count)) k (shaped_env z v.state.values v.state.echo (suc z.count) h) deep n
 
       done : Shaped z → (o : Open) (os : List Open) → (meaning_of z).control ≡ inside o os → (top_of z).«open» < most_sets → (x : Effect) → v.state.values ≡ x.values → v.state.echo ≡ x.echo →
-          PutAs p.write p.lent p.at (render x.printed) d v.at → Comes (opening_comes (some x)) (meaning_of z).control z p (record { ok = true; at = v.at; state = st }) d
+          PutAs p.write p.lent p.at (render x.printed) d v.at → Comes (opening_comes z (some x)) (meaning_of z).control z p (Some (record { at = v.at; state = st })) d
       done h o os e n x vs echo_is P =
           let k : Saved = record { values = x.values; echo = z.echo } in
           let same : st ≡ saving (after z x) k = is ∙ ap₂ (λ (u : State) (w : List ℕ). saving u (record { values = w; echo = z.echo })) (state_after s q i false kept z p v d G x vs echo_is) vs in
           record {
-            ok = refl;
             means = ap meaning_of same ∙ opened_means z x o os h e n;
             shaped = subst Shaped (sym same) (shaped_saved (after z x) k (shaped_env z x.values x.echo (suc z.count) h) (inside_open z o os e));
             closed = ap (λ (u : State). u.closed) same;
             written = P;
           }
 
-      go : Shaped z → (o : Open) (os : List Open) → (meaning_of z).control ≡ inside o os → (top_of z).«open» < most_sets → (t : Option Effect) → Came t p v.ok v.at (record { values = v.state.values; echo = v.state.echo }) d →
-          Comes (opening_comes t) (meaning_of z).control z p (record { ok = true; at = v.at; state = st }) d
-      go h o os e n none c = absurd (true≢false (sym on ∙ c))
-      go h o os e n (some x) c = done h o os e n x c.1 c.2 c.3
+      go : Shaped z → (o : Open) (os : List Open) → (meaning_of z).control ≡ inside o os → (top_of z).«open» < most_sets → (t : Option Effect) → Came t p v.at (record { values = v.state.values; echo = v.state.echo }) d →
+          Comes (opening_comes z t) (meaning_of z).control z p (Some (record { at = v.at; state = st })) d
+      go h o os e n none c = absurd c
+      go h o os e n (some x) c = done h o os e n x c.0 c.1 c.2
 
 -- ---- a closing bracket
 closed_means : (z : State) (x : Effect) (o : Open) (os : List Open) → Shaped z → (meaning_of z).control ≡ inside o os → 0 < (top_of z).«open» →
@@ -140,59 +141,58 @@ unfolding meaning_of
 closed_means z x o os h e n =
     ap₂ (λ (m : Run) (w : Running). record { control = m.control; store = record { kept = m.store.kept; env = w } }) (meaning_restored z h (inside_open z o os e) n).0 (back_env z x h (inside_open z o os e) n)
 
-module _ (s : List ℕ) (q i : ℕ) (z : State) (p : Pen) (v : ActedSeen) (d : List ℕ) (G : VisitedAs s q i true (restored z).saved.values (restored z).state p v d) where
-  abbrev closing_comes : Option Effect → Option Store
-  closing_comes t =
-      bind (bind (bind t (λ x. some (visited (meaning_of z).store.env x))) (λ w. some (returned (innermost (meaning_of z).store.kept).echo w)))
-      (λ w. some (record { kept = without_node (meaning_of z).store.kept; env = w }))
+abbrev closing_comes : State → Option Effect → Option Store
+closing_comes z t =
+    bind (bind (bind t (λ x. some (visited (meaning_of z).store.env x))) (λ w. some (returned (innermost (meaning_of z).store.kept).echo w)))
+    (λ w. some (record { kept = without_node (meaning_of z).store.kept; env = w }))
 
-  pub close_rejected : v.ok ≡ false → NodeAs s q (closing i) z p v d
-  unfolding meaning_of
-  close_rejected f =
-      record {
-        reach = omega (arith, G.reach);
-        count = omega (arith, G.count);
-        deep = ap (λ (u : State). u.depth) G.state_is;
-        dry = G.dry;
-        sets = λ h deep n ok. absurd (true≢false (sym ok ∙ f));
-        right = λ a y h o os e n. go (performed a (innermost (meaning_of z).store.kept).values (programs_of a.rules q i).second_visit z.values z.echo) (recalls s q i z p v d G a y h o os e n);
-      }
-    where
-      go : (t : Option Effect) → Came t p v.ok v.at (record { values = v.state.values; echo = v.state.echo }) d → Comes (closing_comes t) (meaning_of z).control z p v d
-      go none c = f
-      go (some x) c = absurd (true≢false (sym c.0 ∙ f))
+pub close_rejected : (s : List ℕ) (q i : ℕ) (z : State) (p : Pen) (d : List ℕ) → VisitedAs s q i true (restored z).saved.values (restored z).state p None d → NodeAs s q (closing i) z p None d
+unfolding meaning_of
+close_rejected s q i z p d G =
+    record {
+      reach = tt;
+      count = tt;
+      deep = tt;
+      dry = G.dry;
+      sets = λ h deep n. tt;
+      right = λ a y h o os e n. go (performed a (innermost (meaning_of z).store.kept).values (programs_of a.rules q i).second_visit z.values z.echo) (recalls s q i z p None d G a y h o os e n);
+    }
+  where
+    go : (t : Option Effect) → t ≡ none → closing_comes z t ≡ none
+    go none c = refl
+    go (some x) c = absurd (no_effect x (sym c))
 
-  pub closed : v.ok ≡ true → (st : State) → st ≡ with_env v.state v.state.values (restored z).saved.echo v.state.count → NodeAs s q (closing i) z p (record { ok = true; at = v.at; state = st }) d
+module _ (s : List ℕ) (q i : ℕ) (z : State) (p : Pen) (v : ActedSeen) (d : List ℕ) (G : VisitedAs s q i true (restored z).saved.values (restored z).state p (Some v) d) where
+  pub closed : (st : State) → st ≡ with_env v.state v.state.values (restored z).saved.echo v.state.count → NodeAs s q (closing i) z p (Some (record { at = v.at; state = st })) d
   unfolding meaning_of
-  closed on st is =
+  closed st is =
       record {
         reach = omega (arith, G.reach);
         count = omega (arith, ap (λ (u : State). u.count) is, G.count);
         deep = ap (λ (u : State). u.depth) is ∙ ap (λ (u : State). u.depth) G.state_is;
         dry = G.dry;
-        sets = λ h deep n ok. ap (λ (u : State). (top_of u).«open») (is ∙ ap (λ (u : State). with_env u v.state.values (restored z).saved.echo v.state.count) G.state_is) ∙ restored_sets z h deep;
-        right = λ a y h o os e n. go h o os e n (performed a (innermost (meaning_of z).store.kept).values (programs_of a.rules q i).second_visit z.values z.echo) (recalls s q i z p v d G a y h o os e n);
+        sets = λ h deep n. ap (λ (u : State). (top_of u).«open») (is ∙ ap (λ (u : State). with_env u v.state.values (restored z).saved.echo v.state.count) G.state_is) ∙ restored_sets z h deep;
+        right = λ a y h o os e n. go h o os e n (performed a (innermost (meaning_of z).store.kept).values (programs_of a.rules q i).second_visit z.values z.echo) (recalls s q i z p (Some v) d G a y h o os e n);
       }
     where
       done : Shaped z → (o : Open) (os : List Open) → (meaning_of z).control ≡ inside o os → 0 < (top_of z).«open» → (x : Effect) → v.state.values ≡ x.values → v.state.echo ≡ x.echo →
-          PutAs p.write p.lent p.at (render x.printed) d v.at → Comes (closing_comes (some x)) (meaning_of z).control z p (record { ok = true; at = v.at; state = st }) d
+          PutAs p.write p.lent p.at (render x.printed) d v.at → Comes (closing_comes z (some x)) (meaning_of z).control z p (Some (record { at = v.at; state = st })) d
       done h o os e n x vs echo_is P =
           let same : st ≡ back z x = is ∙ ap (λ (u : State). with_env u u.values (restored z).saved.echo u.count) (state_after s q i true (restored z).saved.values (restored z).state p v d G x vs echo_is) in
           record {
-            ok = refl;
             means = ap meaning_of same ∙ closed_means z x o os h e n;
             shaped = subst Shaped (sym same) (back_shaped z x h (inside_open z o os e));
             closed = ap (λ (u : State). u.closed) same;
             written = P;
           }
 
-      go : Shaped z → (o : Open) (os : List Open) → (meaning_of z).control ≡ inside o os → 0 < (top_of z).«open» → (t : Option Effect) → Came t p v.ok v.at (record { values = v.state.values; echo = v.state.echo }) d →
-          Comes (closing_comes t) (meaning_of z).control z p (record { ok = true; at = v.at; state = st }) d
-      go h o os e n none c = absurd (true≢false (sym on ∙ c))
-      go h o os e n (some x) c = done h o os e n x c.1 c.2 c.3
+      go : Shaped z → (o : Open) (os : List Open) → (meaning_of z).control ≡ inside o os → 0 < (top_of z).«open» → (t : Option Effect) → Came t p v.at (record { values = v.state.values; echo = v.state.echo }) d →
+          Comes (closing_comes z t) (meaning_of z).control z p (Some (record { at = v.at; state = st })) d
+      go h o os e n none c = absurd c
+      go h o os e n (some x) c = done h o os e n x c.0 c.1 c.2
 
 -- ---- the bracket of a byte
-module _ (s : List ℕ) (q c : ℕ) (z : State) (p : Pen) (r : ActedSeen) (d : List ℕ) where
+module _ (s : List ℕ) (q c : ℕ) (z : State) (p : Pen) (r : Taken ActedSeen) (d : List ℕ) where
   pub even_bracket : c % 2 ≡ 0 → NodeAs s q (opening (c / 2)) z p r d → BracketAs s q c z p r d
   even_bracket even N = record { reach = N.reach; count = N.count; deep = N.deep; dry = N.dry; right = go }
     where
@@ -213,32 +213,32 @@ silent_behind m n k e =
     ap (λ (o : List Piece). record { kept = m.kept; env = record { values = m.env.values; echo = m.env.echo; out = o; count = m.env.count } }) (sym (append-nil m.env.out))
     ∙ ap (λ (u : Run). store_behind m.env.out u.store) (sym e)
 
-module _ (a : Sheet) (bs : List Act) (k : Control) (z : State) (p : Pen) (v : ActedSeen) (d : List ℕ) where
-  -- the first was rejected
-  pub comes_stop : (t : Option Store) → v.ok ≡ false → Comes t k z p v d → Comes (bind t (λ m. acts a bs m)) k z p v d
-  comes_stop none f c = f
-  comes_stop (some m) f c = absurd (true≢false (sym c.ok ∙ f))
+-- the first was rejected
+pub comes_stop : (a : Sheet) (bs : List Act) (t : Option Store) → t ≡ none → bind t (λ m. acts a bs m) ≡ none
+comes_stop a bs none c = refl
+comes_stop a bs (some m) c = absurd (none_some m (sym c))
 
-  -- the others go on from the state and the output that the first left
-  module _ (r : ActedSeen) (d₂ : List ℕ) where
-    behind_comes : (m : Store) → Done k m z p v d → (t : Option Store) → Comes t k v.state (pen_at p d v.at) r d₂ → Comes (bind t (λ m'. some (store_behind m.env.out m'))) k z p r d₂
-    behind_comes m D none c = c
-    behind_comes m D (some n) c =
-        record {
-          ok = c.ok;
-          means = c.means;
-          shaped = c.shaped;
-          closed = c.closed ∙ D.closed;
-          written = same_bytes p.write p.lent p.at (render m.env.out ++ render n.env.out) (render (m.env.out ++ n.env.out)) d₂ r.at (sym (render_append m.env.out n.env.out))
-              (put_then p.write p.lent p.at (render m.env.out) (render n.env.out) d d₂ v.at r.at D.written c.written);
-        }
+-- the others go on from the state and the output that the first left
+module _ (a : Sheet) (bs : List Act) (k : Control) (z : State) (p : Pen) (v : ActedSeen) (d d₂ : List ℕ) where
+  behind_comes : (m : Store) → Done k m z p v d → (t : Option Store) (r : Taken ActedSeen) → Comes t k v.state (pen_at p d v.at) r d₂ → Comes (bind t (λ m'. some (store_behind m.env.out m'))) k z p r d₂
+  behind_comes m D none None c = refl
+  behind_comes m D none (Some r) c = c
+  behind_comes m D (some n) None c = absurd (none_some n (sym c))
+  behind_comes m D (some n) (Some r) c =
+      record {
+        means = c.means;
+        shaped = c.shaped;
+        closed = c.closed ∙ D.closed;
+        written = same_bytes p.write p.lent p.at (render m.env.out ++ render n.env.out) (render (m.env.out ++ n.env.out)) d₂ r.at (sym (render_append m.env.out n.env.out))
+            (put_then p.write p.lent p.at (render m.env.out) (render n.env.out) d d₂ v.at r.at D.written c.written);
+      }
 
-    pub comes_on : (t : Option Store) → v.ok ≡ true → Comes t k z p v d → Comes (acts a bs (meaning_of v.state).store) k v.state (pen_at p d v.at) r d₂ → Comes (bind t (λ m. acts a bs m)) k z p r d₂
-    comes_on none on c rest = absurd (true≢false (sym on ∙ c))
-    comes_on (some m) on c rest =
-        let n = meaning_of v.state in
-        let e : acts a bs m ≡ bind (acts a bs n.store) (λ m'. some (store_behind m.env.out m')) = ap (acts a bs) (silent_behind m n k c.means) ∙ acts_frame a m.env.out bs n.store in
-        subst (λ (t : Option Store). Comes t k z p r d₂) (sym e) (behind_comes m c (acts a bs n.store) rest)
+  pub comes_on : (r : Taken ActedSeen) (t : Option Store) → Comes t k z p (Some v) d → Comes (acts a bs (meaning_of v.state).store) k v.state (pen_at p d v.at) r d₂ → Comes (bind t (λ m. acts a bs m)) k z p r d₂
+  comes_on r none c rest = absurd c
+  comes_on r (some m) c rest =
+      let n = meaning_of v.state in
+      let e : acts a bs m ≡ bind (acts a bs n.store) (λ m'. some (store_behind m.env.out m')) = ap (acts a bs) (silent_behind m n k c.means) ∙ acts_frame a m.env.out bs n.store in
+      subst (λ (t : Option Store). Comes t k z p r d₂) (sym e) (behind_comes m c (acts a bs n.store) r rest)
 
 -- ---- the sets in use along a string
 pub record Passed (b : Bracket) (β : List Bracket) (n : ℕ) (ns' : List ℕ) : Type 0 where
@@ -276,14 +276,14 @@ pub record LeftOf (a : Sheet) (q : ℕ) (α β : List Bracket) (ns' : List ℕ) 
   pub nodes : List ℕ
   pub through : through_nodes 12 β nodes ≡ some ns'
   pub sets : (top_of z).«open» ≡ suc (length nodes)
-  pub whole : (r : ActedSeen) (d₂ : List ℕ) → Comes (acts a (bracket_acts q β) (meaning_of z).store) (meaning_of z₀).control z (pen_at p d at) r d₂ → Comes (acts a (bracket_acts q α) (meaning_of z₀).store) (meaning_of z₀).control z₀ p r d₂
+  pub whole : (r : Taken ActedSeen) (d₂ : List ℕ) → Comes (acts a (bracket_acts q β) (meaning_of z).store) (meaning_of z₀).control z (pen_at p d at) r d₂ → Comes (acts a (bracket_acts q α) (meaning_of z₀).store) (meaning_of z₀).control z₀ p r d₂
 
 pub left_all : (a : Sheet) (q : ℕ) (α : List Bracket) (ns ns' : List ℕ) (z : State) (p : Pen) → Shaped z → through_nodes 12 α ns ≡ some ns' → (top_of z).«open» ≡ suc (length ns) → LeftOf a q α α ns' z z p p.at p.lent
 left_all a q α ns ns' z p h t n = record { shaped = h; control = refl; nodes = ns; through = t; sets = n; whole = λ r d₂ c. c }
 
 module _ (s : List ℕ) (a : Sheet) (y : IsSheet s a) (q : ℕ) (α : List Bracket) (ns' : List ℕ) (z₀ z : State) (p : Pen) (at : ℕ) (d : List ℕ) (o : Open) (os : List Open) (e : (meaning_of z₀).control ≡ inside o os) where
-  pub left_none : LeftOf a q α [] ns' z₀ z p at d → Comes (acts a (bracket_acts q α) (meaning_of z₀).store) (meaning_of z₀).control z₀ p (record { ok = true; at = at; state = z }) d
-  left_none L = L.whole (record { ok = true; at = at; state = z }) d (record { ok = refl; means = its_means (meaning_of z₀).control L.control; shaped = L.shaped; closed = refl; written = its_out })
+  pub left_none : LeftOf a q α [] ns' z₀ z p at d → Comes (acts a (bracket_acts q α) (meaning_of z₀).store) (meaning_of z₀).control z₀ p (Some (record { at = at; state = z })) d
+  left_none L = L.whole (Some (record { at = at; state = z })) d (record { means = its_means (meaning_of z₀).control L.control; shaped = L.shaped; closed = refl; written = its_out })
     where
       its_means : (k : Control) → (meaning_of z).control ≡ k → meaning_of z ≡ silent (record { control = k; store = (meaning_of z).store })
       its_means k f = silent_is z ∙ ap (λ (u : Control). silent (record { control = u; store = (meaning_of z).store })) f
@@ -291,29 +291,29 @@ module _ (s : List ℕ) (a : Sheet) (y : IsSheet s a) (q : ℕ) (α : List Brack
       its_out : PutAs p.write d at (render (meaning_of z).store.env.out) d at
       its_out = out_none z p.write d at
 
-  module _ (b : Bracket) (β : List Bracket) (L : LeftOf a q α (b ∷ β) ns' z₀ z p at d) (v : ActedSeen) (d₁ : List ℕ) (N : NodeAs s q b z (pen_at p d at) v d₁) where
+  module _ (b : Bracket) (β : List Bracket) (L : LeftOf a q α (b ∷ β) ns' z₀ z p at d) where
     passed : Passed b β (top_of z).«open» ns'
     passed = pass b β L.nodes ns' (top_of z).«open» L.through L.sets
 
-    its_act : Comes (act a (bracket_act q b) (meaning_of z).store) (meaning_of z₀).control z (pen_at p d at) v d₁
-    its_act = subst (λ (k : Control). Comes (act a (bracket_act q b) (meaning_of z).store) k z (pen_at p d at) v d₁) L.control (N.right a y L.shaped o os (L.control ∙ e) passed.room)
+    its_act : (v : Taken ActedSeen) (d₁ : List ℕ) → NodeAs s q b z (pen_at p d at) v d₁ → Comes (act a (bracket_act q b) (meaning_of z).store) (meaning_of z₀).control z (pen_at p d at) v d₁
+    its_act v d₁ N = subst (λ (k : Control). Comes (act a (bracket_act q b) (meaning_of z).store) k z (pen_at p d at) v d₁) L.control (N.right a y L.shaped o os (L.control ∙ e) passed.room)
 
-    pub left_stops : v.ok ≡ false → Comes (acts a (bracket_acts q α) (meaning_of z₀).store) (meaning_of z₀).control z₀ p v d₁
-    left_stops f = L.whole v d₁ (comes_stop a (bracket_acts q β) (meaning_of z₀).control z (pen_at p d at) v d₁ (act a (bracket_act q b) (meaning_of z).store) f its_act)
+    pub left_stops : (d₁ : List ℕ) → NodeAs s q b z (pen_at p d at) None d₁ → acts a (bracket_acts q α) (meaning_of z₀).store ≡ none
+    left_stops d₁ N = L.whole None d₁ (comes_stop a (bracket_acts q β) (act a (bracket_act q b) (meaning_of z).store) (its_act None d₁ N))
 
-    pub left_on : v.ok ≡ true → LeftOf a q α β ns' z₀ v.state p v.at d₁
-    left_on on = go (act a (bracket_act q b) (meaning_of z).store) its_act
+    pub left_on : (v : ActedSeen) (d₁ : List ℕ) → NodeAs s q b z (pen_at p d at) (Some v) d₁ → LeftOf a q α β ns' z₀ v.state p v.at d₁
+    left_on v d₁ N = go (act a (bracket_act q b) (meaning_of z).store) (its_act (Some v) d₁ N)
       where
-        go : (t : Option Store) → Comes t (meaning_of z₀).control z (pen_at p d at) v d₁ → LeftOf a q α β ns' z₀ v.state p v.at d₁
-        go none c = absurd (true≢false (sym on ∙ c))
+        go : (t : Option Store) → Comes t (meaning_of z₀).control z (pen_at p d at) (Some v) d₁ → LeftOf a q α β ns' z₀ v.state p v.at d₁
+        go none c = absurd c
         go (some m) c =
             record {
               shaped = c.shaped;
               control = ap (λ (u : Run). u.control) c.means;
               nodes = passed.nodes;
               through = passed.through;
-              sets = N.sets L.shaped (inside_open z o os (L.control ∙ e)) passed.room on ∙ passed.sets;
-              whole = λ r d₂ rest. L.whole r d₂ (comes_on a (bracket_acts q β) (meaning_of z₀).control z (pen_at p d at) v d₁ r d₂ (act a (bracket_act q b) (meaning_of z).store) on its_act rest);
+              sets = N.sets L.shaped (inside_open z o os (L.control ∙ e)) passed.room ∙ passed.sets;
+              whole = λ r d₂ rest. L.whole r d₂ (comes_on a (bracket_acts q β) (meaning_of z₀).control z (pen_at p d at) v d₁ d₂ r (act a (bracket_act q b) (meaning_of z).store) (its_act (Some v) d₁ N) rest);
             }
 
 -- ---- the bytes of a string
@@ -352,7 +352,7 @@ module _ (s : List ℕ) (q : ℕ) (line : List ℕ) (z₀ : State) (p : Pen) whe
 
   module _ (i : ℕ) (z : State) (at : ℕ) (d : List ℕ) (L : LeftIn s q line i z₀ p z at d) where
     -- the string has ended
-    pub none_left : length line ≤ most_brackets → length line ≤ i → BracketsAs s q line z₀ p (record { ok = true; at = at; state = z }) d
+    pub none_left : length line ≤ most_brackets → length line ≤ i → BracketsAs s q line z₀ p (Some (record { at = at; state = z })) d
     none_left few past =
         record {
           reach = omega (arith, L.few, L.reach);
@@ -364,30 +364,27 @@ module _ (s : List ℕ) (q : ℕ) (line : List ℕ) (z₀ : State) (p : Pen) whe
         }
 
     -- one more bracket
-    module _ (here : i < length line) (v : ActedSeen) (d₁ : List ℕ) (B : BracketAs s q (get_or line i 0) z (pen_at p d at) v d₁) where
+    module _ (here : i < length line) where
       abbrev it : (α : List Bracket) → line ≡ codes α → BracketAt α (line) i
       it α l = line_bracket α line l i here
-
-      its_node : (α : List Bracket) (l : line ≡ codes α) → NodeAs s q (it α l).it z (pen_at p d at) v d₁
-      its_node α l = B.right (it α l).it (it α l).byte
 
       at_it : (a : Sheet) → IsSheet s a → (α : List Bracket) (l : line ≡ codes α) → Shaped z₀ → (o : Open) (os : List Open) → (meaning_of z₀).control ≡ inside o os →
           (ns ns' : List ℕ) → through_nodes 12 α ns ≡ some ns' → (top_of z₀).«open» ≡ suc (length ns) → LeftOf a q α ((it α l).it ∷ drop (suc i) α) ns' z₀ z p at d
       at_it a y α l h o os e ns ns' t n = subst (λ (β : List Bracket). LeftOf a q α β ns' z₀ z p at d) (it α l).rest (L.left_of a y α l h o os e ns ns' t n)
 
-      pub stops_here : length line ≤ most_brackets → v.ok ≡ false → BracketsAs s q line z₀ p v d₁
-      stops_here few f =
+      pub stops_here : (d₁ : List ℕ) → BracketAs s q (get_or line i 0) z (pen_at p d at) None d₁ → BracketsAs s q line z₀ p None d₁
+      stops_here d₁ B =
           record {
-            reach = omega (arith, here, L.reach, B.reach);
-            count = omega (arith, here, L.count, B.count);
-            deep = B.deep ∙ L.deep;
+            reach = tt;
+            count = tt;
+            deep = tt;
             dry = λ u. B.dry u ∙ L.dry u;
             right = λ a y α l h o os e ns ns' t n.
-                left_stops s a y q α ns' z₀ z p at d o os e (it α l).it (drop (suc i) α) (at_it a y α l h o os e ns ns' t n) v d₁ (its_node α l) f;
+                left_stops s a y q α ns' z₀ z p at d o os e (it α l).it (drop (suc i) α) (at_it a y α l h o os e ns ns' t n) d₁ (B.right (it α l).it (it α l).byte);
           }
 
-      pub one_less : v.ok ≡ true → LeftIn s q line (i + 1) z₀ p v.state v.at d₁
-      one_less on =
+      pub one_less : (v : ActedSeen) (d₁ : List ℕ) → BracketAs s q (get_or line i 0) z (pen_at p d at) (Some v) d₁ → LeftIn s q line (i + 1) z₀ p v.state v.at d₁
+      one_less v d₁ B =
           record {
             few = omega arith;
             reach = omega (arith, L.reach, B.reach);
@@ -396,32 +393,17 @@ module _ (s : List ℕ) (q : ℕ) (line : List ℕ) (z₀ : State) (p : Pen) whe
             dry = λ u. B.dry u ∙ L.dry u;
             left_of = λ a y α l h o os e ns ns' t n.
                 subst (λ (k : ℕ). LeftOf a q α (drop k α) ns' z₀ v.state p v.at d₁) (sym (add-one i))
-                (left_on s a y q α ns' z₀ z p at d o os e (it α l).it (drop (suc i) α) (at_it a y α l h o os e ns ns' t n) v d₁ (its_node α l) on);
+                (left_on s a y q α ns' z₀ z p at d o os e (it α l).it (drop (suc i) α) (at_it a y α l h o os e ns ns' t n) v d₁ (B.right (it α l).it (it α l).byte));
           }
 
--- a rejection says nothing of the state
-pub void : (t : Option Store) (k : Control) (z : State) (p : Pen) (v : ActedSeen) (d : List ℕ) → v.ok ≡ false → Comes t k z p v d → Comes t k z p (record { ok = false; at = v.at; state = z }) d
-void none k z p v d f c = refl
-void (some m) k z p v d f c = absurd (true≢false (sym c.ok ∙ f))
-
-pub gives_up : (s : List ℕ) (q : ℕ) (line : List ℕ) (z : State) (p : Pen) (v : ActedSeen) (d : List ℕ) → v.ok ≡ false → BracketsAs s q line z p v d → BracketsAs s q line z p (record { ok = false; at = v.at; state = z }) d
-gives_up s q line z p v d f B =
-    record {
-      reach = B.reach;
-      count = omega arith;
-      deep = refl;
-      dry = B.dry;
-      right = λ a y α l h o os e ns ns' t n. void (acts a (bracket_acts q α) (meaning_of z).store) (meaning_of z).control z p v d f (B.right a y α l h o os e ns ns' t n);
-    }
-
 -- a bracket of a string always has room for its set, or a set to take off
-pub no_room : (s : List ℕ) (q : ℕ) (line : List ℕ) (z₀ : State) (p : Pen) (i : ℕ) (z : State) (at : ℕ) (d : List ℕ) → LeftIn s q line i z₀ p z at d → i < length line → length line ≤ most_brackets →
-    ((b : Bracket) → get_or line i 0 ≡ code_of b → Shaped z → 0 < z.depth → SetRoom b (top_of z).«open» → ⊥) → BracketsAs s q line z₀ p (record { ok = false; at = at; state = z₀ }) d
-no_room s q line z₀ p i z at d L here few never =
+pub no_room : (s : List ℕ) (q : ℕ) (line : List ℕ) (z₀ : State) (p : Pen) (i : ℕ) (z : State) (at : ℕ) (d : List ℕ) → LeftIn s q line i z₀ p z at d → i < length line →
+    ((b : Bracket) → get_or line i 0 ≡ code_of b → Shaped z → 0 < z.depth → SetRoom b (top_of z).«open» → ⊥) → BracketsAs s q line z₀ p None d
+no_room s q line z₀ p i z at d L here never =
     record {
-      reach = omega (arith, L.few, L.reach);
-      count = omega arith;
-      deep = refl;
+      reach = tt;
+      count = tt;
+      deep = tt;
       dry = L.dry;
       right = λ a y α l h o os e ns ns' t n. absurd (go a y α l h o os e ns ns' t n (line_bracket α line l i here) (L.left_of a y α l h o os e ns ns' t n));
     }

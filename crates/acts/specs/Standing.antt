@@ -1,11 +1,10 @@
 -- Where a run stands between the brackets of a string: attributes, echo and the sets of the innermost element, apart from the state that they began with.
 -- Assumes nothing.
-use Rattle.std.specs.Prelude.{◌≡◌, false, List, ℕ, ◌+◌, ◌%◌, ◌≤◌, ◌<◌}
+use Rattle.std.specs.Prelude.{◌≡◌, List, ℕ, ◌+◌, ◌%◌, ◌≤◌, ◌<◌}
 use Rattle.state.specs.Bounds.{most_sets}
 use Rattle.state.specs.declared.Saved.{Saved}
 use Rattle.live.specs.declared.Live.{Live}
 use Rattle.visits.specs.declared.Env.{Env}
-use Rattle.acts.specs.declared.Acted.{Acted}
 
 -- where the set of the bracket whose byte is c stands, n sets being in use: an opening one keeps it behind them, a closing one takes the last of them off;
 -- past all sets where no element is open, or there is none to take
@@ -29,7 +28,3 @@ standing_at z i e n sets =
       depth = z.depth;
       top = record { production = z.top.production; place = z.top.place; «open» = n; saved = sets };
     }
-
--- a rejection leaves the state as it was
-abbrev pub rejected_at : Live → ℕ → Acted
-rejected_at z at = record { ok = false; at = at; live = z }

@@ -10,10 +10,10 @@ ghost use Rattle.runs.specs.Machine.{most};
 ghost use Rattle.state.specs.Bounds.{stack_width};
 ghost use Rattle.live.specs.Live.{full, SameBelow};
 ghost use Rattle.few.specs.Strings.{most_brackets};
-ghost use Rattle.acts.specs.Seen.{seen};
+ghost use Rattle.acts.specs.Seen.{seen, seen_if};
 ghost use Rattle.acts.specs.Acted.{EntersAs, LeavesAs, ReadsAs, BracketsAs};
 ghost use Rattle.acts.specs.Visited.{FieldFound, PerformsAs, VisitedAs, EchoedAs};
-ghost use Rattle.acts.specs.Standing.{SlotIs, standing_at, rejected_at};
+ghost use Rattle.acts.specs.Standing.{SlotIs, standing_at};
 
 use layout::Layout;
 use live::Live;
@@ -23,10 +23,9 @@ use visits::{Env, Performed};
 // A field that names no program.
 const NONE: usize = 65535;
 
-// What acts came to: whether no program rejected, where the next byte of output goes, and the state.
+// What acts came to, where no program rejected: where the next byte of output goes, and the state.
 #[derive(Clone, Copy)]
 pub struct Acted {
-    pub ok: bool,
     pub at: usize,
     pub live: Live,
 }
@@ -66,7 +65,7 @@ fn perform(
     out: &mut [u8],
     at: usize,
     write: bool,
-) -> Performed
+) -> Option<Performed>
     requires laid_out { LaidOut s.now l }
     requires q_lt_productions { q < l.productions }
     requires at_bound { at ≤ 2 ^ 60 }
@@ -89,13 +88,13 @@ fn visit(
     out: &mut [u8],
     at: usize,
     write: bool,
-) -> Acted
+) -> Option<Acted>
     requires laid_out { LaidOut s.now l }
     requires q_lt_productions { q < l.productions }
     requires at_bound { at ≤ 2 ^ 60 }
     requires count_bound { z.count + 1 < 2 ^ 64 }
     requires well_formed { WellFormed s.now }
-    ensures { (b : List ℕ) → VisitedAs s.now q i again kept (full z b) (record { write = write; lent = out.old; at = at }) (seen result b) out.new }
+    ensures { (b : List ℕ) → VisitedAs s.now q i again kept (full z b) (record { write = write; lent = out.old; at = at }) (seen_if result b) out.new }
 {
     let values = z.values;
     let before = Env {
@@ -103,14 +102,13 @@ fn visit(
         echo: z.echo,
     };
     let field = field_of(s, l, q, i, again);
-    let done = visits::perform(s, l, field, kept, before, out, at, write);
+    let done = visits::perform(s, l, field, kept, before, out, at, write)?;
     let after = done.env;
     let changed = after.values;
-    Acted {
-        ok: done.ok,
+    Some(Acted {
         at: done.at,
         live: z.with_env(changed, after.echo, z.count + 1),
-    }
+    })
 }
 
 // Writes production q's start tag or end tag, where echo is on.
@@ -147,7 +145,7 @@ pub fn enter(
     out: &mut [u8],
     at: usize,
     write: bool,
-) -> Acted
+) -> Option<Acted>
     requires laid_out { LaidOut s.now l }
     requires q_lt_productions { q < l.productions }
     requires at_bound { at ≤ 2 ^ 59 }
@@ -155,15 +153,12 @@ pub fn enter(
     requires well_formed { WellFormed s.now }
     requires depth_lt_most { z.depth < most }
     requires stack_width_in_bounds { stack_width ≤ length stack.old }
-    ensures enters_as { EntersAs s.now q (full z stack.old) (record { write = write; lent = out.old; at = at }) (seen result stack.new) out.new }
+    ensures enters_as { EntersAs s.now q (full z stack.old) (record { write = write; lent = out.old; at = at }) (seen_if result stack.new) out.new }
     ensures same_below { SameBelow z stack.old stack.new }
     ensures stack_len_unchanged { length stack.new ≡ length stack.old }
 {
     let nothing = [0u8; State::ATTRIBUTES];
-    let visited = visit(s, l, q, 0, false, nothing, z, out, at, write);
-    if !visited.ok {
-        return visited;
-    }
+    let visited = visit(s, l, q, 0, false, nothing, z, out, at, write)?;
     let after = visited.live;
     let to = echo_tag(s, l, q, false, after.echo, out, visited.at, write);
     let values = after.values;
@@ -172,11 +167,10 @@ pub fn enter(
         echo: z.echo,
     };
     let inside = after.push(Frame::start(q as u8, kept), stack, 0);
-    Acted {
-        ok: true,
+    Some(Acted {
         at: to,
         live: inside,
-    }
+    })
 }
 
 // An end tag of production q: its second visit with the values just after its first, the tag if echo is then on; last of all echo
@@ -190,31 +184,27 @@ pub fn leave(
     out: &mut [u8],
     at: usize,
     write: bool,
-) -> Acted
+) -> Option<Acted>
     requires laid_out { LaidOut s.now l }
     requires q_lt_productions { q < l.productions }
     requires at_bound { at ≤ 2 ^ 59 }
     requires count_bound { z.count ≤ 2 ^ 63 }
     requires well_formed { WellFormed s.now }
     requires depth_le_most { z.depth ≤ most }
-    ensures { LeavesAs s.now q (full z stack.now) (record { write = write; lent = out.old; at = at }) (seen result stack.now) out.new }
+    ensures { LeavesAs s.now q (full z stack.now) (record { write = write; lent = out.old; at = at }) (seen_if result stack.now) out.new }
 {
     let taken = z.restore();
     let kept = taken.saved;
     let values = kept.values;
-    let visited = visit(s, l, q, 0, true, values, taken.live, out, at, write);
-    if !visited.ok {
-        return visited;
-    }
+    let visited = visit(s, l, q, 0, true, values, taken.live, out, at, write)?;
     let after = visited.live;
     let to = echo_tag(s, l, q, true, after.echo, out, visited.at, write);
     let changed = after.values;
     let left = after.with_env(changed, kept.echo, after.count);
-    Acted {
-        ok: true,
+    Some(Acted {
         at: to,
         live: left.pop(stack, 0),
-    }
+    })
 }
 
 // A character, written if echo is on.
@@ -225,17 +215,9 @@ pub fn read_character(c: u32, z: Live, out: &mut [u8], at: usize, write: bool) -
 {
     if z.echo {
         let to = output::put_char(out, at, c, write);
-        return Acted {
-            ok: true,
-            at: to,
-            live: z,
-        };
+        return Acted { at: to, live: z };
     }
-    Acted {
-        ok: true,
-        at: at,
-        live: z,
-    }
+    Acted { at: at, live: z }
 }
 
 // Where the set of a bracket stands, n sets being in use: the one that an opening one keeps, or that a closing one takes off. Past all sets where no element is
@@ -280,17 +262,6 @@ fn standing(z: Live, i: usize, env: Env, n: u8, sets: [Saved; Frame::SETS]) -> L
     }
 }
 
-// A rejection leaves the state as it was.
-fn rejected(z: Live, at: usize) -> Acted
-    ensures { result ≡ rejected_at z at }
-{
-    Acted {
-        ok: false,
-        at: at,
-        live: z,
-    }
-}
-
 // The brackets of a string, in turn, until a program rejects. A byte's half is its node. An even one opens it: its first visit, of which the attributes just
 // after it and echo before it are kept. An odd one closes it: its second visit, with the values just after its first, and last of all echo returns.
 pub fn brackets(
@@ -302,14 +273,14 @@ pub fn brackets(
     out: &mut [u8],
     at: usize,
     write: bool,
-) -> Acted
+) -> Option<Acted>
     requires laid_out { LaidOut s.now l }
     requires q_lt_productions { q < l.productions }
     requires line_len_bound { length line.now ≤ most_brackets }
     requires at_bound { at ≤ 2 ^ 59 }
     requires count_bound { z.count ≤ 2 ^ 63 }
     requires well_formed { WellFormed s.now }
-    ensures { (b : List ℕ) → BracketsAs s.now q line.now (full z b) (record { write = write; lent = out.old; at = at }) (seen result b) out.new }
+    ensures { (b : List ℕ) → BracketsAs s.now q line.now (full z b) (record { write = write; lent = out.old; at = at }) (seen_if result b) out.new }
 {
     let top = z.top;
     let mut to = at;
@@ -323,7 +294,7 @@ pub fn brackets(
     for &c in line {
         let j = slot(c, n, z.depth);
         if Frame::SETS <= j {
-            return rejected(z, to);
+            return None;
         }
         let old = sets[j];
         let kept = old.values;
@@ -338,10 +309,7 @@ pub fn brackets(
             out,
             to,
             write,
-        );
-        if !done.ok {
-            return rejected(z, done.at);
-        }
+        )?;
         to = done.at;
         let after = done.env;
         let given = after.values;
@@ -360,9 +328,8 @@ pub fn brackets(
             };
         }
     }
-    Acted {
-        ok: true,
+    Some(Acted {
         at: to,
         live: standing(z, line.len(), env, n, sets),
-    }
+    })
 }

@@ -1,5 +1,5 @@
 -- What a writer keeps beside its reader, and that it is kept one token further. Assumes nothing.
-use Rattle.std.specs.Prelude.{◌≡◌, true, false, List, ◌++◌, ℕ, length}
+use Rattle.std.specs.Prelude.{Option as Taken, IfSome, IfNone, MatchOption, ◌≡◌, List, ◌++◌, ℕ, length}
 use Rattle.notation.specs.Rules.{Rules}
 use Rattle.notation.specs.Tokens.{TextToken, token_bytes}
 use Rattle.reading.specs.Rules.{Progress}
@@ -21,9 +21,9 @@ use Rattle.shelves.specs.Shelves.{Rowed, ShelvedAs}
 use Rattle.slips.specs.Slips.{Slipped, SlipFits}
 use Rattle.advance.specs.declared.Desk.{Desk}
 
-pub record FiledRow (token : List ℕ) (kind number : ℕ) (ink : Ink) (old : Shelved) (tb te sb se pb pe tb' te' sb' se' pb' pe' : List ℕ) (a : Shelved) : Type 0 where
-  pub rowed : Rowed a tb' te' sb' se' pb' pe'
-  pub is : (r : Rules) (s s' : Progress) (t : TextToken) (rest : List ℕ) → token ≡ token_bytes t ++ rest → TokenFits t → kind ≡ token_kind t → number ≡ token_number t → Tidy s → Goes s t s' → LeadsToRules s' r → InkHolds r s ink → old.full ≡ false
+pub record FiledRow (token : List ℕ) (kind number : ℕ) (ink : Ink) (old : Shelved) (tb te sb se pb pe tb' te' sb' se' pb' pe' : List ℕ) (a : Taken Shelved) : Type 0 where
+  pub rowed : MatchOption a (Rowed old tb' te' sb' se' pb' pe') (λ f. Rowed f tb' te' sb' se' pb' pe')
+  pub is : (r : Rules) (s s' : Progress) (t : TextToken) (rest : List ℕ) → token ≡ token_bytes t ++ rest → TokenFits t → kind ≡ token_kind t → number ≡ token_number t → Tidy s → Goes s t s' → LeadsToRules s' r → InkHolds r s ink
       → StoresHold r s tb te old.tags sb se old.strings pb pe old.programs → ShelvedAs r s s' t a tb' te' sb' se' pb' pe'
 
 -- whatever is read, the numbers are within bounds
@@ -35,7 +35,6 @@ pub record Firmly (d : Desk) (tb te sb se pb pe productions nodes : List ℕ) : 
 
 -- at a state of the machine, for rules that it can lead to
 pub record DeskHolds (r : Rules) (s : Progress) (d : Desk) (tb te sb se pb pe productions nodes : List ℕ) : Type 0 where
-  pub going : d.shelved.full ≡ false
   pub stores : StoresHold r s tb te d.shelved.tags sb se d.shelved.strings pb pe d.shelved.programs
   pub slipped : Slipped r s d.slip
   pub slip_fits : SlipFits d.slip
@@ -44,11 +43,11 @@ pub record DeskHolds (r : Rules) (s : Progress) (d : Desk) (tb te sb se pb pe pr
   pub past_held : PastIn r s d.past productions nodes
 
 -- behind a token: kept, or there is no space for what is mentioned now
-pub record BehindToken (r : Rules) (s' : Progress) (d : Desk) (tb te sb se pb pe productions nodes : List ℕ) : Type 0 where
-  pub kept : d.shelved.full ≡ false → DeskHolds r s' d tb te sb se pb pe productions nodes
-  pub no_space : d.shelved.full ≡ true → SpaceFor r (so_far s') → ⊥
+pub record BehindToken (r : Rules) (s' : Progress) (a : Taken Desk) (tb te sb se pb pe productions nodes : List ℕ) : Type 0 where
+  pub kept : IfSome a (λ d. DeskHolds r s' d tb te sb se pb pe productions nodes)
+  pub no_space : IfNone a (SpaceFor r (so_far s') → ⊥)
 
-pub record Advanced (d : Desk) (before behind : Reader) (token : List ℕ) (kind number : ℕ) (tb te sb se pb pe productions nodes tb' te' sb' se' pb' pe' productions' nodes' : List ℕ) (a : Desk) : Type 0 where
-  pub firmly : Firmly a tb' te' sb' se' pb' pe' productions' nodes'
+pub record Advanced (d : Desk) (before behind : Reader) (token : List ℕ) (kind number : ℕ) (tb te sb se pb pe productions nodes tb' te' sb' se' pb' pe' productions' nodes' : List ℕ) (a : Taken Desk) : Type 0 where
+  pub firmly : MatchOption a (Firmly d tb' te' sb' se' pb' pe' productions' nodes') (λ f. Firmly f tb' te' sb' se' pb' pe' productions' nodes')
   pub is : (r : Rules) (s s' : Progress) (t : TextToken) (rest : List ℕ) → Holds s before → Holds s' behind → Goes s t s' → TokenFits t → kind ≡ token_kind t → number ≡ token_number t → token ≡ token_bytes t ++ rest → Tidy s → LeadsToRules s' r
       → DeskHolds r s d tb te sb se pb pe productions nodes → BehindToken r s' a tb' te' sb' se' pb' pe' productions' nodes'

@@ -15,7 +15,7 @@ pub struct Desk {
     pub bed: beds::Bed,
 }
 
-// The token's row is filed.
+// The token's row is filed, where there is room for it.
 fn file_row(
     token: &[u8],
     kind: usize,
@@ -28,7 +28,7 @@ fn file_row(
     stringends: &mut [usize],
     programs: &mut [u8],
     programends: &mut [usize],
-) -> shelves::Shelved
+) -> Option<shelves::Shelved>
     requires { Trim ink × Rowed old tags.old tagends.old strings.old stringends.old programs.old programends.old }
     ensures { FiledRow token.now kind number ink old tags.old tagends.old strings.old stringends.old programs.old programends.old tags.new tagends.new strings.new stringends.new programs.new programends.new result }
 {
@@ -47,7 +47,7 @@ fn file_row(
     )
 }
 
-// `before` and `behind` are the readers around the token.
+// `before` and `behind` are the readers around the token. Where a store has no room for its row, there is no desk behind it.
 pub fn advance(
     d: Desk,
     before: rulings::Reader,
@@ -63,7 +63,7 @@ pub fn advance(
     programends: &mut [usize],
     productions: &mut [u8],
     nodes: &mut [u8],
-) -> Desk
+) -> Option<Desk>
     requires { Firmly d tags.old tagends.old strings.old stringends.old programs.old programends.old productions.old nodes.old }
     ensures { Advanced d before behind token.now kind number tags.old tagends.old strings.old stringends.old programs.old programends.old productions.old nodes.old tags.new tagends.new strings.new stringends.new programs.new programends.new productions.new nodes.new result }
 {
@@ -91,17 +91,17 @@ pub fn advance(
         stringends,
         programs,
         programends,
-    );
+    )?;
     let place = new.place;
     let past2 = turns_past::turn_past(past, slip, bed, here, there, kind, productions, nodes);
     let slip2 = slips::turn(slip, here, kind, number, place);
     let ink2 = turns_ink::turn_ink(ink, kind, number, place, w.reads, w.second);
     let bed2 = turns_bed::turn_bed(bed, here, kind, number, place, w.reads, w.second);
-    Desk {
+    Some(Desk {
         slip: slip2,
         past: past2,
         shelved: new,
         ink: ink2,
         bed: bed2,
-    }
+    })
 }

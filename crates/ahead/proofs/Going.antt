@@ -1,5 +1,6 @@
 -- The laws of the parts: sets and frames compared, what the tried character tells, and the stretches as the call's answers.
 -- Assumes nothing.
+use Rattle.std.specs.Prelude.{Some, None}
 use mathlib.Core.Path.{◌≡◌, refl, sym, ap, ap₂, ◌∙◌, subst}
 use mathlib.Core.Bool.{Bool, true, false, beq}
 use mathlib.Core.Logic.{inl, inr}
@@ -41,7 +42,6 @@ use Rattle.steady.proofs.Around.{around_stays}
 use Rattle.stretches.specs.declared.Stretch.{Stretch}
 use Rattle.stretches.specs.Stretched.{StretchedAs, BlanksAs}
 use Rattle.ahead.specs.Ahead.{SameFrame, SameState, ProbedAs, OnwardAs}
-use Rattle.ahead.specs.declared.Tried.{Tried}
 
 -- a test that says no tells nothing
 pub not_told : {P : Type 0} → false ≡ true → P
@@ -147,15 +147,15 @@ pub tried_char : Char 120
 tried_char = inr (inr (inr (inl (omega arith))))
 
 -- what a probe answers
-pub not_probed : (s : List ℕ) (z : State) (r : Tried) → (r.steady ≡ false) × (r.visits ≡ 0) → ProbedAs s z r
-not_probed s z r (e, f) = record { few = omega (arith, f); right = λ g. not_told (sym e ∙ g) }
+pub not_probed : (s : List ℕ) (z : State) → ProbedAs s z None
+not_probed s z = record { few = tt; right = tt }
 
 pub probed : {s : List ℕ} {z : State} {lent d : List ℕ} (r : SteppedSeen) → SteppedAs s (letter 120) z (dry lent) r d → r.number ≡ 0 → (w : ℕ) → w ≡ length (shown z.echo 120) → r.at ≡ w →
-    z.count ≤ r.state.count → SameState z r.state → ProbedAs s z (record { steady = true; visits = r.state.count - z.count })
+    z.count ≤ r.state.count → SameState z r.state → ProbedAs s z (Some (r.state.count - z.count))
 probed {s = s} {z = z} r S number w e g h same =
     record {
       few = omega (arith, S.count);
-      right = λ _ a i k f p. tells_steady r S number (g ∙ e) (r.state.count - z.count) (omega (arith, h)) same a i k f p;
+      right = λ a i k f p. tells_steady r S number (g ∙ e) (r.state.count - z.count) (omega (arith, h)) same a i k f p;
     }
 
 -- the stretches as the call's answers

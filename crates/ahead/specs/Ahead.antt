@@ -1,6 +1,6 @@
 -- What is told of the run and of the part ahead of it: whether it is steady, and what taking a stretch answers and leaves.
 -- Assumes nothing.
-use Rattle.std.specs.Prelude.{◌≡◌, Bool, true, false, List, ◌++◌, ℕ, ◌+◌, ◌-◌, ◌≤◌, ◌<◌, length, take, drop}
+use Rattle.std.specs.Prelude.{Option as Taken, IfSome, ◌≡◌, Bool, false, List, ◌++◌, ℕ, ◌+◌, ◌-◌, ◌≤◌, ◌<◌, length, take, drop}
 use Rattle.sheet.specs.Sheet.{Sheet, IsSheet}
 use Rattle.runs.specs.Visits.{grammar, most_visits}
 use Rattle.runs.specs.Spells.{passes_at}
@@ -12,7 +12,6 @@ use Rattle.state.specs.Changes.{top_of}
 use Rattle.state.specs.Meaning.{meaning_of, Shaped}
 use Rattle.steady.specs.Steady.{counting, Steady}
 use Rattle.stretches.specs.declared.Stretch.{Stretch}
-use Rattle.ahead.specs.declared.Tried.{Tried}
 
 -- the same, as far as sets are in use
 pub record SameFrame (f g : Frame) : Type 0 where
@@ -27,11 +26,10 @@ pub record SameState (z y : State) : Type 0 where
   pub echo : z.echo ≡ y.echo
   pub top : 0 < z.depth → 0 < y.depth → SameFrame (top_of z) (top_of y)
 
--- where white space is an event like any other, the run that z stands for is steady if r says so
-pub record ProbedAs (s : List ℕ) (z : State) (r : Tried) : Type 0 where
-  pub few : r.visits ≤ most_visits
-  pub right : r.steady ≡ true → (a : Sheet) → IsSheet s a → Shaped z → RunFits a (meaning_of z) → passes_at (grammar a) (meaning_of z).control ≡ false →
-      Steady a z.echo r.visits (meaning_of z)
+-- where white space is an event like any other, the run that z stands for is steady if r says so, by the visits of a character
+pub record ProbedAs (s : List ℕ) (z : State) (r : Taken ℕ) : Type 0 where
+  pub few : IfSome r (λ n. n ≤ most_visits)
+  pub right : IfSome r (λ n. (a : Sheet) → IsSheet s a → Shaped z → RunFits a (meaning_of z) → passes_at (grammar a) (meaning_of z).control ≡ false → Steady a z.echo n (meaning_of z))
 
 -- a stretch from the place `from` on: whatever the call answers from behind it, it answers from in front of it, after what was written
 pub record OnwardAs (s part : List ℕ) (z : State) (lent : List ℕ) (from put : ℕ) (r : Stretch) (d : List ℕ) : Type 0 where

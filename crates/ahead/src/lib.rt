@@ -2,7 +2,7 @@
 
 #![tactic(auto)]
 
-ghost use Rattle.std.specs.Prelude.{◌≡◌, true, false, ℕ, ◌≤◌, length, take, List};
+ghost use Rattle.std.specs.Prelude.{◌≡◌, true, ℕ, ◌≤◌, length, take, List};
 ghost use Rattle.runs.specs.Visits.{most_visits};
 ghost use Rattle.state.specs.Bounds.{most_sets};
 ghost use Rattle.live.specs.Live.{full};
@@ -22,13 +22,6 @@ const TRIED: u32 = 120;
 
 // The byte that a tag starts with.
 const OPENS: u8 = 60;
-
-// Whether every character leaves the run as it is, and how many visits each then counts.
-#[derive(Clone, Copy)]
-pub struct Tried {
-    pub steady: bool,
-    pub visits: u64,
-}
 
 fn same_set(a: Saved, b: Saved) -> bool
     ensures { result ≡ true → a ≡ b }
@@ -81,15 +74,6 @@ fn same_state(z: Live, y: Live) -> bool
     z.values == y.values && same_frame(z.top(), y.top())
 }
 
-fn not_steady() -> Tried
-    ensures { (result.steady ≡ false) × (result.visits ≡ 0) }
-{
-    Tried {
-        steady: false,
-        visits: 0,
-    }
-}
-
 // Bytes that the tried character is written as.
 fn width(on: bool) -> usize
     ensures { result ≡ length (shown on 120) }
@@ -97,9 +81,9 @@ fn width(on: bool) -> usize
     if on { 1 } else { 0 }
 }
 
-// Whether a run that stands in an element with characters is steady: a character tried in a dry run leaves it as it is. At the element's
-// start none does, as it leads to an atom.
-fn probe(s: &[u8], l: Layout, z: Live, stack: &[u8], out: &mut [u8]) -> Tried
+// How many visits each character counts in a run that is steady, where it stands in an element with characters: a character tried in a dry run leaves it as it is. At the
+// element's start none does, as it leads to an atom.
+fn probe(s: &[u8], l: Layout, z: Live, stack: &[u8], out: &mut [u8]) -> Option<u64>
     requires laid_out { LaidOut s.now l }
     requires ready_at { ReadyAt s.now z stack.now }
     requires count_le_most_visits { z.count ≤ most_visits }
@@ -108,27 +92,24 @@ fn probe(s: &[u8], l: Layout, z: Live, stack: &[u8], out: &mut [u8]) -> Tried
 {
     let f = z.top();
     if f.place == 0 {
-        return not_steady();
+        return None;
     }
     let run = Run { at: 0, live: z };
     let tried = run.character(s, l, TRIED, stack, out, false);
     if tried.number != 0 {
-        return not_steady();
+        return None;
     }
     if tried.at != width(z.echo) {
-        return not_steady();
+        return None;
     }
     let y = tried.live;
     if y.count < z.count {
-        return not_steady();
+        return None;
     }
     if !same_state(z, y) {
-        return not_steady();
+        return None;
     }
-    Tried {
-        steady: true,
-        visits: y.count - z.count,
-    }
+    Some(y.count - z.count)
 }
 
 // The stretch from a place on that needs no step for each of its characters: white space where it is no event, characters where the run is steady.
@@ -169,9 +150,8 @@ pub fn onward(
             count: n,
         };
     }
-    let tried = probe(s, l, z, stack, out);
-    if !tried.steady {
+    let Some(visits) = probe(s, l, z, stack, out) else {
         return still;
-    }
-    characters(part, from, z.echo, tried.visits, n, out, put)
+    };
+    characters(part, from, z.echo, visits, n, out, put)
 }

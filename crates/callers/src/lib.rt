@@ -1,4 +1,4 @@
-// Who started a conversion: whether somebody watches its progress, and whether somebody listens at the descriptor for what it comes to.
+// Who started a conversion: whether somebody watches its progress, and the process that listens at the descriptor for what it comes to, if any does.
 
 #![tactic(auto)]
 
@@ -10,8 +10,7 @@ use std::os::unix::process::parent_id;
 #[derive(Clone, Copy)]
 pub struct Caller {
     pub watches: bool,
-    pub listens: bool,
-    pub parent: i32,
+    pub listener: Option<i32>,
 }
 
 // The process that started this one.
@@ -30,8 +29,7 @@ impl Caller {
     {
         Caller {
             watches: false,
-            listens: false,
-            parent: 0,
+            listener: None,
         }
     }
 
@@ -41,8 +39,7 @@ impl Caller {
     {
         Caller {
             watches: watches,
-            listens: listens,
-            parent: parent(rt),
+            listener: if listens { Some(parent(rt)) } else { None },
         }
     }
 
@@ -50,17 +47,17 @@ impl Caller {
     pub fn is_gone(self, rt: HostRuntime) -> bool
         ensures { Unheard self false result }
     {
-        if !self.listens {
-            return false;
+        match self.listener {
+            Some(listener) => parent(rt) != listener,
+            None => false,
         }
-        parent(rt) != self.parent
     }
 
     // Names the new file. Answers whether whoever listens could be told.
     pub fn hears_of(self, name: &[u8]) -> bool
         ensures { Unheard self true result }
     {
-        if !self.listens {
+        if self.listener.is_none() {
             return true;
         }
         io::write_all(LISTENER, b"new ")
@@ -70,7 +67,7 @@ impl Caller {
 
     // The last line.
     pub fn hears_number(self, number: u64) {
-        if self.listens {
+        if self.listener.is_some() {
             io::write_all(LISTENER, b"wickpollen: ");
             io::print_decimal(LISTENER, number);
             io::write_all(LISTENER, b"\n");

@@ -49,12 +49,13 @@ pub fn convert_files(
 ) -> u64 {
     let mut sheet = io::large_buffer();
     let mut name = io::buffer();
-    let mut b = begin(
+    let begun = begin(
         rt, sheet_path, schedule, listing, &mut sheet, &mut name, caller,
     );
-    if b.number > 0 {
-        return b.number;
-    }
+    let mut b = match begun {
+        Ok(b) => b,
+        Err(number) => return number,
+    };
     let n = files::within(b.length, &sheet);
     let m = files::within(b.name, &name);
     convert_open(
@@ -97,11 +98,11 @@ fn try_open(
 // Says what convert_files would say of the same sheet and schedule, answers the same number, and writes no file.
 pub fn try_files(rt: HostRuntime, sheet_path: &[u8], schedule: &[u8], caller: Caller) -> u64 {
     let mut sheet = io::large_buffer();
-    let loaded = load_passing(rt, sheet_path, &mut sheet);
-    if loaded.number > 0 {
-        return loaded.number;
-    }
-    let n = files::within(loaded.length, &sheet);
+    let length = match load_passing(rt, sheet_path, &mut sheet) {
+        Ok(length) => length,
+        Err(number) => return number,
+    };
+    let n = files::within(length, &sheet);
     let mut from = files::open(rt, schedule);
     if !from.is_open() {
         from.fail(schedule);

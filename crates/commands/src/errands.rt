@@ -9,8 +9,10 @@ use words::say;
 pub fn check_file(rt: HostRuntime, path: &[u8]) -> u64 {
     let mut bytes = memory();
     let mut sheet = io::large_buffer();
-    let checked = check(rt, path, &mut bytes, &mut sheet);
-    checked.number
+    match check(rt, path, &mut bytes, &mut sheet) {
+        Ok(_) => 0,
+        Err(number) => number,
+    }
 }
 
 // Puts a sheet in place, and says so.
@@ -27,12 +29,13 @@ fn put_sheet(rt: HostRuntime, path: &[u8], sheet: &[u8], caller: Caller) -> u64 
 pub fn write_file(rt: HostRuntime, path: &[u8], to: &[u8], caller: Caller) -> u64 {
     let mut bytes = memory();
     let mut sheet = io::large_buffer();
-    let checked = check(rt, path, &mut bytes, &mut sheet);
-    if checked.number > 0 {
-        return checked.number;
+    match check(rt, path, &mut bytes, &mut sheet) {
+        Ok(length) => {
+            let n = files::within(length, &sheet);
+            put_sheet(rt, to, &sheet[..n], caller)
+        }
+        Err(number) => number,
     }
-    let n = files::within(checked.length, &sheet);
-    put_sheet(rt, to, &sheet[..n], caller)
 }
 
 // Says on standard error why a sheet was not printed.
@@ -58,7 +61,7 @@ fn print_through(rt: HostRuntime, path: &[u8], sheet: &[u8], text: &mut [u8]) ->
     let room = files::within(LONGEST, text);
     let p = prints::print(sheet, &mut text[..room]);
     if p.number > 0 {
-        return refuse_print(path, p.number as u64);
+        return refuse_print(path, u64::from(p.number));
     }
     let n = files::within(p.count, text);
     match put_out(rt, &text[..n]) {
@@ -77,12 +80,13 @@ fn print_sheet(rt: HostRuntime, path: &[u8], sheet: &[u8]) -> u64 {
 
 pub fn print_file(rt: HostRuntime, path: &[u8]) -> u64 {
     let mut sheet = io::large_buffer();
-    let loaded = load(rt, path, &mut sheet);
-    if loaded.number > 0 {
-        return loaded.number;
+    match load(rt, path, &mut sheet) {
+        Ok(length) => {
+            let n = files::within(length, &sheet);
+            print_sheet(rt, path, &sheet[..n])
+        }
+        Err(number) => number,
     }
-    let n = files::within(loaded.length, &sheet);
-    print_sheet(rt, path, &sheet[..n])
 }
 
 // Prints the declarations of a file as rules.

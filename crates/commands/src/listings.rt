@@ -55,32 +55,14 @@ pub(crate) fn settle(
     0
 }
 
-// The files of a conversion: 0, how long the sheet is, the schedule that is open, the new file that is open and how long its name is; or the number that
-// was told.
+// The files of a conversion: how long the sheet is, the schedule that is open, the new file that is open and how long its name is. Where a conversion came to an end
+// before it began, the number that was told stands in its place.
 #[derive(Drop)]
 pub struct Begun {
-    pub number: u64,
     pub length: usize,
     pub from: Opened,
     pub to: Opened,
     pub name: usize,
-}
-
-impl Begun {
-    fn failed() -> Begun {
-        Begun::ended(FILE)
-    }
-
-    // It came to an end before it began, with a number that was told.
-    fn ended(number: u64) -> Begun {
-        Begun {
-            number: number,
-            length: 0,
-            from: Opened::nothing(),
-            to: Opened::nothing(),
-            name: 0,
-        }
-    }
 }
 
 // Makes the new file beside the listing, and puts its name into the memory.
@@ -91,26 +73,27 @@ fn begin_listing(
     from: Opened,
     length: usize,
     caller: Caller,
-) -> Begun {
-    let made = files::new_beside(rt, listing, name);
+) -> Result<Begun, u64> {
+    let made = match files::new_beside(rt, listing, name) {
+        Ok(made) => made,
+        Err(why) => {
+            files::fail(listing, why);
+            tell_untouched(listing);
+            return Err(FILE);
+        }
+    };
     let n = made.length;
     let mut to = made.file;
-    if !to.is_open() {
-        to.fail(listing);
-        tell_untouched(listing);
-        return Begun::failed();
-    }
     if !caller.hears_of(&name[..n]) {
         files::take_away(rt, &mut to, &name[..n]);
-        return Begun::failed();
+        return Err(FILE);
     }
-    Begun {
-        number: 0,
+    Ok(Begun {
         length: length,
         from: from,
         to: to,
         name: n,
-    }
+    })
 }
 
 // Reads the rules at sheet_path into the memory as a sheet, opens the schedule, and makes the new file beside the listing.
@@ -122,30 +105,34 @@ pub(crate) fn begin(
     sheet: &mut [u8],
     name: &mut [u8],
     caller: Caller,
-) -> Begun {
-    let loaded = load_passing(rt, sheet_path, sheet);
-    if loaded.number > 0 {
-        tell_untouched(listing);
-        return Begun::ended(loaded.number);
-    }
+) -> Result<Begun, u64> {
+    let length = match load_passing(rt, sheet_path, sheet) {
+        Ok(length) => length,
+        Err(number) => {
+            tell_untouched(listing);
+            return Err(number);
+        }
+    };
     let from = files::open(rt, schedule);
     if !from.is_open() {
         from.fail(schedule);
-        return Begun::failed();
+        return Err(FILE);
     }
-    begin_listing(rt, listing, name, from, loaded.length, caller)
+    begin_listing(rt, listing, name, from, length, caller)
 }
 
 // Puts some bytes in place as a file at path, as a listing is: from a new file beside it, whole or not at all.
 pub(crate) fn put_file(rt: HostRuntime, path: &[u8], bytes: &[u8], caller: Caller) -> bool {
     let mut name = io::buffer();
-    let made = files::new_beside(rt, path, &mut name);
+    let made = match files::new_beside(rt, path, &mut name) {
+        Ok(made) => made,
+        Err(why) => {
+            files::fail(path, why);
+            return false;
+        }
+    };
     let n = made.length;
     let mut to = made.file;
-    if !to.is_open() {
-        to.fail(path);
-        return false;
-    }
     let written = caller.hears_of(&name[..n]) && to.write(bytes);
     if !written | caller.is_gone(rt) {
         files::take_away(rt, &mut to, &name[..n]);

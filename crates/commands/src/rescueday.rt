@@ -56,12 +56,13 @@ pub fn salvage_files(
 ) -> u64 {
     let mut sheet = io::large_buffer();
     let mut name = io::buffer();
-    let mut b = begin(
+    let begun = begin(
         rt, sheet_path, schedule, listing, &mut sheet, &mut name, caller,
     );
-    if b.number > 0 {
-        return b.number;
-    }
+    let mut b = match begun {
+        Ok(b) => b,
+        Err(number) => return number,
+    };
     let n = files::within(b.length, &sheet);
     let m = files::within(b.name, &name);
     salvage_open(

@@ -1,4 +1,5 @@
 -- A declaration that is over is kept, or is too much. Assumes nothing.
+use Rattle.std.specs.Prelude.{Some, None, is_some}
 use mathlib.Core.Path.{◌≡◌, refl, sym, ◌∙◌, ap, subst}
 use mathlib.Core.Logic.{◌⊎◌, inl, inr}
 use mathlib.Core.Bool.{Bool, true, false, ◌||◌, true≢false}
@@ -59,7 +60,7 @@ uncrowded k long e =
     record { names_left = a.0; tags_left = b.0; productions_left = leb-false _ _ c.0; nodes_left = ltb-false _ _ c.1 }
 
 module _ (k : Docket) (at : ℕ) (row : NodeRow) (productions nodes : List ℕ) (h : Concluding k row.length) where
-  pub concluded_passed : k.passed ≡ true → ConcludedIs k at row productions nodes productions nodes k
+  pub concluded_passed : is_some k.passed ≡ true → ConcludedIs k at row productions nodes productions nodes k
   concluded_passed y = record {
     same_names = refl;
     same_tags = refl;
@@ -70,8 +71,8 @@ module _ (k : Docket) (at : ℕ) (row : NodeRow) (productions nodes : List ℕ) 
   }
     where
       on : (text : List ℕ) (ds : List Declaration) (d : Declaration) → DeclarationsKept text ds k productions nodes → DeclarationsKept text (ds ++ d ∷ []) k productions nodes
-      on text ds d (within_bounds f i g) = not_both y f
-      on text ds d (passed_bounds f m e) = passed_bounds f m (not_empty ds d)
+      on text ds d (within_bounds f i g) = not_both y (ap is_some f)
+      on text ds d (passed_bounds byte f m e) = passed_bounds byte f m (not_empty ds d)
 
   -- the declarations with this one are too many, or their names, or their nodes
   module _ (ds : List Declaration) (d : Declaration) (nb ne tb te : List ℕ) (rows tag_rows : Names) (c : ConcludesWith ds d k row nb ne tb te rows tag_rows) (g : DeclarationsHeld ds k.tally productions nodes) where
@@ -123,8 +124,8 @@ module _ (k : Docket) (at : ℕ) (row : NodeRow) (productions nodes : List ℕ) 
         laid = subst (λ (l : Names). LaysNodes (content_preorder (spec_content (place_of l) d.content)) row) all_named c.laid;
       }
 
-  pub concluded_crowded : (b : Bool) → k.passed ≡ false → b ≡ crowded_by k row.length → b ≡ true
-      → ConcludedIs k at row productions nodes productions nodes (record { names = k.names; tags = k.tags; element = k.element; tally = k.tally; passed = true; byte = at })
+  pub concluded_crowded : (b : Bool) → is_some k.passed ≡ false → b ≡ crowded_by k row.length → b ≡ true
+      → ConcludedIs k at row productions nodes productions nodes (record { names = k.names; tags = k.tags; element = k.element; tally = k.tally; passed = Some at })
   concluded_crowded b y e f = record {
     same_names = refl;
     same_tags = refl;
@@ -136,13 +137,13 @@ module _ (k : Docket) (at : ℕ) (row : NodeRow) (productions nodes : List ℕ) 
     where
       on : (text : List ℕ) (ds : List Declaration) (d : Declaration) (nb ne tb te : List ℕ) (rows tag_rows : Names) → ConcludesWith ds d k row nb ne tb te rows tag_rows
           → (Holdable ds → (Holdable (ds ++ d ∷ []) → ⊥) → TooMuchAt text at) → DeclarationsKept text ds k productions nodes
-          → DeclarationsKept text (ds ++ d ∷ []) (record { names = k.names; tags = k.tags; element = k.element; tally = k.tally; passed = true; byte = at }) productions nodes
-      on text ds d nb ne tb te rows tag_rows c t (within_bounds z i g) = passed_bounds refl (t i (too_much ds d nb ne tb te rows tag_rows c g (sym e ∙ f))) (not_empty ds d)
-      on text ds d nb ne tb te rows tag_rows c t (passed_bounds z m n) = not_both z y
+          → DeclarationsKept text (ds ++ d ∷ []) (record { names = k.names; tags = k.tags; element = k.element; tally = k.tally; passed = Some at }) productions nodes
+      on text ds d nb ne tb te rows tag_rows c t (within_bounds z i g) = passed_bounds at refl (t i (too_much ds d nb ne tb te rows tag_rows c g (sym e ∙ f))) (not_empty ds d)
+      on text ds d nb ne tb te rows tag_rows c t (passed_bounds byte z m n) = not_both (ap is_some z) y
 
-  pub concluded_entered : (b : Bool) (productions' nodes' : List ℕ) (more : Tally) → k.passed ≡ false → b ≡ crowded_by k row.length → b ≡ false
+  pub concluded_entered : (b : Bool) (productions' nodes' : List ℕ) (more : Tally) → is_some k.passed ≡ false → b ≡ crowded_by k row.length → b ≡ false
       → EnteredIs k.tally k.element k.tags.number row productions nodes productions' nodes' more
-      → ConcludedIs k at row productions nodes productions' nodes' (record { names = k.names; tags = k.tags; element = k.element; tally = more; passed = false; byte = 0 })
+      → ConcludedIs k at row productions nodes productions' nodes' (record { names = k.names; tags = k.tags; element = k.element; tally = more; passed = None })
   concluded_entered b productions' nodes' more y e f i =
       let u = uncrowded k row.length (sym e ∙ f) in
       record {
@@ -156,12 +157,12 @@ module _ (k : Docket) (at : ℕ) (row : NodeRow) (productions nodes : List ℕ) 
     where
       on : (text : List ℕ) (ds : List Declaration) (d : Declaration) (nb ne tb te : List ℕ) (rows tag_rows : Names) → SectionRoom productions nodes → ConcludesWith ds d k row nb ne tb te rows tag_rows
           → DeclarationsKept text ds k productions nodes
-          → DeclarationsKept text (ds ++ d ∷ []) (record { names = k.names; tags = k.tags; element = k.element; tally = more; passed = false; byte = 0 }) productions' nodes'
+          → DeclarationsKept text (ds ++ d ∷ []) (record { names = k.names; tags = k.tags; element = k.element; tally = more; passed = None }) productions' nodes'
       on text ds d nb ne tb te rows tag_rows room c (within_bounds z j g) =
           let u = uncrowded k row.length (sym e ∙ f) in
           let a = holdable ds d nb ne tb te rows tag_rows c g u in
           within_bounds refl a (i.is ds d room a (entry ds d nb ne tb te rows tag_rows c g u) g)
-      on text ds d nb ne tb te rows tag_rows room c (passed_bounds z m n) = not_both z y
+      on text ds d nb ne tb te rows tag_rows room c (passed_bounds byte z m n) = not_both (ap is_some z) y
 
   pub entry_allowed : EntryFits k.tally k.element k.tags.number row
   entry_allowed = record {

@@ -105,7 +105,6 @@ module _ (text : List ℕ) (at : ℕ) (k : Docket) (nb ne tb te : List ℕ) wher
     small = h.small;
     tally_same = refl;
     passed_same = refl;
-    byte_same = refl;
     is = λ ms ts rows tag_rows q b w i l. on ms ts rows tag_rows q b w (quiet q b (subst (NameEndIs q b) e i));
   }
     where
@@ -140,19 +139,18 @@ module _ (text : List ℕ) (at : ℕ) (k : Docket) (nb ne tb te : List ℕ) wher
 
   pub noted_inner : (end : NameEnd) (long : ℕ) (nb' ne' : List ℕ) (more : Roster) → end ≡ NameEnd.Inner long → Noting text at end k nb ne tb te
       → Enrolled nb ne k.names (take (at - (at - long)) (drop (at - long) text)) nb' ne' more
-      → NotedIs text at end k nb ne tb te nb' ne' tb te (record { names = more; tags = k.tags; element = k.element; tally = k.tally; passed = k.passed; byte = k.byte })
+      → NotedIs text at end k nb ne tb te nb' ne' tb te (record { names = more; tags = k.tags; element = k.element; tally = k.tally; passed = k.passed })
   noted_inner end long nb' ne' more e h f = record {
     name_room = record { room = omega (arith, f.long_bytes, h.names_enrol.sized.room); places = omega (arith, f.long_ends, h.names_enrol.sized.places) };
     tag_room = h.tags_enrol.sized;
     small = record { number_small = f.small; element_small = h.small.element_small; tag_small = h.small.tag_small; few_productions = h.small.few_productions; few_nodes = h.small.few_nodes };
     tally_same = refl;
     passed_same = refl;
-    byte_same = refl;
     is = λ ms ts rows tag_rows q b w i l. on ms ts rows tag_rows q b w (subst (NameEndIs q b) e i) l;
   }
     where
       r : Docket
-      r = record { names = more; tags = k.tags; element = k.element; tally = k.tally; passed = k.passed; byte = k.byte }
+      r = record { names = more; tags = k.tags; element = k.element; tally = k.tally; passed = k.passed }
 
       on : (ms ts rows tag_rows : Names) (q : Phase) (b : ℕ) → NamesHeld ms ts k nb ne tb te rows tag_rows → NameEndIs q b (NameEnd.Inner long) → NamesLast q (take at text)
           → NotedAs ms ts rows tag_rows q b k r nb' ne' tb te
@@ -175,19 +173,18 @@ module _ (text : List ℕ) (at : ℕ) (k : Docket) (nb ne tb te : List ℕ) wher
 
   pub noted_own : (end : NameEnd) (long : ℕ) (nb' ne' tb' te' : List ℕ) (more tag : Roster) → end ≡ NameEnd.Own long → Noting text at end k nb ne tb te
       → Enrolled nb ne k.names (take (at - (at - long)) (drop (at - long) text)) nb' ne' more → Enrolled tb te k.tags (take (at - (at - long)) (drop (at - long) text)) tb' te' tag
-      → NotedIs text at end k nb ne tb te nb' ne' tb' te' (record { names = more; tags = tag; element = more.number; tally = k.tally; passed = k.passed; byte = k.byte })
+      → NotedIs text at end k nb ne tb te nb' ne' tb' te' (record { names = more; tags = tag; element = more.number; tally = k.tally; passed = k.passed })
   noted_own end long nb' ne' tb' te' more tag e h f g = record {
     name_room = record { room = omega (arith, f.long_bytes, h.names_enrol.sized.room); places = omega (arith, f.long_ends, h.names_enrol.sized.places) };
     tag_room = record { room = omega (arith, g.long_bytes, h.tags_enrol.sized.room); places = omega (arith, g.long_ends, h.tags_enrol.sized.places) };
     small = record { number_small = f.small; element_small = f.small; tag_small = g.small; few_productions = h.small.few_productions; few_nodes = h.small.few_nodes };
     tally_same = refl;
     passed_same = refl;
-    byte_same = refl;
     is = λ ms ts rows tag_rows q b w i l. on ms ts rows tag_rows q b w (subst (NameEndIs q b) e i) l;
   }
     where
       r : Docket
-      r = record { names = more; tags = tag; element = more.number; tally = k.tally; passed = k.passed; byte = k.byte }
+      r = record { names = more; tags = tag; element = more.number; tally = k.tally; passed = k.passed }
 
       on : (ms ts rows tag_rows : Names) (q : Phase) (b : ℕ) → NamesHeld ms ts k nb ne tb te rows tag_rows → NameEndIs q b (NameEnd.Own long) → NamesLast q (take at text)
           → NotedAs ms ts rows tag_rows q b k r nb' ne' tb' te'

@@ -1,5 +1,5 @@
 -- What is kept beside a declaration that is being read. Assumes nothing.
-use Rattle.std.specs.Prelude.{◌≡◌, true, false, List, [], ◌∷◌, ℕ, ◌≤◌}
+use Rattle.std.specs.Prelude.{Some, None, ◌≡◌, List, [], ◌∷◌, ℕ, ◌≤◌}
 use Rattle.limits.specs.Limits.{most_tags, most_productions, most_nodes}
 use Rattle.encoding.specs.Distinct.{place_of}
 use Rattle.models.specs.Models.{Declaration}
@@ -29,5 +29,5 @@ pub record DocketSmall (k : Docket) : Type 0 where
 
 -- the declarations that are over: their records are kept; or they were too many, and then it is known where
 pub data DeclarationsKept (text : List ℕ) (ds : List Declaration) (k : Docket) (productions nodes : List ℕ) : Type 0 where
-  within_bounds : k.passed ≡ false → Holdable ds → DeclarationsHeld ds k.tally productions nodes → DeclarationsKept text ds k productions nodes
-  passed_bounds : k.passed ≡ true → TooMuchAt text k.byte → (ds ≡ [] → ⊥) → DeclarationsKept text ds k productions nodes
+  within_bounds : k.passed ≡ None → Holdable ds → DeclarationsHeld ds k.tally productions nodes → DeclarationsKept text ds k productions nodes
+  passed_bounds : (byte : ℕ) → k.passed ≡ Some byte → TooMuchAt text byte → (ds ≡ [] → ⊥) → DeclarationsKept text ds k productions nodes

@@ -44,6 +44,5 @@ pub record NotedIs (text : List ℕ) (at : ℕ) (end : NameEnd) (k : Docket) (na
   pub small : DocketSmall r
   pub tally_same : r.tally ≡ k.tally
   pub passed_same : r.passed ≡ k.passed
-  pub byte_same : r.byte ≡ k.byte
   pub is : (mentions tags rows tag_rows : List (List ℕ)) (q : Phase) (b : ℕ) → NamesHeld mentions tags k name_bytes name_ends tag_bytes' tag_ends rows tag_rows → NameEndIs q b end → NamesLast q (take at text)
       → NotedAs mentions tags rows tag_rows q b k r names_after name_ends_after tags_after tag_ends_after

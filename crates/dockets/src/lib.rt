@@ -19,9 +19,8 @@ pub struct Docket {
     // The number of the element that is being declared; its tag is the one that was filed last.
     pub element: usize,
     pub tally: Tally,
-    // Whether the declarations were too many for a sheet, and at which byte.
-    pub passed: bool,
-    pub byte: usize,
+    // The byte at which the declarations were too many for a sheet, if they were.
+    pub passed: Option<usize>,
 }
 
 // The name that ends before a byte is filed: the element's own is a name and a tag, one of its content a name.
@@ -55,7 +54,6 @@ pub fn note(
                 element: more.number,
                 tally: tally,
                 passed: k.passed,
-                byte: k.byte,
             };
         }
         NameEnd::Inner(long) => {
@@ -67,7 +65,6 @@ pub fn note(
                 element: k.element,
                 tally: tally,
                 passed: k.passed,
-                byte: k.byte,
             };
         }
     }
@@ -95,7 +92,7 @@ pub fn conclude(
     requires { Concluding k row.length }
     ensures { ConcludedIs k at row productions.old nodes.old productions.new nodes.new result }
 {
-    if k.passed {
+    if k.passed.is_some() {
         return k;
     }
     let names = k.names;
@@ -107,8 +104,7 @@ pub fn conclude(
             tags: tags,
             element: k.element,
             tally: tally,
-            passed: true,
-            byte: at,
+            passed: Some(at),
         };
     }
     let more = entries::enter(tally, k.element, tags.number, row, productions, nodes);
@@ -117,7 +113,6 @@ pub fn conclude(
         tags: tags,
         element: k.element,
         tally: more,
-        passed: false,
-        byte: 0,
+        passed: None,
     }
 }

@@ -1,6 +1,8 @@
 -- The text has ended: the sheet, or a number. Assumes nothing.
+use Rattle.std.specs.Prelude.{Some, None}
+use Rattle.std.proofs.lemmas.Option.{none-some, same_Some}
 use mathlib.Core.Path.{◌≡◌, refl, sym, ◌∙◌, ap, subst}
-use mathlib.Core.Bool.{Bool, true, false, true≢false}
+use mathlib.Core.Bool.{Bool, true, false}
 use mathlib.Core.Option.{some}
 use mathlib.Core.List.{List, [], ◌∷◌}
 use Prim.Native.Nat.{ℕ, ◌*◌}
@@ -45,20 +47,20 @@ module _ (text area : List ℕ) (s : Scan) (nb ne tb te productions nodes : List
     there : BetweenAt text (length text) s nb ne tb te productions nodes
     there = between_of text (length text) s nb ne tb te productions nodes o h
 
-    pub settled_passed : s.docket.passed ≡ true → DeclaredAs text area 56 s.docket.byte area
-    settled_passed p = on there.kept
+    pub settled_passed : (byte : ℕ) → s.docket.passed ≡ Some byte → DeclaredAs text area 56 byte area
+    settled_passed byte p = on there.kept
       where
-        on : DeclarationsKept text there.ds s.docket productions nodes → DeclaredAs text area 56 s.docket.byte area
-        on (within_bounds e g k) = absurd (true≢false (sym p ∙ e))
-        on (passed_bounds e g k) = refused (too_much_in_all text s.docket.byte (outside there.ds) there.ds g there.stands (value_of there.ds k))
+        on : DeclarationsKept text there.ds s.docket productions nodes → DeclaredAs text area 56 byte area
+        on (within_bounds e g k) = absurd (none-some byte (sym e ∙ p))
+        on (passed_bounds b e g k) = subst (λ (j : ℕ). DeclaredAs text area 56 j area) (same_Some b byte (sym e ∙ p)) (refused (too_much_in_all text b (outside there.ds) there.ds g there.stands (value_of there.ds k)))
 
-    module _ (p : s.docket.passed ≡ false) where
+    module _ (p : s.docket.passed ≡ None) where
       bounds : Holdable there.ds × DeclarationsHeld there.ds s.docket.tally productions nodes
       bounds = on there.kept
         where
           on : DeclarationsKept text there.ds s.docket productions nodes → Holdable there.ds × DeclarationsHeld there.ds s.docket.tally productions nodes
           on (within_bounds e g k) = (g, k)
-          on (passed_bounds e g k) = absurd (true≢false (sym e ∙ p))
+          on (passed_bounds b e g k) = absurd (none-some b (sym p ∙ e))
 
       pub settled_none : s.docket.tally.productions ≡ 0 → DeclaredAs text area 55 (length text) area
       settled_none n = on there.ds there.stands bounds.1.count_is

@@ -1,5 +1,7 @@
 -- One byte after the other. Assumes nothing.
-use mathlib.Core.Path.{◌≡◌, sym, subst}
+use Rattle.std.specs.Prelude.{Some, None}
+use Rattle.std.proofs.lemmas.Option.{none-some, same_Some}
+use mathlib.Core.Path.{◌≡◌, sym, ◌∙◌, subst}
 use mathlib.Core.Bool.{true}
 use mathlib.Core.List.{List}
 use Prim.Native.Nat.{ℕ, suc, ◌+◌, ◌≤◌, ◌<◌}
@@ -18,19 +20,19 @@ module _ (text : List ℕ) (at : ℕ) (s : Scan) (nb ne tb te productions nodes 
   pub between_byte : (r : Scan) → at < length text → ReadUpTo text at s nb ne tb te productions nodes → s.out ≡ true → BetweenIs text at (get_or text at 0) s r → ByteIs text at nb ne tb te productions nodes r
   between_byte r h k o b = record { rooms = k.rooms; read = b.is nb ne tb te productions nodes (next_byte h k) o }
 
-  pub byte_halted : (area : List ℕ) → ByteIs text at nb ne tb te productions nodes s → (s.halt ≡ 0 → ⊥) → DeclaredAs text area s.halt at area
-  byte_halted area b n = on b.read
+  pub byte_halted : (area : List ℕ) → ByteIs text at nb ne tb te productions nodes s → (n : ℕ) → s.halt ≡ Some n → DeclaredAs text area n at area
+  byte_halted area b n e = on b.read
     where
-      on : ByteRead text at nb ne tb te productions nodes s → DeclaredAs text area s.halt at area
-      on (onward h) = absurd (n h.going)
-      on (halted f m) = refused m
+      on : ByteRead text at nb ne tb te productions nodes s → DeclaredAs text area n at area
+      on (onward h) = absurd (none-some n (sym h.going ∙ e))
+      on (halted k f m) = subst (λ (j : ℕ). DeclaredAs text area j at area) (same_Some k n (sym f ∙ e)) (refused m)
 
-  pub byte_onward : ByteIs text at nb ne tb te productions nodes s → s.halt ≡ 0 → ReadUpTo text (at + 1) s nb ne tb te productions nodes
+  pub byte_onward : ByteIs text at nb ne tb te productions nodes s → s.halt ≡ None → ReadUpTo text (at + 1) s nb ne tb te productions nodes
   byte_onward b n = on b.read
     where
       on : ByteRead text at nb ne tb te productions nodes s → ReadUpTo text (at + 1) s nb ne tb te productions nodes
       on (onward h) = subst (λ (k : ℕ). ReadUpTo text k s nb ne tb te productions nodes) (sym (add-one at)) h
-      on (halted f m) = absurd (f n)
+      on (halted k f m) = absurd (none-some k (sym n ∙ f))
 
   pub at_end : length text ≤ at → ReadUpTo text at s nb ne tb te productions nodes → ReadUpTo text (length text) s nb ne tb te productions nodes
   at_end h k = let e : at ≡ length text = omega (arith, h, k.inside) in subst (λ (n : ℕ). ReadUpTo text n s nb ne tb te productions nodes) e k

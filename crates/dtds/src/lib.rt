@@ -68,10 +68,10 @@ fn settle(
     let tally = k.tally;
     let declared = k.tags;
     if s.out {
-        if k.passed {
+        if let Some(byte) = k.passed {
             return Declared {
                 number: 56,
-                count: k.byte,
+                count: byte,
             };
         }
         if tally.productions == 0 {
@@ -131,9 +131,9 @@ fn over(
             productions,
             nodes,
         );
-        if s.halt != 0 {
+        if let Some(number) = s.halt {
             return Declared {
-                number: s.halt,
+                number: number,
                 count: at,
             };
         }

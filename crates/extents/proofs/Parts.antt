@@ -6,6 +6,7 @@ use mathlib.Core.List.{List, [], ◌∷◌, map}
 use Prim.Native.Nat.{ℕ, zero, suc, ◌+◌, ◌*◌, ◌-◌, ◌≤◌, ◌<◌}
 use native.Mathlib.Omega.{arith}
 use lib.ListN.{length, length-map, get_or}
+use Rattle.std.specs.Prelude.{Option as Side, Some, None}
 use Rattle.outlines.specs.Extents as outlines
 use Rattle.outlines.specs.Extents.{extent, paired, in_turn, branching, vacant}
 use Rattle.outlines.specs.Conditions as conditions
@@ -14,8 +15,6 @@ use Rattle.outlines.specs.Statements as statements
 use Rattle.outlines.specs.Statements.{among, then_of, else_of_lem, wrapped, wrapped_in, closed_list}
 use Rattle.outlines.specs.Shape.{ExtentUnder, LayerUnder, LayersUnder, SideUnder, MarginUnder, MarginsUnder}
 use Rattle.extents.specs.declared.Extent.{Extent}
-use Rattle.extents.specs.declared.Side.{Side}
-use Rattle.extents.specs.declared.Side.TheVariants.{Blank, Of}
 use Rattle.extents.specs.declared.Margin.{Margin}
 use Rattle.extents.specs.declared.Layer.{Layer}
 use Rattle.extents.specs.declared.Layer.TheVariants.{Among, Then, Else}
@@ -37,13 +36,13 @@ pub extent_sized : {e : Extent} → ExtentUnder 1000 (extent_of e) → SmallExte
 extent_sized h = sized {n = 1000} (omega arith) h
 
 -- sides
-pub side_sized : (o : Side) (e : Extent) → o ≡ Of e → SideUnder 1000 (side_of o) → SmallExtent e
+pub side_sized : (o : Side Extent) (e : Extent) → o ≡ Some e → SideUnder 1000 (side_of o) → SmallExtent e
 side_sized o e q h = sized {n = 1000} (omega arith) (subst (λ x. SideUnder 1000 (side_of x)) q h)
 
-pub paired_of : (o : Side) (e d r : Extent) → o ≡ Of e → ExtentIs r (paired (extent_of e) (extent_of d)) → ExtentIs r (paired_with (side_of o) (extent_of d))
+pub paired_of : (o : Side Extent) (e d r : Extent) → o ≡ Some e → ExtentIs r (paired (extent_of e) (extent_of d)) → ExtentIs r (paired_with (side_of o) (extent_of d))
 paired_of o e d r q h = subst (λ x. ExtentIs r (paired_with (side_of x) (extent_of d))) (sym q) h
 
-pub paired_blank : (o : Side) (d : Extent) → o ≡ Blank → ExtentIs d (paired_with (side_of o) (extent_of d))
+pub paired_blank : (o : Side Extent) (d : Extent) → o ≡ None → ExtentIs d (paired_with (side_of o) (extent_of d))
 paired_blank o d q = subst (λ x. ExtentIs d (paired_with (side_of x) (extent_of d))) (sym q) (record { bytes_are = refl; nested_is = refl })
 
 -- layers

@@ -1,5 +1,5 @@
 -- What the parts of a script stand for. Assumes nothing.
-use Rattle.std.specs.Prelude.{◌≡◌, Bool, true, false, List, [], ◌∷◌, ℕ, zero, suc, ◌≤◌, get_or}
+use Rattle.std.specs.Prelude.{Option as Side, Some, None, ◌≡◌, Bool, true, false, List, [], ◌∷◌, ℕ, zero, suc, ◌≤◌, get_or}
 use Rattle.std.proofs.Math.Option.{Option, none, some}
 use Rattle.outlines.specs.Extents as outlines
 use Rattle.outlines.specs.Extents.{extent}
@@ -7,8 +7,6 @@ use Rattle.outlines.specs.Conditions as conditions
 use Rattle.outlines.specs.Statements as statements
 use Rattle.outlines.specs.Shape.{most_layers}
 use Rattle.extents.specs.declared.Extent.{Extent}
-use Rattle.extents.specs.declared.Side.{Side}
-use Rattle.extents.specs.declared.Side.TheVariants.{Blank, Of}
 use Rattle.extents.specs.declared.Margin.{Margin}
 use Rattle.extents.specs.declared.Layer.{Layer}
 use Rattle.extents.specs.declared.Layer.TheVariants.{Among, Then, Else}
@@ -27,9 +25,10 @@ pub record SmallExtent (e : Extent) : Type 0 where
   pub few_bytes : e.bytes ≤ 1000000
   pub few_deep : e.nested ≤ 1000000
 
-abbrev pub side_of : Side → Option outlines.Extent
-side_of Blank = none
-side_of (Of e) = some (extent_of e)
+-- what stands left of an and or an or, if anything does
+abbrev pub side_of : Side Extent → Option outlines.Extent
+side_of None = none
+side_of (Some e) = some (extent_of e)
 
 abbrev pub margin_of : Margin → conditions.Margin
 margin_of m = conditions.margin (side_of m.or_left) (side_of m.and_left) m.nots
@@ -44,7 +43,7 @@ abbrev pub bare_around : Around
 bare_around = record { layer = Among (record { bytes = 0; nested = 0 }) }
 
 abbrev pub bare_margin : Margin
-bare_margin = record { or_left = Blank; and_left = Blank; nots = 0 }
+bare_margin = record { or_left = None; and_left = None; nots = 0 }
 
 -- what the first n stand for, the last of them first
 abbrev pub last_first : {X Y : Type 0} → (X → Y) → X → List X → ℕ → List Y

@@ -2,7 +2,7 @@
 
 #![tactic(auto)]
 
-ghost use Rattle.std.specs.Prelude.{◌≡◌, ◌&&◌, ◌≤◌, ◌<◌};
+ghost use Rattle.std.specs.Prelude.{◌≡◌, ◌≤◌, ◌<◌};
 ghost use Rattle.programs.specs.Parsed.{which_visit};
 ghost use Rattle.outlines.specs.Extents.{paired, in_turn, branching};
 ghost use Rattle.outlines.specs.Kinds.{is_target, is_operand, is_plain, is_short_item, is_long_item};
@@ -20,18 +20,11 @@ pub struct Extent {
     pub nested: usize,
 }
 
-// What stands left of an and or an or.
-#[derive(Clone, Copy)]
-pub enum Side {
-    Blank,
-    Of(Extent),
-}
-
-// What stands to the left within one pair of parentheses.
+// What stands to the left within one pair of parentheses: of an or, of an and, and how many nots.
 #[derive(Clone, Copy)]
 pub struct Margin {
-    pub or_left: Side,
-    pub and_left: Side,
+    pub or_left: Option<Extent>,
+    pub and_left: Option<Extent>,
     pub nots: usize,
 }
 
@@ -124,12 +117,6 @@ pub fn is_long_item(kind: usize) -> bool
     matches!(kind, 8 | 9)
 }
 
-pub fn both(a: bool, b: bool) -> bool
-    ensures { result ≡ (a && b) }
-{
-    a && b
-}
-
 // c and d, c or d.
 pub fn pair(c: Extent, d: Extent) -> Extent
     requires small_extent { SmallExtent c }
@@ -142,14 +129,15 @@ pub fn pair(c: Extent, d: Extent) -> Extent
     }
 }
 
-pub fn pair_with(o: Side, d: Extent) -> Extent
+// With what stands left of it, if anything does.
+pub fn pair_with(o: Option<Extent>, d: Extent) -> Extent
     requires side_under { SideUnder 1000 (side_of o) }
     requires small_extent { SmallExtent d }
     ensures { ExtentIs result (paired_with (side_of o) (extent_of d)) }
 {
     match o {
-        Side::Blank => d,
-        Side::Of(c) => pair(c, d),
+        None => d,
+        Some(c) => pair(c, d),
     }
 }
 

@@ -1,7 +1,7 @@
 // Files by name: one read whole, one read on into what is there already, and a new one made beside another to take its place.
 #![tactic(auto)]
 
-ghost use Rattle.std.specs.Prelude.{◌≡◌, ◌≤◌, min, length, false, is_some, is_ok, IfSome};
+ghost use Rattle.std.specs.Prelude.{◌≡◌, ◌≤◌, min, length, false, is_some, is_ok, IfSome, IfOk};
 ghost use Rattle.io.specs.Counts.{IsPrefixLen};
 ghost use Rattle.files.specs.Moved.{MovedAs};
 
@@ -12,6 +12,7 @@ use std::os::unix::fs::{FileExt, OpenOptionsExt, PermissionsExt};
 use std::random::RandomSource;
 
 // What reading came to: how many bytes of the memory are in use, whether the file has no more, and whether a read failed.
+// A flag, and no Result: what was read before a read failed is used too, as where the bytes behind a refusal are shown.
 #[derive(Clone, Copy)]
 pub struct Filled {
     pub held: usize,
@@ -26,7 +27,7 @@ pub struct Opened {
     error: Option<Error>,
 }
 
-// A new file, which is none where it could not be made, and how long its name is.
+// A new file, and how long its name is.
 #[derive(Drop)]
 pub struct New {
     pub file: Opened,
@@ -41,7 +42,8 @@ const OWNERS: u32 = 0o600;
 // Standard error, as io numbers it.
 pub const STDERR_FILENO: i32 = 2;
 
-// What the system says of a file that is not open, of a name that a file has, of a name that is none, and of a listener who is gone.
+// What the system says of a file that is not open, of a name that a file has, of a name that is none, and of a listener who is gone. Numbers: what users are told
+// is the text of an error that is made from one.
 const NOT_OPEN: i32 = 9;
 
 const TAKEN: i32 = 17;
@@ -351,21 +353,18 @@ fn create_readable(rt: HostRuntime, name: &mut [u8]) -> Result<File> {
 }
 
 // Makes a new, empty file beside the one at path, puts its name at the start of the memory, and opens it for writing.
-pub fn new_beside(rt: HostRuntime, path: &[u8], name: &mut [u8]) -> New
-    ensures { IsPrefixLen result.length name.new }
+pub fn new_beside(rt: HostRuntime, path: &[u8], name: &mut [u8]) -> Result<New>
+    ensures { IfOk result (λ made. IsPrefixLen made.length name.new) }
 {
     let n = name_beside(path, name);
-    let file = Opened::made(create_readable(rt, &mut name[..n]));
-    if !file.is_open() {
-        return New {
-            file: file,
-            length: 0,
-        };
-    }
-    New {
-        file: file,
+    let file = create_readable(rt, &mut name[..n])?;
+    Ok(New {
+        file: Opened {
+            file: Some(file),
+            error: None,
+        },
         length: within(n, name),
-    }
+    })
 }
 
 // How many of a path's bytes name a folder: those up to its last slash, none where it has none.

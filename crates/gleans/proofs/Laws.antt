@@ -1,9 +1,9 @@
 -- The strings of statements and lists, from those of their parts. Assumes nothing.
-use mathlib.Core.Path.{◌≡◌, refl, sym, ap, ◌∙◌, subst}
-use mathlib.Core.Logic.{◌⊎◌, inl, inr}
-use mathlib.Core.Bool.{Bool, true, false, true≢false, cond, ◌||◌}
+use mathlib.Core.Path.{◌≡◌, refl, ap, ◌∙◌, subst}
+use Rattle.std.specs.Prelude.{Option, Some, None}
+use mathlib.Core.Bool.{false, true≢false}
 use mathlib.Core.List.{List, [], ◌∷◌, ◌++◌}
-use Prim.Native.Nat.{ℕ, suc, ◌+◌, ◌-◌, ◌*◌, ◌/◌, ◌%◌, ◌≤◌, ◌<◌}
+use Prim.Native.Nat.{ℕ, suc, ◌+◌, ◌-◌, ◌/◌, ◌%◌, ◌≤◌, ◌<◌}
 use native.Mathlib.Omega.{arith}
 use lib.ListN.{length, get_or, take, drop, length-drop, length-append}
 use Rattle.text.specs.Chars.{Starts}
@@ -17,15 +17,12 @@ use Rattle.naming.specs.ByName.{statement_named, program_named}
 use Rattle.visits.specs.Evaluated.{LiesAt}
 use Rattle.visits.proofs.Lying.{statement_of}
 use Rattle.glances.specs.Glances.{EndsAt}
-use Rattle.glances.proofs.Laws.{nothing_lies, BranchLies, branch_lies, rest_lies, first_lies, not_done}
-use Rattle.encoding.specs.Distinct.{has, equal, AllDifferent, distinct, run_together}
-use Rattle.encoding.proofs.Stored.{added_different}
-use Rattle.stores.specs.Rows.{RowsIn, HasRows}
+use Rattle.glances.proofs.Laws.{nothing_lies, branch_lies, rest_lies, first_lies, not_done}
+use Rattle.encoding.specs.Distinct.{has, AllDifferent, run_together}
+use Rattle.stores.specs.Rows.{HasRows}
 use Rattle.stores.specs.Filed.{FiledIs}
-use Rattle.stores.specs.Mentioned.{TooManyFor}
 use Rattle.stores.specs.declared.Filed.{Filed}
-use Rattle.gleans.specs.Gleans.{StoredIf, KeptAs, StringIs, StatementStrings, ListStrings}
-use Rattle.gleans.specs.declared.Kept.{Kept}
+use Rattle.gleans.specs.Gleans.{KeptAs, StringIs, StatementStrings, ListStrings}
 use Rattle.gleans.proofs.Stored.{rows_few, Parts, Any, kept_nothing, kept_as, kept_stop, kept_then, kept_of, row_kept}
 
 pub strings_append : (x y : List Mention) → strings_mentioned (x ++ y) ≡ strings_mentioned x ++ strings_mentioned y
@@ -35,7 +32,7 @@ strings_append (a_string s ∷ x) y = ap (λ (l : List (List ℕ)). s ∷ l) (st
 strings_append (a_program p ∷ x) y = strings_append x y
 
 module _ (bytes ends : List ℕ) (count : ℕ) (h : HasRows bytes ends count) where
-  pub no_string : (strings : List ℕ) (o n : ℕ) → length strings < o + n → KeptAs (StringIs strings o n) bytes ends count (record { ok = true; count = count }) bytes ends
+  pub no_string : (strings : List ℕ) (o n : ℕ) → length strings < o + n → KeptAs (StringIs strings o n) bytes ends count (Some count) bytes ends
   no_string strings o n f = kept_nothing (StringIs strings o n) bytes ends count h (λ m u. absurd (omega (arith, u.inside)))
 
   pub string_kept : (strings : List ℕ) (o n : ℕ) (b e : List ℕ) (r w : Filed) → r ≡ w → FiledIs bytes ends count (take (o + n - o) (drop o strings)) b e r → length b ≡ length bytes → length e ≡ length ends
@@ -51,18 +48,18 @@ module _ (bytes ends : List ℕ) (count : ℕ) (h : HasRows bytes ends count) wh
       omega (arith, le, rows_few b e (count + 1) (record { rows = h.rows ++ x ∷ []; are = A.rows }))
 
   module _ (s strings : List ℕ) (i : ℕ) where
-    pub list_cut : length s ≤ i → KeptAs (ListStrings s strings i) bytes ends count (record { ok = true; count = count }) bytes ends
+    pub list_cut : length s ≤ i → KeptAs (ListStrings s strings i) bytes ends count (Some count) bytes ends
     list_cut f = kept_nothing (ListStrings s strings i) bytes ends count h (λ m u. absurd (nothing_lies s i f u.thing u.lies))
 
     module _ (k : i < length s) where
-      pub list_ends : get_or s i 0 ≡ 0 → KeptAs (ListStrings s strings i) bytes ends count (record { ok = true; count = count }) bytes ends
+      pub list_ends : get_or s i 0 ≡ 0 → KeptAs (ListStrings s strings i) bytes ends count (Some count) bytes ends
       list_ends z = kept_nothing (ListStrings s strings i) bytes ends count h (λ m u. u.are ∙ go u.sheet u.thing u.lies)
         where
           go : (a : Sheet) (p : Program) → LiesAt program_bytes s i p → strings_mentioned (in_program (program_named a p)) ≡ []
           go a done st = refl
           go a (step t p) st = absurd (statement_of s i k z t (first_lies s i t p st))
 
-      pub no_print : (get_or s i 0 ≡ 7 → ⊥) → (get_or s i 0 ≡ 10 → ⊥) → KeptAs (StatementStrings s strings i) bytes ends count (record { ok = true; count = count }) bytes ends
+      pub no_print : (get_or s i 0 ≡ 7 → ⊥) → (get_or s i 0 ≡ 10 → ⊥) → KeptAs (StatementStrings s strings i) bytes ends count (Some count) bytes ends
       no_print f7 f10 = kept_nothing (StatementStrings s strings i) bytes ends count h (λ m u. u.are ∙ go u.sheet u.thing u.lies)
         where
           go : (a : Sheet) (t : Statement) → LiesAt statement_bytes s i t → strings_mentioned (in_statement (statement_named a t)) ≡ []
@@ -78,7 +75,7 @@ module _ (bytes ends : List ℕ) (count : ℕ) (h : HasRows bytes ends count) wh
 
 module _ (s strings : List ℕ) (i : ℕ) (h : i < length s) (bytes ends : List ℕ) (count : ℕ) where
   -- ---- a print
-  pub print_cut : HasRows bytes ends count → get_or s i 0 ≡ 7 → length s - i < 4 → KeptAs (StatementStrings s strings i) bytes ends count (record { ok = true; count = count }) bytes ends
+  pub print_cut : HasRows bytes ends count → get_or s i 0 ≡ 7 → length s - i < 4 → KeptAs (StatementStrings s strings i) bytes ends count (Some count) bytes ends
   print_cut rows k f = kept_nothing (StatementStrings s strings i) bytes ends count rows (λ m u. absurd (no u.thing u.lies))
     where
       no : (t : Statement) → LiesAt statement_bytes s i t → ⊥
@@ -86,7 +83,7 @@ module _ (s strings : List ℕ) (i : ℕ) (h : i < length s) (bytes ends : List 
           let z = statement_of s i h k t st in
           omega (arith, starts_length (drop i s) (7 ∷ (z.0 % 256) ∷ (z.0 / 256) ∷ z.1 ∷ []) (rw z.2 at st), length-drop i s)
 
-  pub print_kept : get_or s i 0 ≡ 7 → (o n : ℕ) → o ≡ word_at s (i + 1) → n ≡ byte_at s (i + 3) → (r : Kept) (b e : List ℕ)
+  pub print_kept : get_or s i 0 ≡ 7 → (o n : ℕ) → o ≡ word_at s (i + 1) → n ≡ byte_at s (i + 3) → (r : Option ℕ) (b e : List ℕ)
       → KeptAs (StringIs strings o n) bytes ends count r b e → KeptAs (StatementStrings s strings i) bytes ends count r b e
   print_kept k o n ois nis r b e = kept_as (StatementStrings s strings i) bytes ends count (StringIs strings o n) r b e go
     where
@@ -107,9 +104,9 @@ module _ (s strings : List ℕ) (i : ℕ) (h : i < length s) (bytes ends : List 
           rw (same, long) (record { inside = fits.inside; is = rw T.strings_are at due })
 
   -- ---- a list: its first statement, and the rest
-  module _ (k : get_or s i 0 ≡ 0 → ⊥) (r : Kept) (b e : List ℕ) (K : KeptAs (StatementStrings s strings i) bytes ends count r b e) where
-    pub list_stops : r.ok ≡ false → KeptAs (ListStrings s strings i) bytes ends count r b e
-    list_stops z = kept_stop (ListStrings s strings i) bytes ends count (StatementStrings s strings i) r b e K z (λ m u. go m u.sheet u.strings_are u.thing u.lies u.fits u.are)
+  module _ (k : get_or s i 0 ≡ 0 → ⊥) (b e : List ℕ) where
+    pub list_stops : (r : Option ℕ) → r ≡ None → KeptAs (StatementStrings s strings i) bytes ends count None b e → KeptAs (ListStrings s strings i) bytes ends count r b e
+    list_stops r z K = kept_stop (ListStrings s strings i) bytes ends count (StatementStrings s strings i) b e r z K (λ m u. go m u.sheet u.strings_are u.thing u.lies u.fits u.are)
       where
         go : (m : List (List ℕ)) (a : Sheet) → a.strings ≡ strings → (p : Program) → LiesAt program_bytes s i p → StatementsFit (length a.names) strings p → m ≡ strings_mentioned (in_program (program_named a p))
             → Parts (StatementStrings s strings i) Any m
@@ -122,8 +119,9 @@ module _ (s strings : List ℕ) (i : ℕ) (h : i < length s) (bytes ends : List 
           is = w ∙ strings_append (in_statement (statement_named a t)) (in_program (program_named a p));
         }
 
-    pub list_goes : r.ok ≡ true → (n : ℕ) → EndsAt statement_bytes 1 s i n → (q : Kept) (b' e' : List ℕ) → KeptAs (ListStrings s strings n) b e r.count q b' e' → KeptAs (ListStrings s strings i) bytes ends count q b' e'
-    list_goes z n N q b' e' Q = kept_then (ListStrings s strings i) bytes ends count (StatementStrings s strings i) r b e K (ListStrings s strings n) q b' e' z Q (λ m u. go m u.sheet u.strings_are u.thing u.lies u.fits u.are)
+    pub list_goes : (more : ℕ) → KeptAs (StatementStrings s strings i) bytes ends count (Some more) b e → (n : ℕ) → EndsAt statement_bytes 1 s i n → (q : Option ℕ) (b' e' : List ℕ) → KeptAs (ListStrings s strings n) b e more q b' e'
+        → KeptAs (ListStrings s strings i) bytes ends count q b' e'
+    list_goes more K n N q b' e' Q = kept_then (ListStrings s strings i) bytes ends count (StatementStrings s strings i) b e (ListStrings s strings n) more q b' e' K Q (λ m u. go m u.sheet u.strings_are u.thing u.lies u.fits u.are)
       where
         go : (m : List (List ℕ)) (a : Sheet) → a.strings ≡ strings → (p : Program) → LiesAt program_bytes s i p → StatementsFit (length a.names) strings p → m ≡ strings_mentioned (in_program (program_named a p))
             → Parts (StatementStrings s strings i) (ListStrings s strings n) m
@@ -137,9 +135,9 @@ module _ (s strings : List ℕ) (i : ℕ) (h : i < length s) (bytes ends : List 
         }
 
   -- ---- an if: its two lists
-  module _ (k : get_or s i 0 ≡ 10) (c : ℕ) (C : EndsAt condition_bytes 0 s (i + 1) c) (r : Kept) (b e : List ℕ) (K : KeptAs (ListStrings s strings c) bytes ends count r b e) where
-    pub if_stops : r.ok ≡ false → KeptAs (StatementStrings s strings i) bytes ends count r b e
-    if_stops z = kept_stop (StatementStrings s strings i) bytes ends count (ListStrings s strings c) r b e K z go
+  module _ (k : get_or s i 0 ≡ 10) (c : ℕ) (C : EndsAt condition_bytes 0 s (i + 1) c) (b e : List ℕ) where
+    pub if_stops : (r : Option ℕ) → r ≡ None → KeptAs (ListStrings s strings c) bytes ends count None b e → KeptAs (StatementStrings s strings i) bytes ends count r b e
+    if_stops r z K = kept_stop (StatementStrings s strings i) bytes ends count (ListStrings s strings c) b e r z K go
       where
         go : (m : List (List ℕ)) → StatementStrings s strings i m → Parts (ListStrings s strings c) Any m
         go m u =
@@ -157,8 +155,9 @@ module _ (s strings : List ℕ) (i : ℕ) (h : i < length s) (bytes ends : List 
               is = u.are ∙ ap (λ (x : Statement). strings_mentioned (in_statement (statement_named a x))) w.3 ∙ strings_append (in_program (program_named a l)) (in_program (program_named a q));
             }
 
-    pub if_goes : r.ok ≡ true → (n : ℕ) → EndsAt program_bytes 0 s c n → (q : Kept) (b' e' : List ℕ) → KeptAs (ListStrings s strings n) b e r.count q b' e' → KeptAs (StatementStrings s strings i) bytes ends count q b' e'
-    if_goes z n N q b' e' Q = kept_then (StatementStrings s strings i) bytes ends count (ListStrings s strings c) r b e K (ListStrings s strings n) q b' e' z Q go
+    pub if_goes : (more : ℕ) → KeptAs (ListStrings s strings c) bytes ends count (Some more) b e → (n : ℕ) → EndsAt program_bytes 0 s c n → (q : Option ℕ) (b' e' : List ℕ) → KeptAs (ListStrings s strings n) b e more q b' e'
+        → KeptAs (StatementStrings s strings i) bytes ends count q b' e'
+    if_goes more K n N q b' e' Q = kept_then (StatementStrings s strings i) bytes ends count (ListStrings s strings c) b e (ListStrings s strings n) more q b' e' K Q go
       where
         go : (m : List (List ℕ)) → StatementStrings s strings i m → Parts (ListStrings s strings c) (ListStrings s strings n) m
         go m u =

@@ -1,10 +1,10 @@
 -- Strings kept one after another: nothing is due; what is due is kept in two parts; or its first part does not fit, and then all of it does not.
 -- Assumes nothing.
 use mathlib.Core.Path.{◌≡◌, refl, sym, ap, ◌∙◌, subst}
-use mathlib.Core.Logic.{◌⊎◌, inl, inr}
-use mathlib.Core.Bool.{Bool, true, false, true≢false}
+use mathlib.Core.Logic.{inl, inr}
+use Rattle.std.specs.Prelude.{Option, Some, None, IfSome}
 use mathlib.Core.List.{List, [], ◌∷◌, ◌++◌, append-nil, append_assoc}
-use Prim.Native.Nat.{ℕ, ◌+◌, ◌≤◌, ◌<◌}
+use Prim.Native.Nat.{ℕ, ◌+◌, ◌≤◌}
 use native.Mathlib.Omega.{arith}
 use lib.ListN.{length, length-append}
 use Rattle.encoding.specs.Distinct.{distinct, added, run_together}
@@ -16,7 +16,6 @@ use Rattle.stores.proofs.Behind.{together}
 use Rattle.stores.proofs.Grows.{grows_behind}
 use Rattle.stores.proofs.Mentioning.{stores_mentions}
 use Rattle.gleans.specs.Gleans.{StoredIf, KeptAs}
-use Rattle.gleans.specs.declared.Kept.{Kept}
 
 -- as many as have an end
 ends_many : (at : ℕ) (l : List (List ℕ)) → length (ends_from at l) ≡ length l
@@ -48,57 +47,55 @@ abbrev pub Any : List (List ℕ) → Type 0
 Any m = Unit {0}
 
 module _ (Due : List (List ℕ) → Type 0) (bytes ends : List ℕ) (count : ℕ) where
-  pub kept_nothing : HasRows bytes ends count → ((m : List (List ℕ)) → Due m → m ≡ []) → KeptAs Due bytes ends count (record { ok = true; count = count }) bytes ends
+  pub kept_nothing : HasRows bytes ends count → ((m : List (List ℕ)) → Due m → m ≡ []) → KeptAs Due bytes ends count (Some count) bytes ends
   kept_nothing h f =
       record {
         same_bytes = refl;
         same_ends = refl;
-        rows = λ z. h;
+        rows = h;
         right = λ m u l R. subst (λ (x : List (List ℕ)). RowsIn bytes ends count (distinct (l ++ x))) (sym (f m u)) (subst (λ (x : List (List ℕ)). RowsIn bytes ends count (distinct x)) (sym (append-nil l)) R);
       }
 
-  pub kept_as : (Other : List (List ℕ) → Type 0) (r : Kept) (bytes_after ends_after : List ℕ) → ((m : List (List ℕ)) → Due m → Other m) → KeptAs Other bytes ends count r bytes_after ends_after → KeptAs Due bytes ends count r bytes_after ends_after
+  pub kept_as : (Other : List (List ℕ) → Type 0) (r : Option ℕ) (bytes_after ends_after : List ℕ) → ((m : List (List ℕ)) → Due m → Other m) → KeptAs Other bytes ends count r bytes_after ends_after → KeptAs Due bytes ends count r bytes_after ends_after
   kept_as Other r b e f K = record { same_bytes = K.same_bytes; same_ends = K.same_ends; rows = K.rows; right = λ m u l R. K.right m (f m u) l R }
 
-  module _ (First : List (List ℕ) → Type 0) (r : Kept) (b e : List ℕ) (K : KeptAs First bytes ends count r b e) where
-    pub kept_stop : r.ok ≡ false → ((m : List (List ℕ)) → Due m → Parts First Any m) → KeptAs Due bytes ends count r b e
-    kept_stop z f = record { same_bytes = K.same_bytes; same_ends = K.same_ends; rows = K.rows; right = go }
+  module _ (First : List (List ℕ) → Type 0) (b e : List ℕ) where
+    pub kept_stop : (r : Option ℕ) → r ≡ None → KeptAs First bytes ends count None b e → ((m : List (List ℕ)) → Due m → Parts First Any m) → KeptAs Due bytes ends count r b e
+    kept_stop r z K f = subst (λ (v : Option ℕ). KeptAs Due bytes ends count v b e) (sym z) (record { same_bytes = K.same_bytes; same_ends = K.same_ends; rows = tt; right = go })
       where
-        go : (m : List (List ℕ)) → Due m → (l : List (List ℕ)) → RowsIn bytes ends count (distinct l) → StoredIf r.ok (distinct (l ++ m)) b e r.count
+        go : (m : List (List ℕ)) → Due m → (l : List (List ℕ)) → RowsIn bytes ends count (distinct l) → TooManyFor (distinct (l ++ m)) b e
         go m u l R =
             let p = f m u in
-            let t : TooManyFor (distinct (l ++ p.front)) b e = subst (λ (v : Bool). StoredIf v (distinct (l ++ p.front)) b e r.count) z (K.right p.front p.front_due l R) in
-            let more = more_too_many (l ++ p.front) p.back b e t in
+            let more = more_too_many (l ++ p.front) p.back b e (K.right p.front p.front_due l R) in
             let all : (l ++ p.front) ++ p.back ≡ l ++ m = append_assoc l p.front p.back ∙ ap (λ (x : List (List ℕ)). l ++ x) (sym p.is) in
-            subst (λ (v : Bool). StoredIf v (distinct (l ++ m)) b e r.count) (sym z) (subst (λ (x : List (List ℕ)). TooManyFor (distinct x) b e) all more)
+            subst (λ (x : List (List ℕ)). TooManyFor (distinct x) b e) all more
 
-    pub kept_then : (Second : List (List ℕ) → Type 0) (q : Kept) (b' e' : List ℕ) → r.ok ≡ true → KeptAs Second b e r.count q b' e' → ((m : List (List ℕ)) → Due m → Parts First Second m)
+    pub kept_then : (Second : List (List ℕ) → Type 0) (n : ℕ) (q : Option ℕ) (b' e' : List ℕ) → KeptAs First bytes ends count (Some n) b e → KeptAs Second b e n q b' e' → ((m : List (List ℕ)) → Due m → Parts First Second m)
         → KeptAs Due bytes ends count q b' e'
-    kept_then Second q b' e' z Q f = record { same_bytes = Q.same_bytes ∙ K.same_bytes; same_ends = Q.same_ends ∙ K.same_ends; rows = Q.rows; right = go }
+    kept_then Second n q b' e' K Q f = record { same_bytes = Q.same_bytes ∙ K.same_bytes; same_ends = Q.same_ends ∙ K.same_ends; rows = Q.rows; right = go }
       where
-        go : (m : List (List ℕ)) → Due m → (l : List (List ℕ)) → RowsIn bytes ends count (distinct l) → StoredIf q.ok (distinct (l ++ m)) b' e' q.count
+        go : (m : List (List ℕ)) → Due m → (l : List (List ℕ)) → RowsIn bytes ends count (distinct l) → StoredIf q (distinct (l ++ m)) b' e'
         go m u l R =
             let p = f m u in
-            let x : RowsIn b e r.count (distinct (l ++ p.front)) = subst (λ (v : Bool). StoredIf v (distinct (l ++ p.front)) b e r.count) z (K.right p.front p.front_due l R) in
             let all : (l ++ p.front) ++ p.back ≡ l ++ m = append_assoc l p.front p.back ∙ ap (λ (x : List (List ℕ)). l ++ x) (sym p.is) in
-            subst (λ (x : List (List ℕ)). StoredIf q.ok (distinct x) b' e' q.count) all (Q.right p.back p.back_due (l ++ p.front) x)
+            subst (λ (x : List (List ℕ)). StoredIf q (distinct x) b' e') all (Q.right p.back p.back_due (l ++ p.front) (K.right p.front p.front_due l R))
 
 -- ---- a row
-abbrev pub kept_of : Filed → ℕ → Kept
-kept_of (Filed.There p o) n = record { ok = true; count = n }
-kept_of (Filed.Added p o) n = record { ok = true; count = n + 1 }
-kept_of Filed.Full n = record { ok = false; count = n }
+abbrev pub kept_of : Filed → ℕ → Option ℕ
+kept_of (Filed.There p o) n = Some n
+kept_of (Filed.Added p o) n = Some (n + 1)
+kept_of Filed.Full n = None
 
 module _ (bytes ends : List ℕ) (count : ℕ) (x b e : List ℕ) where
-  still_rows : (r : Filed) (l : List (List ℕ)) → RowsIn bytes ends count l → FiledAs l x bytes ends count b e r → (kept_of r count).ok ≡ true → HasRows b e (kept_of r count).count
-  still_rows (Filed.There p o) l R (t, s) z = record {
+  still_rows : (r : Filed) (l : List (List ℕ)) → RowsIn bytes ends count l → FiledAs l x bytes ends count b e r → IfSome (kept_of r count) (HasRows b e)
+  still_rows (Filed.There p o) l R (t, s) = record {
     rows = l;
     are = subst (λ (y : List ℕ). RowsIn y e count l) (sym s.same_bytes) (subst (λ (y : List ℕ). RowsIn bytes y count l) (sym s.same_ends) R);
   }
-  still_rows (Filed.Added p o) l R a z = record { rows = l ++ x ∷ []; are = a.rows }
-  still_rows Filed.Full l R f z = absurd (true≢false (sym z))
+  still_rows (Filed.Added p o) l R a = record { rows = l ++ x ∷ []; are = a.rows }
+  still_rows Filed.Full l R f = tt
 
-  stored : (r : Filed) (l : List (List ℕ)) → MentionedAs l x count b e r → StoredIf (kept_of r count).ok (distinct (l ++ x ∷ [])) b e (kept_of r count).count
+  stored : (r : Filed) (l : List (List ℕ)) → MentionedAs l x count b e r → StoredIf (kept_of r count) (distinct (l ++ x ∷ [])) b e
   stored (Filed.There p o) l m = m.rows
   stored (Filed.Added p o) l m = m.rows
   stored Filed.Full l m = m
@@ -110,5 +107,5 @@ module _ (bytes ends : List ℕ) (count : ℕ) (x b e : List ℕ) where
         same_bytes = lb;
         same_ends = le;
         rows = still_rows r h.rows h.are (F.is h.rows h.are);
-        right = λ m u l R. subst (λ (y : List (List ℕ)). StoredIf (kept_of r count).ok (distinct (l ++ y)) b e (kept_of r count).count) (sym (f m u)) (stored r l (stores_mentions l x bytes ends count b e r R F));
+        right = λ m u l R. subst (λ (y : List (List ℕ)). StoredIf (kept_of r count) (distinct (l ++ y)) b e) (sym (f m u)) (stored r l (stores_mentions l x bytes ends count b e r R F));
       }

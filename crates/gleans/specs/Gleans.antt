@@ -1,6 +1,6 @@
 -- Strings that programs print, each kept once in a store: what a function that keeps some of them answers and leaves; and which strings a statement
 -- or a list of statements prints that lies in a program section. Assumes nothing.
-use Rattle.std.specs.Prelude.{◌≡◌, Bool, true, false, List, [], ◌∷◌, ◌++◌, ℕ, ◌+◌, ◌≤◌, length, take, drop}
+use Rattle.std.specs.Prelude.{◌≡◌, Option, Some, None, IfSome, List, [], ◌∷◌, ◌++◌, ℕ, ◌+◌, ◌≤◌, length, take, drop}
 use Rattle.programs.specs.Program.{statement_bytes, program_bytes}
 use Rattle.programs.specs.Limits.{StatementFits, StatementsFit}
 use Rattle.sheet.specs.Sheet.{Sheet}
@@ -10,19 +10,18 @@ use Rattle.naming.specs.ByName.{statement_named, program_named}
 use Rattle.visits.specs.Evaluated.{LiesAt}
 use Rattle.stores.specs.Rows.{RowsIn, HasRows}
 use Rattle.stores.specs.Mentioned.{TooManyFor}
-use Rattle.gleans.specs.declared.Kept.{Kept}
 
 -- they are the rows of the store, or they do not fit in it
-abbrev pub StoredIf : Bool → List (List ℕ) → List ℕ → List ℕ → ℕ → Type 0
-StoredIf true l bytes ends count = RowsIn bytes ends count l
-StoredIf false l bytes ends count = TooManyFor l bytes ends
+abbrev pub StoredIf : Option ℕ → List (List ℕ) → List ℕ → List ℕ → Type 0
+StoredIf (Some count) l bytes ends = RowsIn bytes ends count l
+StoredIf None l bytes ends = TooManyFor l bytes ends
 
 -- behind all strings l that were kept before, all strings m that are due are kept, or they do not fit
-pub record KeptAs (Due : List (List ℕ) → Type 0) (bytes ends : List ℕ) (count : ℕ) (r : Kept) (bytes_after ends_after : List ℕ) : Type 0 where
+pub record KeptAs (Due : List (List ℕ) → Type 0) (bytes ends : List ℕ) (count : ℕ) (r : Option ℕ) (bytes_after ends_after : List ℕ) : Type 0 where
   pub same_bytes : length bytes_after ≡ length bytes
   pub same_ends : length ends_after ≡ length ends
-  pub rows : r.ok ≡ true → HasRows bytes_after ends_after r.count
-  pub right : (m : List (List ℕ)) → Due m → (l : List (List ℕ)) → RowsIn bytes ends count (distinct l) → StoredIf r.ok (distinct (l ++ m)) bytes_after ends_after r.count
+  pub rows : IfSome r (HasRows bytes_after ends_after)
+  pub right : (m : List (List ℕ)) → Due m → (l : List (List ℕ)) → RowsIn bytes ends count (distinct l) → StoredIf r (distinct (l ++ m)) bytes_after ends_after
 
 -- the string that n bytes from o on are
 pub record StringIs (strings : List ℕ) (o n : ℕ) (m : List (List ℕ)) : Type 0 where

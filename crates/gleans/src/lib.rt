@@ -6,14 +6,7 @@ ghost use Rattle.std.specs.Prelude.{◌≡◌, ◌+◌, ◌≤◌, ◌<◌, leng
 ghost use Rattle.stores.specs.Rows.{HasRows};
 ghost use Rattle.gleans.specs.Gleans.{KeptAs, StringIs, StatementStrings, ListStrings};
 
-// Whether all strings so far have room, and how many they are.
-#[derive(Clone, Copy)]
-pub struct Kept {
-    pub ok: bool,
-    pub count: usize,
-}
-
-// Keeps n bytes of the strings from o on.
+// Keeps n bytes of the strings from o on. Where all strings so far have room, the answer here and below is how many they are.
 fn keep_string(
     strings: &[u8],
     o: usize,
@@ -21,31 +14,19 @@ fn keep_string(
     bytes: &mut [u8],
     ends: &mut [usize],
     count: usize,
-) -> Kept
+) -> Option<usize>
     requires { (o < 65536) × (n < 256) × HasRows bytes.old ends.old count }
     ensures { KeptAs (StringIs strings.now o n) bytes.old ends.old count result bytes.new ends.new }
 {
     let e = o + n;
     if strings.len() < e {
-        return Kept {
-            ok: true,
-            count: count,
-        };
+        return Some(count);
     }
     let filed = stores::keep(bytes, ends, count, &strings[o..e]);
     match filed {
-        stores::Filed::There(_, _) => Kept {
-            ok: true,
-            count: count,
-        },
-        stores::Filed::Added(_, _) => Kept {
-            ok: true,
-            count: count + 1,
-        },
-        stores::Filed::Full => Kept {
-            ok: false,
-            count: count,
-        },
+        stores::Filed::There(_, _) => Some(count),
+        stores::Filed::Added(_, _) => Some(count + 1),
+        stores::Filed::Full => None,
     }
 }
 
@@ -57,21 +38,15 @@ fn keep_plain(
     bytes: &mut [u8],
     ends: &mut [usize],
     count: usize,
-) -> Kept
+) -> Option<usize>
     requires { (i < length s.now) × (length s.now ≤ 65536) × (get_or s.now i 0 ≡ 10 → ⊥) × HasRows bytes.old ends.old count }
     ensures { KeptAs (StatementStrings s.now strings.now i) bytes.old ends.old count result bytes.new ends.new }
 {
     if s[i] != 7 {
-        return Kept {
-            ok: true,
-            count: count,
-        };
+        return Some(count);
     }
     if s.len() - i < 4 {
-        return Kept {
-            ok: true,
-            count: count,
-        };
+        return Some(count);
     }
     let o = layout::word_at(s, i + 1);
     let n = layout::byte_at(s, i + 3);
@@ -87,7 +62,7 @@ fn keep_statement(
     bytes: &mut [u8],
     ends: &mut [usize],
     count: usize,
-) -> Kept
+) -> Option<usize>
     requires { (i < length s.now) × (length s.now ≤ 65536) × HasRows bytes.old ends.old count }
     ensures { KeptAs (StatementStrings s.now strings.now i) bytes.old ends.old count result bytes.new ends.new }
 {
@@ -95,12 +70,9 @@ fn keep_statement(
         return keep_plain(s, i, strings, bytes, ends, count);
     }
     let c = glances::past_condition(s, i + 1);
-    let l = keep_list(s, c, strings, bytes, ends, count);
-    if l.ok {
-        let m = glances::past_list(s, c);
-        return keep_list(s, m, strings, bytes, ends, l.count);
-    }
-    l
+    let l = keep_list(s, c, strings, bytes, ends, count)?;
+    let m = glances::past_list(s, c);
+    keep_list(s, m, strings, bytes, ends, l)
 }
 
 // Keeps the strings that the statements from i on print, to the 0 that ends them.
@@ -112,26 +84,17 @@ pub fn keep_list(
     bytes: &mut [u8],
     ends: &mut [usize],
     count: usize,
-) -> Kept
+) -> Option<usize>
     requires { (i ≤ length s.now) × (length s.now ≤ 65536) × HasRows bytes.old ends.old count }
     ensures { KeptAs (ListStrings s.now strings.now i) bytes.old ends.old count result bytes.new ends.new }
 {
     if s.len() <= i {
-        return Kept {
-            ok: true,
-            count: count,
-        };
+        return Some(count);
     }
     if s[i] == 0 {
-        return Kept {
-            ok: true,
-            count: count,
-        };
+        return Some(count);
     }
-    let t = keep_statement(s, i, strings, bytes, ends, count);
-    if t.ok {
-        let n = glances::past_statement(s, i);
-        return keep_list(s, n, strings, bytes, ends, t.count);
-    }
-    t
+    let t = keep_statement(s, i, strings, bytes, ends, count)?;
+    let n = glances::past_statement(s, i);
+    keep_list(s, n, strings, bytes, ends, t)
 }

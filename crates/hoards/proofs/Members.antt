@@ -3,11 +3,11 @@
 use mathlib.Core.Path.{◌≡◌, refl, sym, ap, ◌∙◌, subst}
 use mathlib.Core.List.{List, [], ◌∷◌, ◌++◌, append_assoc, append-nil}
 use mathlib.Core.Option.{Option, none, some}
-use Prim.Native.Nat.{ℕ, suc, ◌+◌, ◌≤◌, ◌<◌}
+use Prim.Native.Nat.{ℕ, suc, ◌+◌, ◌≤◌}
 use native.Mathlib.Omega.{arith}
 use lib.ListN.{length}
 use Rattle.layout.specs.Layout.{production_count, node_count}
-use Rattle.layout.specs.Records.{first_node_of, node_count_of, nodes_before, first_program_of, second_program_of, first_program_of_node, second_program_of_node}
+use Rattle.layout.specs.Records.{first_node_of, nodes_before, first_program_of, second_program_of, first_program_of_node, second_program_of_node}
 use Rattle.sheet.specs.Sheet.{Sheet}
 use Rattle.notation.specs.Program.{TextProgram}
 use Rattle.notation.specs.Rules.{TextVisits, Tree, node, Form, atom, cat, alt, star, empty, visits, visits_of, visits_inside, TextRule}

@@ -10,7 +10,6 @@ ghost use Rattle.gleans.specs.Gleans.{KeptAs};
 ghost use Rattle.hoards.specs.Hoards.{FieldStrings, BothStrings, EachStrings, FitsIs};
 
 use asides::NONE;
-use gleans::Kept;
 use layout::Layout;
 
 // Keeps the strings of the program that a field of the sheet s names.
@@ -21,22 +20,16 @@ fn keep_field(
     bytes: &mut [u8],
     ends: &mut [usize],
     count: usize,
-) -> Kept
+) -> Option<usize>
     requires laid_out { LaidOut s.now l }
     requires has_rows { HasRows bytes.old ends.old count }
     ensures { KeptAs (FieldStrings s.now field) bytes.old ends.old count result bytes.new ends.new }
 {
     if field == NONE {
-        return Kept {
-            ok: true,
-            count: count,
-        };
+        return Some(count);
     }
     if l.programs < field {
-        return Kept {
-            ok: true,
-            count: count,
-        };
+        return Some(count);
     }
     let a = l.programs_at;
     let b = a + l.programs;
@@ -56,20 +49,23 @@ fn keep_both(
     bytes: &mut [u8],
     ends: &mut [usize],
     count: usize,
-) -> Kept
+) -> Option<usize>
     requires laid_out { LaidOut s.now l }
     requires has_rows { HasRows bytes.old ends.old count }
     ensures { KeptAs (BothStrings s.now first second) bytes.old ends.old count result bytes.new ends.new }
 {
-    let kept = keep_field(s, l, first, bytes, ends, count);
-    if kept.ok {
-        return keep_field(s, l, second, bytes, ends, kept.count);
-    }
-    kept
+    let kept = keep_field(s, l, first, bytes, ends, count)?;
+    keep_field(s, l, second, bytes, ends, kept)
 }
 
 // Keeps the strings of the productions' own programs.
-fn keep_productions(s: &[u8], l: Layout, bytes: &mut [u8], ends: &mut [usize], count: usize) -> Kept
+fn keep_productions(
+    s: &[u8],
+    l: Layout,
+    bytes: &mut [u8],
+    ends: &mut [usize],
+    count: usize,
+) -> Option<usize>
     requires laid_out { LaidOut s.now l }
     requires has_rows { HasRows bytes.old ends.old count }
     ensures { KeptAs (EachStrings s.now (first_program_of s.now) (second_program_of s.now) (production_count s.now)) bytes.old ends.old count result bytes.new ends.new }
@@ -78,17 +74,19 @@ fn keep_productions(s: &[u8], l: Layout, bytes: &mut [u8], ends: &mut [usize], c
     for q in 0..l.productions {
         let first = layout::first_program_of(s, l, q);
         let second = layout::second_program_of(s, l, q);
-        let kept = keep_both(s, l, first, second, bytes, ends, n);
-        if !kept.ok {
-            return kept;
-        }
-        n = kept.count;
+        n = keep_both(s, l, first, second, bytes, ends, n)?;
     }
-    Kept { ok: true, count: n }
+    Some(n)
 }
 
-// Keeps the strings of the nodes' programs.
-fn keep_nodes(s: &[u8], l: Layout, bytes: &mut [u8], ends: &mut [usize], count: usize) -> Kept
+// Keeps the strings of the nodes' programs. A loop of its own: one function for both would take both fields as closures with contracts, and be longer.
+fn keep_nodes(
+    s: &[u8],
+    l: Layout,
+    bytes: &mut [u8],
+    ends: &mut [usize],
+    count: usize,
+) -> Option<usize>
     requires laid_out { LaidOut s.now l }
     requires has_rows { HasRows bytes.old ends.old count }
     ensures { KeptAs (EachStrings s.now (first_program_of_node s.now) (second_program_of_node s.now) (node_count s.now)) bytes.old ends.old count result bytes.new ends.new }
@@ -97,13 +95,9 @@ fn keep_nodes(s: &[u8], l: Layout, bytes: &mut [u8], ends: &mut [usize], count: 
     for i in 0..l.nodes {
         let first = layout::first_program_of_node(s, l, i);
         let second = layout::second_program_of_node(s, l, i);
-        let kept = keep_both(s, l, first, second, bytes, ends, n);
-        if !kept.ok {
-            return kept;
-        }
-        n = kept.count;
+        n = keep_both(s, l, first, second, bytes, ends, n)?;
     }
-    Kept { ok: true, count: n }
+    Some(n)
 }
 
 // Whether the different strings that the sheet's programs print have room in a sheet.
@@ -113,10 +107,8 @@ pub fn strings_fit(s: &[u8], l: Layout) -> bool
 {
     let mut bytes = [0; 8192];
     let mut ends = [0; 8193];
-    let kept = keep_productions(s, l, &mut bytes, &mut ends, 0);
-    if kept.ok {
-        let all = keep_nodes(s, l, &mut bytes, &mut ends, kept.count);
-        return all.ok;
-    }
-    false
+    let Some(kept) = keep_productions(s, l, &mut bytes, &mut ends, 0) else {
+        return false;
+    };
+    keep_nodes(s, l, &mut bytes, &mut ends, kept).is_some()
 }

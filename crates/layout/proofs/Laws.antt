@@ -1,13 +1,12 @@
 -- Laws of the layout: tests joined by `&`, one answer of a test, and the layout of a sheet that keeps numbers 1 and 2.
 -- Assumes nothing.
-use mathlib.Core.Path.{◌≡◌, refl, sym}
-use mathlib.Core.Bool.{Bool, true, false, ◌&&◌, true≢false}
+use mathlib.Core.Path.{◌≡◌}
+use mathlib.Core.Bool.{Bool, ◌&&◌}
 use mathlib.Core.List.{List}
-use Prim.Native.Nat.{ℕ, ◌+◌, ◌*◌, ◌≤◌, ◌<◌}
+use Prim.Native.Nat.{ℕ, ◌+◌, ◌*◌}
 use native.Mathlib.Omega.{arith}
 use lib.ListN.{length}
-use lib.Dec.{leb, ltb, eqb}
-use borrow.Author.Tests.{leb-true, leb-false, ltb-true, ltb-false, eqb-true, eqb-false}
+use lib.Dec.{leb, eqb}
 use Rattle.tells.specs.Tells.{Tells}
 use Rattle.tells.proofs.Laws.{as_told, both_told, eqb_tells, leb_tells}
 use Rattle.layout.specs.Layout.{Size, Sections}

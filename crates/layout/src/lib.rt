@@ -25,18 +25,12 @@ pub struct Layout {
     pub mark: usize,
 }
 
-fn wide(x: u8) -> usize
-    ensures { NumberRead 256 x result }
-{
-    x as usize
-}
-
 // The byte at i, as a number that indices can be reckoned with.
 pub fn byte_at(s: &[u8], i: usize) -> usize
     requires { i < length s.now }
     ensures { NumberRead 256 (byte_at s.now i) result }
 {
-    wide(s[i])
+    usize::from(s[i])
 }
 
 // The number of two bytes, little-endian, at i.

@@ -4,9 +4,10 @@ use mathlib.Core.Path.{◌≡◌, refl, sym, ap, ap₂, ◌∙◌}
 use mathlib.Core.Bool.{Bool, true, false, ◌&&◌}
 use mathlib.Core.List.{List, [], ◌∷◌}
 use mathlib.Core.Option.{Option, none, some}
-use Prim.Native.Nat.{ℕ, zero, suc, ◌+◌, ◌-◌, ◌*◌, ◌≤◌, ◌<◌}
+use Prim.Native.Nat.{ℕ, zero, suc, ◌+◌, ◌-◌, ◌*◌, ◌<◌}
 use native.Mathlib.Omega.{arith}
 use lib.Dec.{eqb}
+use Rattle.std.specs.Prelude.{Some, None}
 use lib.ListN.{take, drop}
 use Rattle.layout.specs.Layout.{tag_count, production_count}
 use Rattle.layout.specs.LaidOut.{LaidOut}
@@ -20,7 +21,7 @@ use Rattle.sheet.proofs.TagLaws.{tag_part}
 use Rattle.runs.specs.Lookup.{or_later, find}
 use Rattle.calls.specs.Names.{same_name, tag_named}
 use Rattle.lookups.specs.Tests.{NameTold}
-use Rattle.lookups.specs.Found.{or_missing, TagFound, ProductionFound}
+use Rattle.lookups.specs.Found.{answer_of, TagFound, ProductionFound}
 
 module _ {A : Type 0} (passes : A → Bool) where
   abbrev first_of : List A → Option ℕ
@@ -53,20 +54,20 @@ pub tag_tells : (s : List ℕ) (l : Layout) → LaidOut s l → (name : List ℕ
 tag_tells s l d name t b h e m k = sym (h.is m k.short (tag_part s l d t ∙ k.spelled)) ∙ e
 
 module _ (s name : List ℕ) where
-  pub tag_found : (t : ℕ) → t ≤ 256 → t < tag_count s → ((j : ℕ) → j < t → TagTells s name false j) → TagTells s name true t → TagFound s name t
+  pub tag_found : (t : ℕ) → t < 256 → t < tag_count s → ((j : ℕ) → j < t → TagTells s name false j) → TagTells s name true t → TagFound s name (Some t)
   tag_found t few b before here =
       record {
         few = few;
         is = λ a i.
             let e = first_passes (λ m. same_name m name) (TagAt s) t 0 (tag_count s) a.names i.names_are (omega arith) (λ j z. before j (omega arith)) (λ j z. let k : j ≡ t = omega arith in rw k here) in
-            sym (ap or_missing (named_first a.names name ∙ e));
+            sym (ap answer_of (named_first a.names name ∙ e));
       }
 
-  pub no_tag_found : ((j : ℕ) → j < tag_count s → TagTells s name false j) → TagFound s name 256
+  pub no_tag_found : ((j : ℕ) → j < tag_count s → TagTells s name false j) → TagFound s name None
   no_tag_found none_has =
       record {
-        few = omega arith;
-        is = λ a i. sym (ap or_missing (named_first a.names name ∙ none_passes (λ m. same_name m name) (TagAt s) 0 (tag_count s) a.names i.names_are none_has));
+        few = tt;
+        is = λ a i. sym (ap answer_of (named_first a.names name ∙ none_passes (λ m. same_name m name) (TagAt s) 0 (tag_count s) a.names i.names_are none_has));
       }
 
 -- productions
@@ -85,21 +86,21 @@ module _ (s : List ℕ) (n t : ℕ) where
   rule_tells : (q : ℕ) (b : Bool) → is_for s n t q ≡ b → (r : Rule) → ProductionIs s q r.production → is_of n t r ≡ b
   rule_tells q b e r h = ap₂ (λ (x y : ℕ). eqb n x && eqb t y) h.nonterminal_is h.tag_is ∙ e
 
-  pub production_found : (q : ℕ) → q ≤ 256 → q < production_count s → ((j : ℕ) → j < q → is_for s n t j ≡ false) → is_for s n t q ≡ true → ProductionFound s n t q
+  pub production_found : (q : ℕ) → q < 256 → q < production_count s → ((j : ℕ) → j < q → is_for s n t j ≡ false) → is_for s n t q ≡ true → ProductionFound s n t (Some q)
   production_found q few b before here =
       record {
         few = few;
         is = λ a i.
             let ps = i.well_formed_lem.programs.programs in
             let e = first_passes (is_of n t) (RuleAt s ps) q 0 (production_count s) a.rules i.rules_are (omega arith) (λ j z r h. rule_tells j false (before j (omega arith)) r h.production_is) (λ j z r h. rule_tells j true (let k : j ≡ q = omega arith in rw k here) r h.production_is) in
-            sym (ap or_missing (find_first a.rules n t ∙ e));
+            sym (ap answer_of (find_first a.rules n t ∙ e));
       }
 
-  pub no_production_found : ((j : ℕ) → j < production_count s → is_for s n t j ≡ false) → ProductionFound s n t 256
+  pub no_production_found : ((j : ℕ) → j < production_count s → is_for s n t j ≡ false) → ProductionFound s n t None
   no_production_found none_is =
       record {
-        few = omega arith;
+        few = tt;
         is = λ a i.
             let ps = i.well_formed_lem.programs.programs in
-            sym (ap or_missing (find_first a.rules n t ∙ none_passes (is_of n t) (RuleAt s ps) 0 (production_count s) a.rules i.rules_are (λ j z r h. rule_tells j false (none_is j z) r h.production_is)));
+            sym (ap answer_of (find_first a.rules n t ∙ none_passes (is_of n t) (RuleAt s ps) 0 (production_count s) a.rules i.rules_are (λ j z r h. rule_tells j false (none_is j z) r h.production_is)));
       }

@@ -11,9 +11,6 @@ ghost use Rattle.lookups.specs.Found.{TagFound, ProductionFound, BlanksTold};
 
 use layout::Layout;
 
-// What no tag and no production is.
-const MISSING: usize = 256;
-
 // Names are compared by bytes.
 #[tactic(auto, using(crate::proofs::Names::same_pointwise))]
 pub fn same_name(a: &[u8], b: &[u8]) -> bool
@@ -35,8 +32,8 @@ fn has_name(tag: &[u8], name: &[u8]) -> bool
     same_name(&tag[1..end], name)
 }
 
-// The tag that has this name, or 256.
-pub fn tag_named(s: &[u8], l: Layout, name: &[u8]) -> usize
+// The tag that has this name.
+pub fn tag_named(s: &[u8], l: Layout, name: &[u8]) -> Option<usize>
     requires { LaidOut s.now l }
     ensures { TagFound s.now name.now result }
 {
@@ -44,14 +41,14 @@ pub fn tag_named(s: &[u8], l: Layout, name: &[u8]) -> usize
         let at = l.tags_at + 16 * t;
         let end = at + 16;
         if has_name(&s[at..end], name) {
-            return t;
+            return Some(t);
         }
     }
-    MISSING
+    None
 }
 
-// The first production of nonterminal n with tag t, or 256.
-pub fn production_for(s: &[u8], l: Layout, n: usize, t: usize) -> usize
+// The first production of nonterminal n with tag t.
+pub fn production_for(s: &[u8], l: Layout, n: usize, t: usize) -> Option<usize>
     requires { LaidOut s.now l }
     ensures { ProductionFound s.now n t result }
 {
@@ -59,10 +56,10 @@ pub fn production_for(s: &[u8], l: Layout, n: usize, t: usize) -> usize
         let nonterminal = layout::nonterminal_of(s, l, q);
         let tag = layout::tag_number_of(s, l, q);
         if (n == nonterminal) & (t == tag) {
-            return q;
+            return Some(q);
         }
     }
-    MISSING
+    None
 }
 
 // Whether white space is no event inside an element of production q: it has nodes, and none of them is any one character.

@@ -1,21 +1,19 @@
 // The first words of what was lost: its title where it has one, else its first bytes.
-ghost use Rattle.std.specs.Prelude.{◌≤◌, length};
+ghost use Rattle.std.specs.Prelude.{◌≤◌, length, IfSome};
 
 use words::say;
 
 // The most bytes that are shown.
 const SHOWN: usize = 40;
 
-// How many bytes a title's start tag has that some bytes begin with; 0 where they do not.
-fn title_tag(f: &[u8]) -> usize
-    ensures { result ≤ length f.now }
+// How many bytes a title's start tag has, where some bytes begin with one.
+fn title_tag(f: &[u8]) -> Option<usize>
+    ensures { IfSome result (λ n. n ≤ length f.now) }
 {
-    let Some(rest) = f.strip_prefix(b"<title") else {
-        return 0;
-    };
+    let rest = f.strip_prefix(b"<title")?;
     match rest.iter().position(|b| !text::blank(*b)) {
-        Some(blanks) if rest[blanks] == b'>' => f.len() - rest.len() + blanks + 1,
-        _ => 0,
+        Some(blanks) if rest[blanks] == b'>' => Some(f.len() - rest.len() + blanks + 1),
+        _ => None,
     }
 }
 
@@ -24,8 +22,7 @@ fn title_in(f: &[u8]) -> usize
     ensures { result ≤ length f.now }
 {
     for i in 0..f.len() {
-        let n = title_tag(&f[i..]);
-        if n > 0 {
+        if let Some(n) = title_tag(&f[i..]) {
             return i + n;
         }
     }

@@ -153,11 +153,10 @@ pub fn tell_losses(file: &mut Opened, part: &mut [u8], report: &[u8], whole: boo
     }
     let s = stretch_in(report);
     let mut mark = [0u8; TAG];
-    let n = put_mark(file, s.first, &mut mark);
-    if n == 0 {
+    let Some(n) = put_mark(file, s.first, &mut mark) else {
         tell_bytes(report);
         return;
-    }
+    };
     let w = tell_each(file, part, report, &mark[..n]);
     if whole {
         tell_kept(file, part, &mark[..n], w);

@@ -1,5 +1,5 @@
 // A schedule read again: its lines are counted, and the records' start tags.
-ghost use Rattle.std.specs.Prelude.{◌≡◌, ◌<◌, ◌≤◌, [], ◌∷◌, length};
+ghost use Rattle.std.specs.Prelude.{◌≡◌, ◌<◌, ◌≤◌, [], ◌∷◌, length, IfSome};
 ghost use Rattle.io.specs.Counts.{IsPrefixLen};
 ghost use Rattle.behind.specs.Lines.{line_on};
 ghost use Rattle.losses.specs.Walks.{next_line, HasRead, ReadsOn};
@@ -9,6 +9,7 @@ use std::num::wrapping_add_u64;
 
 // Where the second reading is: how many bytes were passed, the line, the line of the last byte that is no white space, whether the last byte was a carriage
 // return, how many bytes of a record's start tag were passed, how many such tags were, and whether all that was to be passed was there.
+// A flag, and no Option: a reading that fell short is gone on with, and what it counted is told.
 #[derive(Clone, Copy)]
 pub struct Walk {
     pub offset: u64,
@@ -180,16 +181,16 @@ fn name_end(tag: &[u8]) -> usize {
 const FURTHEST: u64 = 4611686018427387904;
 
 // Puts < and the name of the tag that stands behind so many bytes of a file into the memory, and goes back to the file's start. Answers how many bytes they
-// are; 0 where the file cannot be read again.
-pub(crate) fn put_mark(file: &mut Opened, at: u64, mark: &mut [u8]) -> usize
-    ensures { IsPrefixLen result mark.new }
+// are; none where the file cannot be read again.
+pub(crate) fn put_mark(file: &mut Opened, at: u64, mark: &mut [u8]) -> Option<usize>
+    ensures { IfSome result (λ n. IsPrefixLen n mark.new) }
 {
     if at > FURTHEST {
-        return 0;
+        return None;
     }
     let n = file.read_from(mark, at);
     if !file.go_back() {
-        return 0;
+        return None;
     }
-    files::within(name_end(&mark[..n]), mark)
+    Some(files::within(name_end(&mark[..n]), mark))
 }

@@ -41,7 +41,8 @@ fn say_tokens(front: &[u8], may: [bool; 35], ends: bool) {
     say(b"\n");
 }
 
-// No nonterminal has this number: who looks for it reads as far as can be read.
+// No nonterminal has this number: who looks for it reads as far as can be read. A number, since a search for nothing would be a kind of its own in every proof about
+// what is found.
 const NO_NONTERMINAL: usize = 64;
 
 // What may stand behind the bytes of a text that are right so far.

@@ -2,13 +2,13 @@
 use mathlib.Core.Path.{◌≡◌, refl, sym, ◌∙◌, ap, subst}
 use mathlib.Core.Bool.{Bool, true, false, cond}
 use mathlib.Core.List.{List, [], ◌∷◌, ◌++◌, append_assoc, append-nil}
-use mathlib.Core.Option.{Option, none, some}
+use mathlib.Core.Option.{Option}
 use Prim.Native.Nat.{ℕ, zero, suc}
 use Rattle.programs.specs.Program.{Operand, Condition}
 use Rattle.programs.specs.Limits.{Visit}
 use Rattle.notation.specs.Program.{TextProgram}
-use Rattle.notation.specs.Rules.{Tree, node, Form, atom, cat, alt, star, empty, expression, expression_of}
-use Rattle.notation.specs.Tokens.{TextToken, nonterminal, name, word, CHAR, ECHO, ECHO-OFF, REJECT, IF, THEN, ELSE, BEGIN, END, AND, OR, NOT, EMPTY, PRINT, sign, ASSIGNED, OPEN, CLOSE, BRACE, UNBRACE, DOT, BAR, STAR, SEMICOLON, EQUALS}
+use Rattle.notation.specs.Rules.{Tree, expression, expression_of}
+use Rattle.notation.specs.Tokens.{TextToken, nonterminal, word, CHAR, ECHO, ECHO-OFF, REJECT, IF, THEN, ELSE, BEGIN, END, AND, OR, NOT, EMPTY, PRINT, sign, ASSIGNED, OPEN, CLOSE, BRACE, UNBRACE, DOT, BAR, STAR, SEMICOLON, EQUALS}
 use Rattle.notation.specs.Conditions as conditions
 use Rattle.notation.specs.Conditions.{CurrentIs, of_either, of_first, of_second, OperandIs, a_value, a_current, a_recalled, ConditionIs, BothIs, SingleIs}
 use Rattle.notation.specs.Statements as statements

@@ -1,9 +1,9 @@
 -- The walk over the tokens of a text: where it stands, and what is left of a rule text there. Assumes nothing.
 use mathlib.Core.Path.{◌≡◌, refl, sym, ◌∙◌, ap, ap₂, subst}
-use mathlib.Core.Bool.{Bool, true, false, true≢false}
+use mathlib.Core.Bool.{Bool, true, false}
 use mathlib.Core.Option.{Option, some}
 use mathlib.Core.List.{List, [], ◌∷◌, ◌++◌, append_assoc, append-nil, append_cancel_left}
-use Prim.Native.Nat.{ℕ, ◌+◌, ◌≤◌, ◌<◌}
+use Prim.Native.Nat.{ℕ, ◌+◌, ◌≤◌}
 use native.Mathlib.Omega.{arith}
 use lib.ListN.{length, drop, length-drop}
 use Rattle.notation.specs.Rules.{Rules}
@@ -16,23 +16,23 @@ use Rattle.reading.specs.Machine.{walk}
 use Rattle.reading.specs.Rules.{Progress, beginning, step_rules}
 use Rattle.reading.proofs.Rules.{reads_rules}
 use Rattle.telling.proofs.OneRules.{one_token, gap_one, first_step, end_no_token, token_solid}
-use Rattle.lexing.proofs.Spellings.{part, part_is}
-use Rattle.lexemes.specs.Kinds.{token_kind, token_number}
+use Rattle.lexing.proofs.Spellings.{part}
 use Rattle.verdicts.specs.Judged.{Verdict, refused_at, later, Judged}
 use Rattle.verdicts.proofs.Judging.{judged_right}
 use Rattle.rulings.specs.declared.Reader.{Reader}
-use Rattle.rulings.specs.Readers.{Firm, StartIs}
+use Rattle.rulings.specs.Readers.{Holds, Firm, StartIs}
 use Rattle.ledgers.specs.Trodden.{TokenAt}
 use Rattle.ledgers.proofs.Telling.{later_none, later_twice, rest_is, judged_on}
-use Rattle.sights.specs.declared.Glance.{Glance}
-use Rattle.sights.specs.Glances.{Met, Seen, meets, writes_rules, refuses, GlanceIs}
-use Rattle.sights.proofs.Rest.{met_of}
+use Rattle.std.specs.Prelude.{Some, None, Ok, Err}
+use Rattle.sights.specs.declared.Token.{Token}
+use Rattle.sights.specs.Rulings.{Ruling}
+use Rattle.sights.specs.Glances.{Met, Glance, Seen, writes_rules, refuses, GlanceIs}
+use Rattle.sights.proofs.Rest.{met_of, glance_as}
 use Rattle.posts.specs.declared.Milestone.{Milestone}
 use Rattle.posts.specs.declared.Wanted.{Wanted}
-use Rattle.posts.specs.declared.Halt.{Halt}
 use Rattle.posts.specs.Posts.{set_out, passed, passed_all, is_wanted, NoneWanted}
 use Rattle.posts.specs.ByKind.{passed_kind, is_wanted_kind}
-use Rattle.posts.specs.Found.{StandsAt, next, behind, FirstWanted, WantedTold, there, nowhere, HaltIs}
+use Rattle.posts.specs.Found.{StandsAt, next, behind, WantedTold, there, nowhere, HaltIs}
 use Rattle.posts.proofs.KindTests.{passed_kind_lem, wanted_kind}
 use Rattle.posts.proofs.Passing.{passed_more, none_more, few_passed}
 
@@ -44,13 +44,13 @@ pub record Left (tokens before : List TextToken) (x : List ℕ) (s : Progress) :
   pub last : Progress
   pub walked : walk step_rules s after ≡ some last
 
-pub record Onward (text : List ℕ) (w : Wanted) (from : ℕ) (m : Milestone) (g : Glance) : Type 0 where
-  pub high : from + (g.at + g.long) ≤ length text
-  pub firm : Firm g.reader
+pub record Onward (text : List ℕ) (w : Wanted) (from : ℕ) (m : Milestone) (r : Reader) : Type 0 where
+  pub high : from ≤ length text
+  pub firm : Firm r
   pub few_productions : m.productions ≤ from
   pub few_posts : m.posts ≤ from
   pub state : Progress
-  pub seen : Seen state (drop from text) g
+  pub holds : Holds state r
   pub before : List TextToken
   pub milestone : m ≡ passed_all set_out before
   pub none_wanted : NoneWanted w set_out before
@@ -58,14 +58,14 @@ pub record Onward (text : List ℕ) (w : Wanted) (from : ℕ) (m : Milestone) (g
   pub stands : (us : List TextToken) (t : TextToken) (i : ℕ) → StandsAt us t (drop from text) i → StandsAt (before ++ us) t text (from + i)
   pub left : (v : Rules) (h : RuleText text v) → Left h.tokens before (drop from text) state
 
-pub onward_first : (text : List ℕ) (w : Wanted) (r : Reader) (g : Glance) → StartIs r → GlanceIs text r g → Onward text w 0 set_out g
-onward_first text w r g h i = record {
-  high = omega (arith, i.high);
-  firm = i.firm;
+pub onward_first : (text : List ℕ) (w : Wanted) (r : Reader) → StartIs r → Onward text w 0 set_out r
+onward_first text w r h = record {
+  high = omega arith;
+  firm = h.firm;
   few_productions = omega arith;
   few_posts = omega arith;
   state = beginning;
-  seen = i.told beginning h.holds;
+  holds = h.holds;
   before = [];
   milestone = refl;
   none_wanted = tt;
@@ -103,13 +103,16 @@ heads_of s s' z at long t x y a tokens before after c (token {g = g} {rest = r} 
       walked = subst (λ k. walk step_rules k us ≡ some z) there n.2;
     }
 
-module _ (text : List ℕ) (w : Wanted) (from : ℕ) (m : Milestone) (g : Glance) (o : Onward text w from m g) where
-  module _ (going : g.going ≡ true) where
+module _ (text : List ℕ) (w : Wanted) (from : ℕ) (m : Milestone) (r : Reader) (o : Onward text w from m r) where
+  module _ (g : Token) (seen : GlanceIs (drop from text) r (Ok g)) where
     abbrev met : Met o.state (drop from text) g
-    met = met_of o.state (drop from text) g going o.seen
+    met = met_of o.state (drop from text) g (seen.told o.state o.holds)
 
     pub past_it : 1 ≤ g.long
     past_it = met.onward
+
+    pub reach : from + (g.at + g.long) ≤ length text
+    reach = omega (arith, o.high, seen.high, length-drop from text)
 
     heads : (v : Rules) (h : RuleText text v) → Heads h.tokens o.before met.token met.stands.rest met.next
     heads v h = let l = o.left v h in heads_of o.state met.next l.last g.at g.long met.token (drop from text) (drop from text) met.stands h.tokens o.before l.after l.are l.spelled refl l.walked
@@ -122,11 +125,12 @@ module _ (text : List ℕ) (w : Wanted) (from : ℕ) (m : Milestone) (g : Glance
         subst (λ (us : List TextToken). StandsAt us met.token text (from + g.at)) (append-nil o.before)
         (o.stands [] met.token g.at (next met.stands.gap met.stands.rest met.stands.are met.stands.is_gap met.stands.follows met.stands.at_is))
 
-    pub found : (r : Halt) → is_wanted_kind w m g.kind g.number ≡ true → r ≡ record { found = true; at = from + g.at; from = from; reader = g.reader } → HaltIs text w r
-    found r e i = subst (HaltIs text w) (sym i) (record {
-      high = omega (arith, o.high);
+    pub found : is_wanted_kind w m g.kind g.number ≡ true → HaltIs text w (record { found = Some (from + g.at); from = from; reader = g.reader })
+    found e = record {
+      reached = o.high;
+      high = omega (arith, reach);
       low = omega arith;
-      firm = o.firm;
+      firm = seen.firm;
       told = λ v h.
           let k = heads v h in
           there (record {
@@ -138,15 +142,12 @@ module _ (text : List ℕ) (w : Wanted) (from : ℕ) (m : Milestone) (g : Glance
             wanted = sym is_wanted_lem ∙ e;
             stands = stands_here;
           });
-    })
+    }
 
     -- one token further
-    module _ (n : ℕ) (far : n ≡ from + (g.at + g.long)) (h : Glance) (i : GlanceIs (part text n) g.reader h) (no : is_wanted_kind w m g.kind g.number ≡ false) where
+    module _ (n : ℕ) (far : n ≡ from + (g.at + g.long)) (no : is_wanted_kind w m g.kind g.number ≡ false) where
       behind_met : drop n text ≡ met.stands.rest
       behind_met = ap (λ (k : ℕ). drop k text) far ∙ rest_is text from g.at g.long o.state met.next met.token met.stands
-
-      seen_next : GlanceIs (drop n text) g.reader h
-      seen_next = subst (λ z. GlanceIs z g.reader h) (part_is text n) i
 
       stands_next : (us : List TextToken) (t : TextToken) (k : ℕ) → StandsAt us t (drop n text) k → StandsAt ((o.before ++ met.token ∷ []) ++ us) t text (n + k)
       stands_next us t k s =
@@ -171,14 +172,14 @@ module _ (text : List ℕ) (w : Wanted) (from : ℕ) (m : Milestone) (g : Glance
         walked = l.walked;
       }
 
-      pub onward_on : (m' : Milestone) → m' ≡ passed_kind m g.kind → m'.productions ≤ n → m'.posts ≤ n → Onward text w n m' h
+      pub onward_on : (m' : Milestone) → m' ≡ passed_kind m g.kind → m'.productions ≤ n → m'.posts ≤ n → Onward text w n m' g.reader
       onward_on m' e a b = record {
-        high = omega (arith, o.high, far, seen_next.high, length-drop n text);
-        firm = seen_next.firm;
+        high = omega (arith, far, reach);
+        firm = seen.firm;
         few_productions = a;
         few_posts = b;
         state = met.next;
-        seen = seen_next.told met.next met.holds;
+        holds = met.holds;
         before = o.before ++ met.token ∷ [];
         milestone = e ∙ ap (passed_kind m) met.kind_is ∙ sym (passed_kind_lem m met.token) ∙ ap (λ (k : Milestone). passed k met.token) o.milestone ∙ sym (passed_more set_out o.before met.token);
         none_wanted = none_more w set_out o.before met.token o.none_wanted (sym is_wanted_lem ∙ no);
@@ -187,34 +188,37 @@ module _ (text : List ℕ) (w : Wanted) (from : ℕ) (m : Milestone) (g : Glance
         left = left_next;
       }
 
-  module _ (stopped : g.going ≡ false) where
-    none_left : (tokens before after : List TextToken) (x y : List ℕ) (z : Progress) → tokens ≡ before ++ after → TypedAs after y → y ≡ x → Ending x → walk step_rules o.state after ≡ some z → NoneWanted w set_out before → NoneWanted w set_out tokens
-    none_left tokens before after x y z c (end e) i f k h = subst (NoneWanted w set_out) (sym (c ∙ append-nil before)) h
-    none_left tokens before after x y z c (token {g = q} {rest = r} {ts = us} u p a sp) i f k h =
-        let n = first_step o.state z u us k in
-        absurd (end_no_token x q (token_bytes u ++ r) f p (token_solid o.state n.0 u r n.1) (sym i))
+  none_left : (tokens before after : List TextToken) (x y : List ℕ) (z : Progress) → tokens ≡ before ++ after → TypedAs after y → y ≡ x → Ending x → walk step_rules o.state after ≡ some z → NoneWanted w set_out before → NoneWanted w set_out tokens
+  none_left tokens before after x y z c (end e) i f k h = subst (NoneWanted w set_out) (sym (c ∙ append-nil before)) h
+  none_left tokens before after x y z c (token {g = q} {rest = r} {ts = us} u p a sp) i f k h =
+      let n = first_step o.state z u us k in
+      absurd (end_no_token x q (token_bytes u ++ r) f p (token_solid o.state n.0 u r n.1) (sym i))
 
-    nowhere_told : (v : Rules) (h : RuleText text v) (i : ℕ) → Seen o.state (drop from text) g → WantedTold w h.tokens text i false
-    nowhere_told v h i (meets e k) = absurd (true≢false (sym e ∙ stopped))
-    nowhere_told v h i (writes_rules e f r a k) =
-        let l = o.left v h in
-        nowhere (none_left h.tokens o.before l.after (drop from text) (drop from text) l.last l.are l.spelled refl k l.walked o.none_wanted)
-    nowhere_told v h i (refuses e f j) = absurd (none_where_written ℕ Rules RuleText text v (from + g.at) h (judged_right text (refused_at (from + g.at)) (o.judged (refused_at g.at) j)))
+  nowhere_told : (v : Rules) (h : RuleText text v) (a : Ruling) → Seen o.state (drop from text) (Err a) → WantedTold w h.tokens text None
+  nowhere_told v h a (writes_rules q f k) =
+      let l = o.left v h in
+      nowhere (none_left h.tokens o.before l.after (drop from text) (drop from text) l.last l.are l.spelled refl k l.walked o.none_wanted)
+  nowhere_told v h a (refuses {k = k} j) = absurd (none_where_written ℕ Rules RuleText text v (from + k) h (judged_right text (refused_at (from + k)) (o.judged (refused_at k) j)))
 
-    pub not_found : (r : Halt) → r ≡ record { found = false; at = from; from = from; reader = g.reader } → HaltIs text w r
-    not_found r e = subst (HaltIs text w) (sym e) (record { high = omega (arith, o.high); low = omega arith; firm = o.firm; told = λ v h. nowhere_told v h from o.seen })
+  pub not_found : (a : Ruling) → GlanceIs (drop from text) r (Err a) → HaltIs text w (record { found = None; from = from; reader = r })
+  not_found a seen = record { reached = o.high; high = tt; low = tt; firm = o.firm; told = λ v h. nowhere_told v h a (seen.told o.state o.holds) }
 
 -- as the code asks for it
-pub onward_next : (text : List ℕ) (w : Wanted) (from : ℕ) (m : Milestone) (g : Glance) → Onward text w from m g → g.going ≡ true → (b : Bool) → b ≡ is_wanted_kind w m g.kind g.number → b ≡ false
-    → (m' : Milestone) → m' ≡ passed_kind m g.kind → (h : Glance) → GlanceIs (part text (from + g.at + g.long)) g.reader h → Onward text w (from + g.at + g.long) m' h
-onward_next text w from m g o y b e f m' p h i =
-    let a = past_it text w from m g o y in
-    let z = few_passed m g.kind (from + g.at + g.long) m' p (omega (arith, o.few_productions, a)) (omega (arith, o.few_posts, a)) in
-    onward_on text w from m g o y (from + g.at + g.long) (omega arith) h i (sym e ∙ f) m' p z.0 z.1
+module _ (text : List ℕ) (w : Wanted) (from : ℕ) (m : Milestone) (r : Reader) (o : Onward text w from m r) (a : Glance) (i : GlanceIs (part text from) r a) where
+  module _ (g : Token) (e : a ≡ Ok g) where
+    token_seen : GlanceIs (drop from text) r (Ok g)
+    token_seen = glance_as text from r a (Ok g) e i
 
-pub onward_found : (text : List ℕ) (w : Wanted) (from : ℕ) (m : Milestone) (g : Glance) → Onward text w from m g → g.going ≡ true → (b : Bool) → b ≡ is_wanted_kind w m g.kind g.number → b ≡ true
-    → HaltIs text w (record { found = true; at = from + g.at; from = from; reader = g.reader })
-onward_found text w from m g o y b e f = found text w from m g o y (record { found = true; at = from + g.at; from = from; reader = g.reader }) (sym e ∙ f) refl
+    pub token_reach : (1 ≤ g.long) × (from + (g.at + g.long) ≤ length text)
+    token_reach = (past_it text w from m r o g token_seen, reach text w from m r o g token_seen)
 
-pub onward_ended : (text : List ℕ) (w : Wanted) (from : ℕ) (m : Milestone) (g : Glance) → Onward text w from m g → g.going ≡ false → HaltIs text w (record { found = false; at = from; from = from; reader = g.reader })
-onward_ended text w from m g o y = not_found text w from m g o y (record { found = false; at = from; from = from; reader = g.reader }) refl
+    pub onward_next : (b : Bool) → b ≡ is_wanted_kind w m g.kind g.number → b ≡ false → (m' : Milestone) → m' ≡ passed_kind m g.kind → Onward text w (from + g.at + g.long) m' g.reader
+    onward_next b y f m' p =
+        let z = few_passed m g.kind (from + g.at + g.long) m' p (omega (arith, o.few_productions, token_reach.0)) (omega (arith, o.few_posts, token_reach.0)) in
+        onward_on text w from m r o g token_seen (from + g.at + g.long) (omega arith) (sym y ∙ f) m' p z.0 z.1
+
+    pub onward_found : (b : Bool) → b ≡ is_wanted_kind w m g.kind g.number → b ≡ true → HaltIs text w (record { found = Some (from + g.at); from = from; reader = g.reader })
+    onward_found b y f = found text w from m r o g token_seen (sym y ∙ f)
+
+  pub onward_ended : (z : Ruling) → a ≡ Err z → HaltIs text w (record { found = None; from = from; reader = r })
+  onward_ended z e = not_found text w from m r o z (glance_as text from r a (Err z) e i)

@@ -1,5 +1,5 @@
 -- Where the first token that is wanted stands in a rule text. Assumes nothing.
-use Rattle.std.specs.Prelude.{◌≡◌, Bool, true, false, List, [], ◌∷◌, ◌++◌, ℕ, ◌+◌, ◌≤◌, length}
+use Rattle.std.specs.Prelude.{◌≡◌, Option, Some, None, IfSome, true, List, [], ◌∷◌, ◌++◌, ℕ, ◌+◌, ◌≤◌, length}
 use Rattle.notation.specs.Rules.{Rules}
 use Rattle.notation.specs.Tokens.{TextToken, token_bytes}
 use Rattle.notation.specs.Gaps.{Gap}
@@ -26,13 +26,14 @@ pub record FirstWanted (w : Wanted) (tokens : List TextToken) (text : List ℕ) 
   pub wanted : is_wanted w (passed_all set_out before) token ≡ true
   pub stands : StandsAt before token text i
 
-pub data WantedTold (w : Wanted) (tokens : List TextToken) (text : List ℕ) (i : ℕ) : Bool → Type 0 where
-  there : FirstWanted w tokens text i → WantedTold w tokens text i true
-  nowhere : NoneWanted w set_out tokens → WantedTold w tokens text i false
+pub data WantedTold (w : Wanted) (tokens : List TextToken) (text : List ℕ) : Option ℕ → Type 0 where
+  there : {i : ℕ} → FirstWanted w tokens text i → WantedTold w tokens text (Some i)
+  nowhere : NoneWanted w set_out tokens → WantedTold w tokens text None
 
 -- of every text the places lie in it, and of a rule text what is told is right
 pub record HaltIs (text : List ℕ) (w : Wanted) (r : Halt) : Type 0 where
-  pub high : r.at ≤ length text
-  pub low : r.from ≤ r.at
+  pub reached : r.from ≤ length text
+  pub high : IfSome r.found (λ at. at ≤ length text)
+  pub low : IfSome r.found (λ at. r.from ≤ at)
   pub firm : Firm r.reader
-  pub told : (v : Rules) (h : RuleText text v) → WantedTold w h.tokens text r.at r.found
+  pub told : (v : Rules) (h : RuleText text v) → WantedTold w h.tokens text r.found

@@ -27,12 +27,11 @@ pub enum Wanted {
     Nonterminal(usize),
 }
 
-// Where a walk over tokens came to its end: at the token that is wanted, or where no token could be read any more. The byte of that token, how many
-// bytes lie before its gap, and the reader there.
+// Where a walk over tokens came to its end: at the token that is wanted, or where no token could be read any more. The byte of that token, if one was
+// found; how many bytes lie before its gap, or before the end; and the reader behind the token, or there.
 #[derive(Clone, Copy)]
 pub struct Halt {
-    pub found: bool,
-    pub at: usize,
+    pub found: Option<usize>,
     pub from: usize,
     pub reader: Reader,
 }
@@ -82,33 +81,28 @@ fn meets(m: Milestone, wanted: Wanted, kind: usize, number: usize) -> bool
 pub fn find(text: &[u8], wanted: Wanted) -> Halt
     ensures { HaltIs text.now wanted result }
 {
-    let first = rulings::start();
     let mut from = 0;
+    let mut reader = rulings::start();
     let mut m = Milestone {
         productions: 0,
         posts: 0,
     };
-    let mut g = look(text, first);
     // A while: each look goes on behind the token that it read, which no range gives.
-    while g.going {
-        let r = g.reader;
-        if meets(m, wanted, g.kind, g.number) {
+    while let Ok(token) = look(&text[from..], reader) {
+        if meets(m, wanted, token.kind, token.number) {
             return Halt {
-                found: true,
-                at: from + g.at,
+                found: Some(from + token.at),
                 from: from,
-                reader: r,
+                reader: token.reader,
             };
         }
-        from = from + g.at + g.long;
-        m = pass(m, g.kind, from);
-        g = look(&text[from..], r);
+        from = from + token.at + token.long;
+        m = pass(m, token.kind, from);
+        reader = token.reader;
     }
-    let r = g.reader;
     Halt {
-        found: false,
-        at: from,
+        found: None,
         from: from,
-        reader: r,
+        reader: reader,
     }
 }

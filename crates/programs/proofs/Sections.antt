@@ -2,6 +2,7 @@
 -- The programs that fill a section are one list, and a field names one program. Assumes nothing.
 use mathlib.Core.Path.{◌≡◌, refl, sym, ap, ◌∙◌, subst}
 use mathlib.Core.Bool.{Bool, true, false, true≢false}
+use Rattle.std.specs.Prelude.{Option as Read, Some, None}
 use mathlib.Core.List.{List, [], ◌∷◌, ◌++◌, append_assoc, head-eq_of_cons-eq, tail-eq_of_cons-eq}
 use mathlib.Core.Option.{Option, some}
 use Prim.Native.Nat.{ℕ, ◌+◌, ◌-◌, ◌≤◌, ◌<◌, min}
@@ -13,10 +14,9 @@ use Rattle.programs.specs.Program.{Program, program_bytes}
 use Rattle.programs.specs.Limits.{IsProgram, Visit, allowed}
 use Rattle.programs.specs.Section.{back_to_back, Fill, StartOf, FieldIs, no_program, names}
 use Rattle.tells.specs.Tells.{Tells, holds, fails}
-use Rattle.programs.specs.Parsed.{whole, ListAt, ProgramAt, Filled, which_visit, FieldTold}
+use Rattle.programs.specs.Parsed.{whole, ListAt, ProgramAt, Filled, which_visit, FieldTold, StartNamed, unnamed, named}
 use Rattle.programs.specs.Parsed as parsed
 use Rattle.programs.specs.declared.Parsed.{Parsed}
-use Rattle.programs.specs.declared.Parsed.TheVariants.{Whole, Bad}
 use Rattle.programs.proofs.Agree.{program_agree, program_some}
 use Rattle.programs.proofs.Reading.{Kind, behind, starts_length, one_reading}
 use Rattle.tells.proofs.Laws.{one_telling}
@@ -44,13 +44,13 @@ module _ (s : List ℕ) (i : ℕ) (h : i < length s) where
       let e : most ≡ length w + n = omega (arith, starts_length (drop i s) w st, length-drop i s) in
       (take n st.0, ap (λ (k : ℕ). take k (drop i s)) e ∙ ap (λ (l : List ℕ). take (length w + n) l) st.1 ∙ take-append-add w st.0 n)
 
-  pub within : (tags : ℕ) (strings : List ℕ) (w : List ℕ) → w ≡ take (i + most) s → {r : Parsed} → ListAt tags strings 8 w i r → ProgramAt tags strings s i r
+  pub within : (tags : ℕ) (strings : List ℕ) (w : List ℕ) → w ≡ take (i + most) s → {r : Read Parsed} → ListAt tags strings 8 w i r → ProgramAt tags strings s i r
   within tags strings w same {r} read = go (subst (λ (l : List ℕ). ListAt tags strings 8 l i r) same read)
     where
-      go : {r : Parsed} → ListAt tags strings 8 (take (i + most) s) i r → ProgramAt tags strings s i r
-      go (whole p g st {n} q {a} {b} α β) =
+      go : {r : Read Parsed} → ListAt tags strings 8 (take (i + most) s) i r → ProgramAt tags strings s i r
+      go (whole p g st q α β) =
           let f = from_front (program_bytes p) (st.0, sym front ∙ st.1) in
-          whole p (record { short = f.1; shallow = g.1; fits = g.0 }) f.0 {n = n} q {a = a} {b = b} α β
+          whole p (record { short = f.1; shallow = g.1; fits = g.0 }) f.0 q α β
       go (parsed.none f) = parsed.none (λ p g st. let t = to_front (program_bytes p) st g.short in f p (g.fits, g.shallow) (t.0, front ∙ t.1))
 
 -- ---- filling
@@ -82,23 +82,23 @@ module _ (tags : ℕ) (strings : List ℕ) where
 
   module _ (s : List ℕ) (i : ℕ) where
     -- where a program lies at i, the rest is filled exactly when all from i on is
-    pub past_program : {n : ℕ} {a b : Bool} → ProgramAt tags strings s i (Whole n a b) → (Filled tags strings (drop n s) → Filled tags strings (drop i s)) × (Filled tags strings (drop i s) → Filled tags strings (drop n s))
-    past_program {n} (whole p g st q α β) = (forth, back)
+    pub past_program : {r : Parsed} → ProgramAt tags strings s i (Some r) → (Filled tags strings (drop r.next s) → Filled tags strings (drop i s)) × (Filled tags strings (drop i s) → Filled tags strings (drop r.next s))
+    past_program {r} (whole p g st q α β) = (forth, back)
       where
-        rest : drop n s ≡ st.0
+        rest : drop r.next s ≡ st.0
         rest = ap (λ (m : ℕ). drop m s) q ∙ behind s i (program_bytes p) st.0 st.1
 
-        forth : Filled tags strings (drop n s) → Filled tags strings (drop i s)
+        forth : Filled tags strings (drop r.next s) → Filled tags strings (drop i s)
         forth (ps, F) = (p ∷ ps, record { programs = (g, F.programs); filled = st.1 ∙ ap (λ (l : List ℕ). program_bytes p ++ l) (sym rest ∙ F.filled) })
 
-        back : Filled tags strings (drop i s) → Filled tags strings (drop n s)
+        back : Filled tags strings (drop i s) → Filled tags strings (drop r.next s)
         back (ps, F) = let w = first_of (drop i s) p st.0 st.1 ps F in (w.0, subst (λ (l : List ℕ). Fill tags strings l w.0) (sym rest) w.2)
 
-    nothing_there : ProgramAt tags strings s i Bad → (ps : List Program) → Fill tags strings (drop i s) ps → ps ≡ []
+    nothing_there : ProgramAt tags strings s i None → (ps : List Program) → Fill tags strings (drop i s) ps → ps ≡ []
     nothing_there (parsed.none f) [] F = refl
     nothing_there (parsed.none f) (p ∷ ps) F = absurd (f p F.programs.0 (back_to_back ps, F.filled))
 
-    pub no_filling : i < length s → ProgramAt tags strings s i Bad → Filled tags strings (drop i s) → ⊥
+    pub no_filling : i < length s → ProgramAt tags strings s i None → Filled tags strings (drop i s) → ⊥
     no_filling h r (ps, F) = let e = F.filled ∙ ap back_to_back (nothing_there r ps F) in omega (arith, ap length e, length-drop i s)
 
 -- ---- starts
@@ -119,6 +119,12 @@ one_field ps v field m n (no_program e) (no_program f) = refl
 one_field ps v field m n (no_program e) (names k q T β) = absurd (k e)
 one_field ps v field m n (names k p S α) (no_program f) = absurd (k f)
 one_field ps v field m n (names k p S α) (names l q T β) = ap some (one_start ps field p q S T)
+
+pub names_none : {field : ℕ} → StartNamed field None → field ≡ 0xFFFF
+names_none (unnamed e) = e
+
+pub names_start : {field start : ℕ} → StartNamed field (Some start) → (start ≡ field) × (field ≡ 0xFFFF → ⊥)
+names_start (named k e) = (e, k)
 
 no_start : (o : ℕ) (p : Program) → StartOf [] o p → ⊥
 no_start o p S = go S.before S.are
@@ -158,20 +164,20 @@ module _ (tags : ℕ) (strings s : List ℕ) (ps : List Program) (field : ℕ) w
       record { ahead = ps; fill = F; there = λ p S. (omega arith, subst (λ (o : ℕ). StartOf ps o p) (sym e) S); back = λ p h S. subst (λ (o : ℕ). StartOf ps o p) e S }
 
   module _ (i : ℕ) (W : Walked tags strings s ps field i) where
-    pub walk_on : i < field → {n : ℕ} {a b : Bool} → ProgramAt tags strings s i (Whole n a b) → Walked tags strings s ps field n
-    walk_on h {n} (whole x g st q α β) =
+    pub walk_on : i < field → {r : Parsed} → ProgramAt tags strings s i (Some r) → Walked tags strings s ps field r.next
+    walk_on h {r} (whole x g st q α β) =
         let w = first_of tags strings (drop i s) x st.0 st.1 W.ahead W.fill in
-        let rest : drop n s ≡ st.0 = ap (λ (m : ℕ). drop m s) q ∙ behind s i (program_bytes x) st.0 st.1 in
+        let rest : drop r.next s ≡ st.0 = ap (λ (m : ℕ). drop m s) q ∙ behind s i (program_bytes x) st.0 st.1 in
         record {
           ahead = w.0;
           fill = subst (λ (l : List ℕ). Fill tags strings l w.0) (sym rest) w.2;
           there = λ p S.
               let t = W.there p S in
               let u = start_later x w.0 (field - i) p (omega arith) (subst (λ (l : List Program). StartOf l (field - i) p) w.1 t.1) in
-              let e : field - i - length (program_bytes x) ≡ field - n = omega (arith, q) in
+              let e : field - i - length (program_bytes x) ≡ field - r.next = omega (arith, q) in
               (omega (arith, q, t.0, u.0), subst (λ (o : ℕ). StartOf w.0 o p) e u.1);
           back = λ p l S.
-              let e : field - n ≡ field - i - length (program_bytes x) = omega (arith, q) in
+              let e : field - r.next ≡ field - i - length (program_bytes x) = omega (arith, q) in
               W.back p (omega arith) (subst (λ (l : List Program). StartOf l (field - i) p) (sym w.1) (start_behind x w.0 (field - i) p (omega (arith, q, l)) (subst (λ (o : ℕ). StartOf w.0 o p) e S)));
         }
 
@@ -184,13 +190,13 @@ module _ (tags : ℕ) (strings s : List ℕ) (ps : List Program) (field : ℕ) w
           go (m, no_program e) = some_program e
           go (m, names k p S α) = f p S
 
-      pub past_end_field : ProgramAt tags strings s i Bad → Tells ((m : Option Program) × FieldIs ps (which_visit is_second) field m) false
+      pub past_end_field : ProgramAt tags strings s i None → Tells ((m : Option Program) × FieldIs ps (which_visit is_second) field m) false
       past_end_field r = no_field (λ p S. no_start (field - i) p (subst (λ (l : List Program). StartOf l (field - i) p) (nothing_there tags strings s i r W.ahead W.fill) (W.there p S).1))
 
       pub middle_field : field < i → Tells ((m : Option Program) × FieldIs ps (which_visit is_second) field m) false
       middle_field h = no_field (λ p S. omega (arith, (W.there p S).0))
 
-      pub start_field : i ≡ field → {n : ℕ} {a b : Bool} → ProgramAt tags strings s i (Whole n a b) → (r : Bool) → (is_second ≡ false → r ≡ a) → (is_second ≡ true → r ≡ b) → Tells ((m : Option Program) × FieldIs ps (which_visit is_second) field m) r
+      pub start_field : i ≡ field → {t : Parsed} → ProgramAt tags strings s i (Some t) → (r : Bool) → (is_second ≡ false → r ≡ t.first) → (is_second ≡ true → r ≡ t.second) → Tells ((m : Option Program) × FieldIs ps (which_visit is_second) field m) r
       start_field h (whole x g st q α β) r ra rb = go r (by_visit is_second refl)
         where
           by_visit : (u : Bool) → is_second ≡ u → r ≡ allowed (which_visit is_second) x
@@ -215,7 +221,7 @@ module _ (tags : ℕ) (strings s : List ℕ) (ps : List Program) (field : ℕ) w
               no_other (m, names k p S γ) = true≢false (sym γ ∙ ap (λ (z : Program). allowed (which_visit is_second) z) (one_start ps field p x S starts) ∙ sym e)
 
 -- ---- one answer only
-pub one_program : (tags : ℕ) (strings s : List ℕ) (i : ℕ) (p q : Parsed) → ProgramAt tags strings s i p → ProgramAt tags strings s i q → p ≡ q
+pub one_program : (tags : ℕ) (strings s : List ℕ) (i : ℕ) (p q : Read Parsed) → ProgramAt tags strings s i p → ProgramAt tags strings s i q → p ≡ q
 one_program tags strings s i = one_reading (programs tags strings) program_agree
 
 pub one_told : (tags : ℕ) (strings s : List ℕ) (field : ℕ) (is_second : Bool) → Filled tags strings s → (a b : Bool) → FieldTold tags strings s field is_second a → FieldTold tags strings s field is_second b → a ≡ b

@@ -6,7 +6,7 @@ ghost use Rattle.std.specs.Prelude.{◌≡◌, ◌&&◌, ◌+◌, ◌*◌, ◌�
 ghost use Rattle.text.specs.Characters.{WholeCharacters};
 ghost use Rattle.programs.specs.Limits.{Printable};
 ghost use Rattle.tells.specs.Tells.{Tells};
-ghost use Rattle.programs.specs.Parsed.{OperandAt, ConditionAt, PlainAt, StatementAt, ListAt, ProgramAt, Filled, FieldTold};
+ghost use Rattle.programs.specs.Parsed.{OperandAt, ConditionAt, PlainAt, StatementAt, ListAt, ProgramAt, Filled, ForBoth, InTurn, StartNamed, FieldTold};
 
 // The most bytes of a program, and how deep if, not, and, or nest.
 const LONGEST: usize = 256;
@@ -22,93 +22,109 @@ pub const ATTRIBUTES: usize = HIGHEST_ATTRIBUTE as usize + 1;
 
 pub const VALUES: usize = HIGHEST_VALUE as usize + 1;
 
-// A field that names no program.
-const NONE: usize = 65535;
-
+// What was read: the byte past it, and whether a first and a second visit may hold it.
 #[derive(Clone, Copy)]
-pub enum Parsed {
-    // The byte past what was read; whether a first and a second visit may hold it.
-    Whole(usize, bool, bool),
-    // Nothing that fits lies there.
-    Bad,
+pub struct Parsed {
+    pub next: usize,
+    pub first: bool,
+    pub second: bool,
 }
 
-fn operand(s: &[u8], i: usize) -> Parsed
+// What either visit may hold.
+fn for_both(next: usize) -> Parsed
+    ensures { ForBoth next result }
+{
+    Parsed {
+        next: next,
+        first: true,
+        second: true,
+    }
+}
+
+// One thing and the one behind it: a visit may hold them where it may hold each.
+fn in_turn(one: Parsed, two: Parsed) -> Parsed
+    ensures { InTurn one two result }
+{
+    Parsed {
+        next: two.next,
+        first: one.first & two.first,
+        second: one.second & two.second,
+    }
+}
+
+// Here and below: what lies at i and fits, or none.
+fn operand(s: &[u8], i: usize) -> Option<Parsed>
     ensures { OperandAt s.now i result }
 {
     if s.len() <= i {
-        return Parsed::Bad;
+        return None;
     }
     if s.len() - i < 2 {
-        return Parsed::Bad;
+        return None;
     }
     let k = s[i];
     let v = s[i + 1];
     match k {
         0 => {
             if v <= HIGHEST_VALUE {
-                Parsed::Whole(i + 2, true, true)
+                Some(for_both(i + 2))
             } else {
-                Parsed::Bad
+                None
             }
         }
         1 => {
             if v <= HIGHEST_ATTRIBUTE {
-                Parsed::Whole(i + 2, true, true)
+                Some(for_both(i + 2))
             } else {
-                Parsed::Bad
+                None
             }
         }
         2 => {
             if v <= HIGHEST_ATTRIBUTE {
-                Parsed::Whole(i + 2, false, true)
+                Some(Parsed {
+                    next: i + 2,
+                    first: false,
+                    second: true,
+                })
             } else {
-                Parsed::Bad
+                None
             }
         }
-        _ => Parsed::Bad,
+        _ => None,
     }
 }
 
-fn comparison(s: &[u8], i: usize, room: usize) -> Parsed
+fn comparison(s: &[u8], i: usize, room: usize) -> Option<Parsed>
     requires { (i < length s.now) × (get_or s.now i 0 ≡ 0) }
     ensures { ConditionAt room s.now i result }
 {
-    let Parsed::Whole(j, a, b) = operand(s, i + 1) else {
-        return Parsed::Bad;
-    };
-    let Parsed::Whole(n, c, d) = operand(s, j) else {
-        return Parsed::Bad;
-    };
-    Parsed::Whole(n, a & c, b & d)
+    let one = operand(s, i + 1)?;
+    let two = operand(s, one.next)?;
+    Some(in_turn(one, two))
 }
 
-fn condition(s: &[u8], i: usize, room: usize) -> Parsed
+fn condition(s: &[u8], i: usize, room: usize) -> Option<Parsed>
     ensures { ConditionAt room s.now i result }
 {
     if s.len() <= i {
-        return Parsed::Bad;
+        return None;
     }
     let k = s[i];
     if k == 0 {
         return comparison(s, i, room);
     }
     if 3 < k {
-        return Parsed::Bad;
+        return None;
     }
     if room == 0 {
-        return Parsed::Bad;
+        return None;
     }
-    let Parsed::Whole(j, a, b) = condition(s, i + 1, room - 1) else {
-        return Parsed::Bad;
-    };
+    let one = condition(s, i + 1, room - 1)?;
     if k == 1 {
-        return Parsed::Whole(j, a, b);
+        return Some(one);
     }
-    let Parsed::Whole(n, c, d) = condition(s, j, room - 1) else {
-        return Parsed::Bad;
-    };
-    Parsed::Whole(n, a & c, b & d)
+    let two = condition(s, one.next, room - 1)?;
+    Some(in_turn(one, two))
 }
 
 fn whole_characters(f: &[u8]) -> bool
@@ -184,7 +200,7 @@ fn text_range(s: &[u8], i: usize, strings: &[u8]) -> bool
 }
 
 // A statement that assigns, 1 to 3.
-fn assignment(s: &[u8], i: usize, tags: usize, strings: &[u8]) -> Parsed
+fn assignment(s: &[u8], i: usize, tags: usize, strings: &[u8]) -> Option<Parsed>
     requires { (i < length s.now) × (get_or s.now i 0 < 4) }
     ensures { PlainAt tags strings.now s.now i result }
 {
@@ -192,31 +208,35 @@ fn assignment(s: &[u8], i: usize, tags: usize, strings: &[u8]) -> Parsed
     match k {
         1 => {
             if two_numbers(s, i, HIGHEST_ATTRIBUTE, HIGHEST_VALUE) {
-                Parsed::Whole(i + 3, true, true)
+                Some(for_both(i + 3))
             } else {
-                Parsed::Bad
+                None
             }
         }
         2 => {
             if two_numbers(s, i, HIGHEST_ATTRIBUTE, HIGHEST_ATTRIBUTE) {
-                Parsed::Whole(i + 3, true, true)
+                Some(for_both(i + 3))
             } else {
-                Parsed::Bad
+                None
             }
         }
         3 => {
             if two_numbers(s, i, HIGHEST_ATTRIBUTE, HIGHEST_ATTRIBUTE) {
-                Parsed::Whole(i + 3, false, true)
+                Some(Parsed {
+                    next: i + 3,
+                    first: false,
+                    second: true,
+                })
             } else {
-                Parsed::Bad
+                None
             }
         }
-        _ => Parsed::Bad,
+        _ => None,
     }
 }
 
 // A statement other than a branch.
-fn plain(s: &[u8], i: usize, tags: usize, strings: &[u8]) -> Parsed
+fn plain(s: &[u8], i: usize, tags: usize, strings: &[u8]) -> Option<Parsed>
     requires { (i < length s.now) × (get_or s.now i 0 ≡ 10 → ⊥) }
     ensures { PlainAt tags strings.now s.now i result }
 {
@@ -225,29 +245,33 @@ fn plain(s: &[u8], i: usize, tags: usize, strings: &[u8]) -> Parsed
         return assignment(s, i, tags, strings);
     }
     match k {
-        4 => Parsed::Whole(i + 1, true, true),
+        4 => Some(for_both(i + 1)),
         5 | 6 => {
             if tag_number(s, i, tags) {
-                Parsed::Whole(i + 2, true, true)
+                Some(for_both(i + 2))
             } else {
-                Parsed::Bad
+                None
             }
         }
         7 => {
             if text_range(s, i, strings) {
-                Parsed::Whole(i + 4, true, true)
+                Some(for_both(i + 4))
             } else {
-                Parsed::Bad
+                None
             }
         }
-        8 | 9 => Parsed::Whole(i + 1, true, false),
-        _ => Parsed::Bad,
+        8 | 9 => Some(Parsed {
+            next: i + 1,
+            first: true,
+            second: false,
+        }),
+        _ => None,
     }
 }
 
 // A statement; what a branch holds lies one deeper.
 #[cycle(list_statement)]
-fn statement(s: &[u8], i: usize, tags: usize, strings: &[u8], room: usize) -> Parsed
+fn statement(s: &[u8], i: usize, tags: usize, strings: &[u8], room: usize) -> Option<Parsed>
     requires { i < length s.now }
     ensures { StatementAt tags strings.now room s.now i result }
 {
@@ -255,46 +279,36 @@ fn statement(s: &[u8], i: usize, tags: usize, strings: &[u8], room: usize) -> Pa
         return plain(s, i, tags, strings);
     }
     if room == 0 {
-        return Parsed::Bad;
+        return None;
     }
-    let Parsed::Whole(j, a, b) = condition(s, i + 1, room - 1) else {
-        return Parsed::Bad;
-    };
-    let Parsed::Whole(m, c, d) = list(s, j, tags, strings, room - 1) else {
-        return Parsed::Bad;
-    };
-    let Parsed::Whole(n, e, f) = list(s, m, tags, strings, room - 1) else {
-        return Parsed::Bad;
-    };
-    Parsed::Whole(n, a & (c & e), b & (d & f))
+    let test = condition(s, i + 1, room - 1)?;
+    let met = list(s, test.next, tags, strings, room - 1)?;
+    let unmet = list(s, met.next, tags, strings, room - 1)?;
+    Some(in_turn(test, in_turn(met, unmet)))
 }
 
 // The statements from i on with the 0 that ends them.
 #[cycle(list_statement)]
-fn list(s: &[u8], i: usize, tags: usize, strings: &[u8], room: usize) -> Parsed
+fn list(s: &[u8], i: usize, tags: usize, strings: &[u8], room: usize) -> Option<Parsed>
     ensures { ListAt tags strings.now room s.now i result }
 {
     if s.len() <= i {
-        return Parsed::Bad;
+        return None;
     }
     if s[i] == 0 {
-        return Parsed::Whole(i + 1, true, true);
+        return Some(for_both(i + 1));
     }
-    let Parsed::Whole(j, a, b) = statement(s, i, tags, strings, room) else {
-        return Parsed::Bad;
-    };
-    let Parsed::Whole(n, c, d) = list(s, j, tags, strings, room) else {
-        return Parsed::Bad;
-    };
-    Parsed::Whole(n, a & c, b & d)
+    let one = statement(s, i, tags, strings, room)?;
+    let rest = list(s, one.next, tags, strings, room)?;
+    Some(in_turn(one, rest))
 }
 
 // The program that lies at i. Only as many bytes are read as a program may have.
-pub fn program(section: &[u8], i: usize, tags: usize, strings: &[u8]) -> Parsed
+pub fn program(section: &[u8], i: usize, tags: usize, strings: &[u8]) -> Option<Parsed>
     ensures { ProgramAt tags strings.now section.now i result }
 {
     if section.len() <= i {
-        return Parsed::Bad;
+        return None;
     }
     let e = i + (section.len() - i).min(LONGEST);
     list(&section[0..e], i, tags, strings, DEEPEST)
@@ -307,12 +321,19 @@ pub fn programs_fill(section: &[u8], tags: usize, strings: &[u8]) -> bool
     // A while: each step goes on past the program that it read, which no range gives.
     let mut i = 0;
     while i < section.len() {
-        let Parsed::Whole(n, _, _) = program(section, i, tags, strings) else {
+        let Some(read) = program(section, i, tags, strings) else {
             return false;
         };
-        i = n;
+        i = read.next;
     }
     true
+}
+
+// Where the program that a field names starts: FFFF names none.
+pub fn start_named(field: usize) -> Option<usize>
+    ensures { StartNamed field result }
+{
+    if field == 65535 { None } else { Some(field) }
 }
 
 // Whether a field of a node or a production, for a first or a second visit, is as it should be: FFFF, or the start of a program that this visit
@@ -321,22 +342,22 @@ pub fn field_fits(section: &[u8], tags: usize, strings: &[u8], field: usize, sec
     requires { Filled tags strings.now section.now }
     ensures { FieldTold tags strings.now section.now field second result }
 {
-    if field == NONE {
+    let Some(start) = start_named(field) else {
         return true;
-    }
+    };
     // A while: each step goes on past the program that it read, which no range gives.
     let mut i = 0;
-    while i < field {
-        let Parsed::Whole(n, _, _) = program(section, i, tags, strings) else {
+    while i < start {
+        let Some(read) = program(section, i, tags, strings) else {
             return false;
         };
-        i = n;
+        i = read.next;
     }
-    if i != field {
+    if i != start {
         return false;
     }
-    let Parsed::Whole(_, a, b) = program(section, i, tags, strings) else {
+    let Some(read) = program(section, i, tags, strings) else {
         return false;
     };
-    if second { b } else { a }
+    if second { read.second } else { read.first }
 }

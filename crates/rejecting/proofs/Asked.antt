@@ -1,6 +1,6 @@
 -- Which acts an event asks for: the root's start tag, or the brackets of a way and then one act more. No event is refused with 25 but for its acts.
 -- Assumes nothing.
-use mathlib.Core.Path.{◌≡◌, refl, sym, ap, ◌∙◌, subst}
+use mathlib.Core.Path.{◌≡◌, refl, ap, ◌∙◌, subst}
 use mathlib.Core.Bool.{Bool, true, false}
 use mathlib.Core.List.{List, [], ◌∷◌, ◌++◌}
 use mathlib.Core.Option.{Option, none, some}
@@ -16,7 +16,7 @@ use Rattle.runs.specs.Visits.{grammar}
 use Rattle.runs.specs.Events.{Event, starts, ends, letter}
 use Rattle.runs.specs.Acts.{Act, start_tag, end_tag, letter_read, bracket_acts, Store, acts}
 use Rattle.runs.specs.Way.{Way, end_way, atom_way}
-use Rattle.runs.specs.Machine.{Open, Control, before, inside, after, at_start, at_place_lem, Turn, refuse, go, opening_up, start_at, start_by, production_for, root_by, own_tag, same_tag, end_by, char_by, move, most, Configuration, Answer, took, refused, acted, turned, step}
+use Rattle.runs.specs.Machine.{Open, Control, before, inside, after, at_start, at_place_lem, Turn, refuse, go, opening_up, start_at, start_by, production_for, root_by, own_tag, same_tag, end_by, char_by, move, most, Configuration, refused, acted, turned, step}
 use Rattle.rejecting.specs.First.{FirstRejects, EventRejects}
 use Rattle.rejecting.proofs.Firsts.{first_none, none_first}
 

@@ -13,7 +13,6 @@ use Rattle.tokens.specs.declared.Answer.{Answer}
 use Rattle.tokens.specs.declared.Answer.TheVariants.{Token, Waiting, Begun, Bad, Long}
 use Rattle.tokens.specs.Stream.{settled, ReadAs}
 use Rattle.sheet.specs.Sheet.{Sheet}
-use Rattle.faults.specs.Verdict.{VerdictIs}
 use Rattle.faults.proofs.Theorems.{verdict_most}
 use Rattle.runs.specs.Visits.{most_visits}
 use Rattle.runs.specs.Acts.{Act}
@@ -22,13 +21,13 @@ use Rattle.runs.specs.Spells.{Token as RunToken, step_token}
 use Rattle.calls.specs.Held.{Held}
 use Rattle.calls.specs.Limits.{refuses, output_of, limited, within, one_token}
 use Rattle.calls.specs.Names.{token_of}
-use Rattle.calls.specs.Call.{Result, number_at, Stop, stops, full, no_token, Runs, CalledBy}
+use Rattle.calls.specs.Call.{Result, number_at, Stop, stops, full, no_token, CalledBy}
 use Rattle.calls.proofs.Read.{token_there}
 use Rattle.calls.proofs.Steps.{run_does}
 use Rattle.state.specs.Meaning.{meaning_of}
 use Rattle.state.specs.declared.State.{State}
 use Rattle.converter.specs.declared.Reply.{Reply}
-use Rattle.converter.specs.Answered.{held_of, GivenBack, sheet_fails, unfit, closed, Ran, AnsweredAs, as_given, runs}
+use Rattle.converter.specs.Answered.{held_of, GivenBack, sheet_fails, unfit, closed, Ran, as_given, runs}
 use Rattle.rejecting.specs.First.{TokenRejects}
 use Rattle.rejecting.specs.Named.{act_of, Rejects, by_act, by_nobody}
 use Rattle.rejecting.specs.Promises.{RefusalsNamed}

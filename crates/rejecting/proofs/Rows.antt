@@ -1,6 +1,7 @@
 -- The brackets of a line, by what those up to each of them come to: the first that rejects is the one with which they first come to nothing. What fits the sets that
 -- are kept fits them up to each bracket.
 -- Assumes nothing.
+use Rattle.std.specs.Prelude.{Option as Taken, Some, None}
 use mathlib.Core.Path.{◌≡◌, refl, sym, ap, ap₂, ◌∙◌}
 use mathlib.Core.Bool.{Bool, true, false}
 use mathlib.Core.List.{List, [], ◌∷◌}
@@ -26,11 +27,11 @@ use Rattle.state.specs.Meaning.{meaning_of, Shaped}
 use Rattle.state.specs.declared.State.{State}
 use Rattle.acts.specs.Acted.{Comes, BracketsAs}
 use Rattle.acts.specs.Seen.{ActedSeen}
-use Rattle.steps.proofs.Turns.{rejected_is, done_is}
+use Rattle.steps.proofs.Turns.{done_is}
 use Rattle.rejecting.specs.First.{FirstRejects, here, later}
 use Rattle.rejecting.specs.Named.{act_of}
 use Rattle.rejecting.specs.declared.Rejecter.TheVariants.{Node}
-use Rattle.rejecting.specs.Told.{FirstBracket, all_pass, one_rejects, FirstBracketAs}
+use Rattle.rejecting.specs.Told.{all_pass, one_rejects, FirstBracketAs}
 
 codes_take : (i : ℕ) (α : List Bracket) → take i (codes α) ≡ codes (take i α)
 codes_take i [] = take-nil i ∙ ap codes (sym (take-nil i))
@@ -97,7 +98,7 @@ module _ (s : List ℕ) (q : ℕ) (line : List ℕ) (z : State) where
   none_yet a y α l h o os c ns ns' t k = ((meaning_of z).store, refl)
 
   -- what the first brackets come to
-  module _ (i : ℕ) {p : Pen} {r : ActedSeen} {d : List ℕ} (B : BracketsAs s q (take i line) z p r d) where
+  module _ (i : ℕ) {p : Pen} {r : Taken ActedSeen} {d : List ℕ} (B : BracketsAs s q (take i line) z p r d) where
     comes : (a : Sheet) → IsSheet s a → (α : List Bracket) → line ≡ codes α → Shaped z → (o : Open) (os : List Open) → (meaning_of z).control ≡ inside o os →
         (ns ns' : List ℕ) → through_nodes deepest_tree α ns ≡ some ns' → (top_of z).«open» ≡ suc (length ns) →
         Comes (acts a (bracket_acts q (take i α)) (meaning_of z).store) (meaning_of z).control z p r d
@@ -105,18 +106,18 @@ module _ (s : List ℕ) (q : ℕ) (line : List ℕ) (z : State) where
         let w = through_take deepest_tree i α ns ns' t in
         B.right a y (take i α) (ap (take i) l ∙ codes_take i α) h o os c ns w.0 w.1 k
 
-    pub one_more : r.ok ≡ true → PassedTo s q line z i
-    one_more e a y α l h o os c ns ns' t k =
-        let D = done_is (acts a (bracket_acts q (take i α)) (meaning_of z).store) (meaning_of z).control z p r d (comes a y α l h o os c ns ns' t k) e in
-        (D.0, D.1)
+  pub one_more : (i : ℕ) {p : Pen} {r : ActedSeen} {d : List ℕ} → BracketsAs s q (take i line) z p (Some r) d → PassedTo s q line z i
+  one_more i {p} {r} {d} B a y α l h o os c ns ns' t k =
+      let D = done_is (acts a (bracket_acts q (take i α)) (meaning_of z).store) (meaning_of z).control z p r d (comes i B a y α l h o os c ns ns' t k) in
+      (D.0, D.1)
 
-  pub rejects_here : (i n : ℕ) {p : Pen} {r : ActedSeen} {d : List ℕ} → n ≡ suc i → i ≤ length line → PassedTo s q line z i → BracketsAs s q (take n line) z p r d → r.ok ≡ false → FirstBracketAs s q line z i
-  rejects_here i n {p} {r} {d} g few P B e =
+  pub rejects_here : (i n : ℕ) {p : Pen} {d : List ℕ} → n ≡ suc i → i ≤ length line → PassedTo s q line z i → BracketsAs s q (take n line) z p None d → FirstBracketAs s q line z i
+  rejects_here i n {p} {d} g few P B =
       record {
         few = few;
         right = λ a y α l h o os c ns ns' t k.
             let m = P a y α l h o os c ns ns' t k in
-            let w = rejected_is (acts a (bracket_acts q (take n α)) (meaning_of z).store) (meaning_of z).control z p r d (comes n B a y α l h o os c ns ns' t k) e in
+            let w = comes n B a y α l h o os c ns ns' t k in
             let F = first_there a q α i (meaning_of z).store m.0 m.1 (ap (λ (k : ℕ). acts a (bracket_acts q (take k α)) (meaning_of z).store) (sym g) ∙ w) in
             one_rejects F.0 F.1 F.2 F.3;
       }

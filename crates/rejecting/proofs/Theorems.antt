@@ -3,7 +3,7 @@
 use mathlib.Core.Path.{◌≡◌, refl, sym, ap, ◌∙◌, subst}
 use mathlib.Core.Bool.{Bool, true, false, ◌&&◌}
 use mathlib.Core.List.{List, [], ◌∷◌}
-use mathlib.Core.Option.{Option, none, some, none-ne-some as none_some}
+use mathlib.Core.Option.{Option, none, some}
 use Prim.Native.Nat.{ℕ}
 use native.Mathlib.Omega.{arith}
 use Rattle.tokens.specs.declared.Event.{Event as Read}
@@ -13,9 +13,9 @@ use Rattle.sheet.specs.Sheet.{Sheet}
 use Rattle.sheet.proofs.SheetLaws.{one_sheet}
 use Rattle.runs.specs.Visits.{grammar}
 use Rattle.runs.specs.Events.{Event}
-use Rattle.runs.specs.Acts.{Act, node_first, node_second, start_tag, end_tag, letter_read, Store}
+use Rattle.runs.specs.Acts.{Act, node_first, node_second, start_tag, end_tag, letter_read}
 use Rattle.runs.specs.Machine.{go, Configuration, Answer, took, refused, step, onward, answered, run}
-use Rattle.runs.specs.Spells.{Token as RunToken, events_of_token, is_blank, passes_at, unless_blank, step_token}
+use Rattle.runs.specs.Spells.{events_of_token, is_blank, passes_at, unless_blank, step_token}
 use Rattle.calls.specs.Names.{token_of}
 use Rattle.state.specs.Meaning.{meaning_of}
 use Rattle.state.specs.declared.State.{State}

@@ -1,45 +1,44 @@
 -- A token that a visit rejects: its one event, or of an empty tag's two the second, which sets out from a state that holds no output.
 -- Assumes nothing.
-use mathlib.Core.Path.{◌≡◌, refl, sym, ap, ◌∙◌, subst}
+use mathlib.Core.Path.{◌≡◌, sym, ap, ◌∙◌, subst}
 use mathlib.Core.Bool.{Bool, true, false}
 use mathlib.Core.List.{List, [], ◌∷◌}
 use mathlib.Core.Option.{Option, none, some}
-use Prim.Native.Nat.{ℕ, ◌+◌, ◌-◌}
+use Prim.Native.Nat.{ℕ, ◌-◌}
 use native.Mathlib.Omega.{arith}
 use lib.Dec.{leb}
 use lib.ListN.{length, take, drop}
+use Rattle.std.specs.Prelude.{Option as Answered, Some, None}
 use Rattle.tokens.specs.declared.Event.{Event as Read}
 use Rattle.tokens.specs.declared.Event.TheVariants.{Start, End, Empty, Character}
-use Rattle.trees.specs.declared.Symbol.{Symbol}
 use Rattle.trees.specs.declared.Symbol.TheVariants.{Tag as ForTag, Character as ForCharacter, End as ForEnd}
 use Rattle.sheet.specs.Sheet.{Sheet, IsSheet}
 use Rattle.sheet.proofs.SheetLaws.{one_sheet}
 use Rattle.visits.specs.Written.{Pen}
 use Rattle.runs.specs.Visits.{most_visits}
 use Rattle.runs.specs.Events.{Event, starts, ends, letter}
-use Rattle.runs.specs.Acts.{Act, Store}
+use Rattle.runs.specs.Acts.{Act}
 use Rattle.runs.specs.Machine.{Control, Configuration as Standing, Answer, took, refused, step, finished, onward, answered}
-use Rattle.calls.specs.Limits.{Taking, taken, refuses, no_room, silent, output_of, limited, within, one_token}
+use Rattle.calls.specs.Limits.{silent, output_of, limited, within, one_token}
 use Rattle.calls.specs.Names.{tag_named, token_of, character_token}
-use Rattle.calls.proofs.Frame.{step_number, token_number}
 use Rattle.calls.proofs.Steps.{out_of, behind_silent}
 use Rattle.fit.specs.RunFits.{RunFits}
-use Rattle.lookups.specs.Found.{or_missing, TagFound}
+use Rattle.lookups.specs.Found.{TagFound}
 use Rattle.state.specs.Meaning.{meaning_of, Shaped}
 use Rattle.state.specs.declared.State.{State}
 use Rattle.runs.specs.Spells.{step_token}
 use Rattle.steps.specs.Seen.{SteppedSeen}
-use Rattle.steps.specs.Stepped.{Took, StepAnswered, tag_in, SteppedAs, TokenAs}
+use Rattle.steps.specs.Stepped.{StepAnswered, tag_in, SteppedAs}
 use Rattle.steps.specs.Taken.{TakingIs, TakenAs}
 use Rattle.steps.specs.Parts.{RunReady}
-use Rattle.steps.proofs.Tokens.{start_token, fits_on}
-use Rattle.rejecting.specs.First.{FirstRejects, EventRejects, EventsReject, in_first, in_later, TokenRejects}
+use Rattle.steps.proofs.Tokens.{tag_there, start_token, fits_on}
+use Rattle.rejecting.specs.First.{EventRejects, EventsReject, in_first, in_later, TokenRejects}
 use Rattle.rejecting.specs.Named.{act_of}
-use Rattle.rejecting.specs.Told.{for_tag, for_end, for_character, AsksFor, EventTold, TokenTold, AnswersFor, names, nobody}
+use Rattle.rejecting.specs.Told.{for_tag, for_end, for_character, EventTold, StartTold, TokenTold, AnswersFor, names, nobody}
 use Rattle.rejecting.specs.declared.Rejecter.{Rejecter}
 use Rattle.rejecting.specs.declared.Rejecter.TheVariants.{Nobody}
-use Rattle.rejecting.proofs.Firsts.{first_silent, some_is}
-use Rattle.rejecting.proofs.Asked.{Asked, of_root, of_start, of_end, of_letter, asked, rejected_25}
+use Rattle.rejecting.proofs.Firsts.{first_silent}
+use Rattle.rejecting.proofs.Asked.{Asked, asked, rejected_25}
 use Rattle.rejecting.proofs.Theorems.{events_25, rejects_exactly}
 
 -- one event
@@ -47,22 +46,23 @@ alone : {a : Sheet} {z : Standing} {x : Event} {b : Act} → EventsReject a z (x
 alone (in_first R) = R
 alone {a} (in_later z' e E) = absurd (let k : took z' ≡ refused 25 = events_25 a E in let y : ◌≡◌ {A = ℕ} 0 1 = cc in omega arith)
 
--- only a tag of the sheet is rejected
-a_tag : {g : List _} {n : ℕ} {c : Control} (o : Option ℕ) {row : List Act} → Asked g n c (starts o) row → (t : ℕ) × (o ≡ some t)
-a_tag (some t) A = (t, refl)
-a_tag none A = elim A [ ]
+-- the start of a tag as it was looked up: only of one of the sheet's is anything asked
+nothing_asked : {g : List _} {n : ℕ} {c : Control} {row : List Act} → Asked g n c (starts none) row → ⊥
+nothing_asked A = elim A [ ]
 
-asks_tag : (t : ℕ) (o : Option ℕ) → t ≡ or_missing o → (u : ℕ) → o ≡ some u → AsksFor (ForTag t) (starts o)
-asks_tag t o e u k = subst (λ (p : Option ℕ). AsksFor (ForTag t) (starts p)) (sym (k ∙ ap some (sym (e ∙ ap or_missing k)))) for_tag
+module _ {s : List ℕ} {z : State} {r : Rejecter} where
+  pub some_told : {t : ℕ} → EventTold s (ForTag t) z r → StartTold s (Some t) z r
+  some_told {t} E = record { right = λ a i h f b R. E.right a i h f (starts (some t)) for_tag b R }
+
+  pub none_told : StartTold s None z r
+  none_told = record { right = λ a i h f b R. absurd (nothing_asked (asked a (meaning_of z) (starts none) R)) }
 
 -- the token e of a part is one event
 module _ {s : List ℕ} (part : List ℕ) {z : State} {r : Rejecter} where
-  module _ (from len : ℕ) {name : List ℕ} (named : name ≡ take len (drop from part)) {t : ℕ} (T : TagFound s name t) (E : EventTold s (ForTag t) z r) where
+  module _ (from len : ℕ) {name : List ℕ} (named : name ≡ take len (drop from part)) {t : Answered ℕ} (T : TagFound s name t) (E : StartTold s t z r) where
     start_named : (a : Sheet) → IsSheet s a → Shaped z → RunFits a (meaning_of z) → (b : Act) → EventRejects a (meaning_of z) (starts (tag_named a.names (take len (drop from part)))) b → act_of r ≡ some b
     start_named a i h f b R =
-        let o = tag_named a.names (take len (drop from part)) in
-        let u = a_tag o (asked a (meaning_of z) (starts o) R) in
-        E.right a i h f (starts o) (asks_tag t o (T.is a i ∙ ap (λ (l : List ℕ). or_missing (tag_named a.names l)) named) u.0 u.1) b R
+        E.right a i h f b (subst (λ (o : Option ℕ). EventRejects a (meaning_of z) (starts o) b) (sym (tag_there i part from len named T)) R)
 
     pub start_told : TokenTold s part (Start from len) z r
     start_told = record { right = λ a i h f b X. start_named a i h f b (alone X.rejects) }
@@ -87,7 +87,7 @@ silent_event a m x R =
     record { row = R.row; to = R.to; asks = R.asks; first = first_silent a (out_of m) (silent m).store m.store (ap (λ (y : Standing). y.store) (behind_silent [] m)) R.first }
 
 -- an empty tag's two events
-module _ {s : List ℕ} (part : List ℕ) {z : State} {p : Pen} {u : SteppedSeen} {mid : List ℕ} (from len : ℕ) {name : List ℕ} (named : name ≡ take len (drop from part)) {t : ℕ} (T : TagFound s name t)
+module _ {s : List ℕ} (part : List ℕ) {z : State} {p : Pen} {u : SteppedSeen} {mid : List ℕ} (from len : ℕ) {name : List ℕ} (named : name ≡ take len (drop from part)) {t : Answered ℕ} (T : TagFound s name t)
     (S : SteppedAs s (starts (tag_in t)) z p u mid) where
   began : (a : Sheet) → IsSheet s a → Shaped z → RunFits a (meaning_of z) → (y : Answer) → step a (meaning_of z) (starts (tag_named a.names (take len (drop from part)))) ≡ y → StepAnswered y z p u mid
   began a i h f y e = by y (subst (λ (k : Answer). StepAnswered (answered (onward (meaning_of z) (starts (tag_named a.names (take len (drop from part))) ∷ []) k (λ m. finished m))) z p u mid) e ((start_token {part = part} {from = from} {len = len} named T S).right a i h f))
@@ -97,7 +97,7 @@ module _ {s : List ℕ} (part : List ℕ) {z : State} {p : Pen} {u : SteppedSeen
       by (refused n) A = A
 
   module _ {r : Rejecter} where
-    pub empty_first : (u.number ≡ 0 → ⊥) → EventTold s (ForTag t) z r → TokenTold s part (Empty from len) z r
+    pub empty_first : (u.number ≡ 0 → ⊥) → StartTold s t z r → TokenTold s part (Empty from len) z r
     empty_first n E = record { right = λ a i h f b X. by a i h f b X.rejects }
       where
         by : (a : Sheet) → IsSheet s a → Shaped z → RunFits a (meaning_of z) → (b : Act) →

@@ -1,6 +1,6 @@
 -- What the parts of naming hand on: of a row of brackets, of an event, of a token, of a run that is ready.
 -- Assumes nothing.
-use Rattle.std.specs.Prelude.{◌≡◌, true, false, List, ℕ, suc, ◌≤◌, ◌<◌, length, get_or}
+use Rattle.std.specs.Prelude.{Option as Answered, Some, None, ◌≡◌, true, false, List, ℕ, suc, ◌≤◌, ◌<◌, length, get_or}
 use Rattle.std.proofs.Math.Option.{Option, some}
 use Rattle.limits.specs.Limits.{deepest_tree}
 use Rattle.expressions.specs.Words.{Bracket}
@@ -19,6 +19,7 @@ use Rattle.fit.specs.RunFits.{RunFits}
 use Rattle.state.specs.Changes.{top_of}
 use Rattle.state.specs.Meaning.{meaning_of, Shaped}
 use Rattle.state.specs.declared.State.{State}
+use Rattle.steps.specs.Stepped.{tag_in}
 use Rattle.rejecting.specs.First.{FirstRejects, EventRejects, TokenRejects}
 use Rattle.rejecting.specs.Named.{act_of}
 use Rattle.rejecting.specs.declared.Rejecter.{Rejecter}
@@ -39,9 +40,14 @@ pub record FirstBracketAs (s : List ℕ) (q : ℕ) (line : List ℕ) (z : State)
 pub record BracketNamed (q c : ℕ) (r : Rejecter) : Type 0 where
   pub is : (b : Bracket) → c ≡ code_of b → act_of r ≡ some (bracket_act q b)
 
+-- the start tag of a production as it was looked up
+abbrev pub starting : Answered ℕ → Rejecter
+starting None = Nobody
+starting (Some p) = Element p false
+
 -- the act behind the brackets: the start tag's of the first production of nonterminal n with that tag, the end tag's of production q; a character's rejects nothing
 abbrev pub LastNamed : Symbol → List ℕ → ℕ → ℕ → Rejecter → Type 0
-LastNamed (Tag t) s q n r = (p : ℕ) × ProductionFound s n t p × (r ≡ Element p false)
+LastNamed (Tag t) s q n r = (p : Answered ℕ) × ProductionFound s n t p × (r ≡ starting p)
 LastNamed Character s q n r = r ≡ Nobody
 LastNamed End s q n r = r ≡ Element q true
 
@@ -51,9 +57,12 @@ pub data AsksFor : Symbol → Event → Type 0 where
   for_end : {t : Option ℕ} → AsksFor End (ends t)
   for_character : {c : ℕ} → AsksFor Character (letter c)
 
--- of an event that asks for the symbol x, and of the token e of a part: where an act rejects it, that one is named
+-- of an event that asks for the symbol x, of the start of a tag as it was looked up, and of the token e of a part: where an act rejects it, that one is named
 pub record EventTold (s : List ℕ) (x : Symbol) (z : State) (r : Rejecter) : Type 0 where
   pub right : (a : Sheet) → IsSheet s a → Shaped z → RunFits a (meaning_of z) → (y : Event) → AsksFor x y → (b : Act) → EventRejects a (meaning_of z) y b → act_of r ≡ some b
+
+pub record StartTold (s : List ℕ) (t : Answered ℕ) (z : State) (r : Rejecter) : Type 0 where
+  pub right : (a : Sheet) → IsSheet s a → Shaped z → RunFits a (meaning_of z) → (b : Act) → EventRejects a (meaning_of z) (starts (tag_in t)) b → act_of r ≡ some b
 
 pub record TokenTold (s part : List ℕ) (e : Read) (z : State) (r : Rejecter) : Type 0 where
   pub right : (a : Sheet) → IsSheet s a → Shaped z → RunFits a (meaning_of z) → (b : Act) → TokenRejects a (meaning_of z) (token_of a part e) b → act_of r ≡ some b

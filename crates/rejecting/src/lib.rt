@@ -12,7 +12,7 @@ ghost use Rattle.live.specs.Live.{full};
 ghost use Rattle.steps.specs.Stepped.{event_visits};
 ghost use Rattle.steps.specs.Taken.{EventIn};
 ghost use Rattle.steps.specs.Parts.{ReadyAt};
-ghost use Rattle.rejecting.specs.Told.{FirstBracketAs, BracketNamed, LastNamed, EventTold, TokenTold, AnswersFor};
+ghost use Rattle.rejecting.specs.Told.{FirstBracketAs, BracketNamed, LastNamed, EventTold, StartTold, TokenTold, AnswersFor};
 ghost use Rattle.rejecting.specs.Named.{RejectedBy};
 
 use apart::live_in;
@@ -60,10 +60,9 @@ fn first_rejecting(s: &[u8], l: Layout, q: usize, line: &[u8], z: Live) -> usize
     for i in 0..line.len() {
         let end = i + 1;
         let mut unwritten = [0u8; 1];
-        let done = acts::brackets(s, l, q, &line[..end], z, &mut unwritten, 0, false);
-        if !done.ok {
+        let Some(_) = acts::brackets(s, l, q, &line[..end], z, &mut unwritten, 0, false) else {
             return i;
-        }
+        };
     }
     line.len()
 }
@@ -85,13 +84,13 @@ fn last_of(s: &[u8], l: Layout, q: usize, n: usize, x: Symbol) -> Rejecter
     ensures { LastNamed x s.now q n result }
 {
     match x {
-        Symbol::Tag(t) => {
-            let p = production_for(s, l, n, t);
-            Rejecter::Element {
+        Symbol::Tag(t) => match production_for(s, l, n, t) {
+            Some(p) => Rejecter::Element {
                 production: p,
                 again: false,
-            }
-        }
+            },
+            None => Rejecter::Nobody,
+        },
         Symbol::Character => Rejecter::Nobody,
         Symbol::End => Rejecter::Element {
             production: q,
@@ -111,8 +110,10 @@ fn of_event_inside(s: &[u8], l: Layout, z: Live, x: Symbol, stack: &[u8]) -> Rej
     let f = z.top();
     let q = f.production as usize;
     let mut line = [0u8; ways::MOST];
-    let w = find_way(s, l, q, f.place as usize, x, &mut line);
-    let n = w.line.length;
+    let Some(w) = find_way(s, l, q, f.place as usize, x, &mut line) else {
+        return Rejecter::Nobody;
+    };
+    let n = w.length;
     let i = first_rejecting(s, l, q, &line[..n], z);
     if i < n {
         return visit_of(q, line[i]);
@@ -131,6 +132,19 @@ fn of_event(s: &[u8], l: Layout, z: Live, x: Symbol, stack: &[u8]) -> Rejecter
         return last_of(s, l, 0, l.start, x);
     }
     of_event_inside(s, l, z, x, stack)
+}
+
+// The same of the start of a tag as it was looked up: where it is none of the sheet's, no act is asked for.
+fn of_start(s: &[u8], l: Layout, z: Live, t: Option<usize>, stack: &[u8]) -> Rejecter
+    requires laid_out { LaidOut s.now l }
+    requires ready_at { ReadyAt s.now z stack.now }
+    requires count_bound { z.count ≤ most_visits + event_visits }
+    ensures { StartTold s.now t (full z stack.now) result }
+{
+    match t {
+        Some(t) => of_event(s, l, z, Symbol::Tag(t), stack),
+        None => Rejecter::Nobody,
+    }
 }
 
 // The same of an empty tag: of its start or, where that is taken, of its end.
@@ -155,7 +169,7 @@ fn of_empty(
     let run = Run { at: 0, live: z };
     let begun = run.start(s, l, t, stack, &mut unwritten, false);
     if begun.number != 0 {
-        return of_event(s, l, z, Symbol::Tag(t), stack);
+        return of_start(s, l, z, t, stack);
     }
     let after = begun.live;
     of_event(s, l, after, Symbol::End, stack)
@@ -173,7 +187,7 @@ fn of_token(s: &[u8], l: Layout, z: Live, part: &[u8], e: Event, stack: &mut [u8
         Event::Start { from, len } => {
             let end = from + len;
             let t = tag_named(s, l, &part[from..end]);
-            of_event(s, l, z, Symbol::Tag(t), stack)
+            of_start(s, l, z, t, stack)
         }
         Event::End { from: _, len: _ } => of_event(s, l, z, Symbol::End, stack),
         Event::Empty { from, len } => of_empty(s, l, z, part, from, len, stack),

@@ -27,12 +27,12 @@ fn say_there(text: &[u8], place: usize) {
 
 // The tag of production q.
 pub(crate) fn say_production(text: &[u8], q: usize) {
-    let h = posts::find(text, Wanted::Post(std::num::wrapping_add_usize(q, 1), 0));
-    if h.found {
+    let wanted = Wanted::Post(std::num::wrapping_add_usize(q, 1), 0);
+    if let Some(at) = posts::find(text, wanted).found {
         say(b"  production ");
         say_number(q);
         say(b": ");
-        say_there(text, h.at);
+        say_there(text, at);
     }
 }
 
@@ -42,21 +42,20 @@ pub(crate) fn say_sign(text: &[u8], sheet: &[u8], q: usize, bracket: usize) {
         return;
     }
     let post = signs::post_of(sheet, q, bracket);
-    let h = posts::find(text, Wanted::Post(std::num::wrapping_add_usize(q, 1), post));
-    if h.found {
+    let wanted = Wanted::Post(std::num::wrapping_add_usize(q, 1), post);
+    if let Some(at) = posts::find(text, wanted).found {
         say(b"  This sign stands at ");
-        say_there(text, h.at);
+        say_there(text, at);
     }
 }
 
 // A nonterminal that has no production, where it first stands.
 fn say_missing(text: &[u8], n: usize) {
-    let h = posts::find(text, Wanted::Nonterminal(n));
-    if h.found {
+    if let Some(at) = posts::find(text, Wanted::Nonterminal(n)).found {
         say(b"n");
         say_number(n);
         say(b" has no production; it stands at ");
-        say_there(text, h.at);
+        say_there(text, at);
     }
 }
 

@@ -4,10 +4,11 @@
 
 ghost use Rattle.rosters.specs.Rosters.{Enrolling, Enrolled};
 
-// The number of a name for which there was no room.
+// The number of a name for which there was no room. No Option: it is the name's place all the same, behind all 64 of the store, and is laid in nodes.
 pub const NONE: usize = 64;
 
-// How many names a store has, whether one had no room, and the number of the one that was filed last.
+// How many names a store has, whether one had no room, and the number of the one that was filed last. The flag stands for all names so far; the count
+// and the number are read whatever it says.
 #[derive(Clone, Copy)]
 pub struct Roster {
     pub count: usize,

@@ -20,7 +20,7 @@ use Rattle.state.specs.Changes.{not_closed}
 use Rattle.converter.specs.Answered.{closing_in}
 use Rattle.converter.proofs.Entering.{PassedSheet, passed_sheet}
 use Rattle.shapes.specs.declared.Shape.{Shape}
-use Rattle.shapes.specs.declared.Shape.TheVariants.{Records, Other}
+use Rattle.std.specs.Prelude.{Option as Answered, Some, None}
 use Rattle.shapes.specs.Told.{tags_seen, ShapeTold}
 use Rattle.holding.specs.Told.{SalvageTold}
 use Rattle.rescued.specs.Fits.{SalvageFits}
@@ -38,16 +38,16 @@ module _ {s : List ℕ} (b area part : List ℕ) {n : ℕ} (v : VerdictIs s n) w
   pub fails_first : (n ≡ 0 → ⊥) → SalvageEntered s b area part n
   fails_first h = let k : 1 ≤ n = omega arith in given_back k (λ o r. sheet_fails k v)
 
-  module _ (z : n ≡ 0) {x : Shape} (T : ShapeTold s x) where
+  module _ (z : n ≡ 0) {x : Answered Shape} (T : ShapeTold s x) where
     abbrev P : PassedSheet s
     P = passed_sheet v z
 
-    pub other_shape : x ≡ Other → SalvageEntered s b area part 34
+    pub other_shape : x ≡ None → SalvageEntered s b area part 34
     other_shape e = given_back {n = 34} (omega arith) (λ o r. no_records P.sheet P.is_sheet P.passed (sym (sym (ap tags_seen e) ∙ T.is P.sheet P.is_sheet)))
 
-    module _ (root own : ℕ) (e : x ≡ Records root own) where
+    module _ (y : Shape) (e : x ≡ Some y) where
       abbrev tags : RecordTags
-      tags = record { root_tag = root; record_tag = own }
+      tags = record { root_tag = y.root_tag; record_tag = y.record_tag }
 
       shaped : record_tags P.sheet ≡ some tags
       shaped = sym (sym (ap tags_seen e) ∙ T.is P.sheet P.is_sheet)

@@ -8,7 +8,7 @@ use converter::repeated;
 use faults::verdict;
 use holding::salvage_fits;
 use layout::layout_of;
-use shapes::{Shape, shape_of};
+use shapes::shape_of;
 use state::State;
 use state::bytes::heading_at;
 
@@ -26,8 +26,7 @@ pub fn given_back(sheet: &[u8], state: &[u8], area: &[u8], part: &[u8]) -> usize
         return number;
     }
     let l = layout_of(sheet);
-    let shape = shape_of(sheet, l);
-    let Shape::Records { root, record } = shape else {
+    let Some(_) = shape_of(sheet, l) else {
         return OTHER_SHAPE;
     };
     if !salvage_fits(sheet, l, state, area.len(), part.len()) {

@@ -15,7 +15,7 @@ use Rattle.salvage.specs.Shape.{RecordTags}
 use Rattle.salvage.specs.Shaped.{record_tags}
 use Rattle.salvage.specs.Resumption.{record_start, root_end}
 use Rattle.shapes.specs.declared.Shape.{Shape}
-use Rattle.shapes.specs.declared.Shape.TheVariants.{Records, Other}
+use Rattle.std.specs.Prelude.{Option as Answered, Some, None}
 use Rattle.shapes.specs.Told.{tags_seen, ShapeTold}
 use Rattle.shapes.specs.Marks.{TagThere, MarkPut, MarksResume}
 use Rattle.shapes.proofs.Marking.{tags_there}
@@ -44,7 +44,7 @@ module _ {s b area part : List ℕ} (M : MaySalvage s b area part) where
   pub shaped_returning : byte_at b mode_at ≡ 1 → Shaped (returning_in b)
   shaped_returning e = shaped_of M.is_sheet (returning_bytes b) (subst (ModeFits M.sheet b (length area)) e M.fits.mode).returns
 
-  module _ (root tag : ℕ) (T : ShapeTold s (Records root tag)) where
+  module _ (root tag : ℕ) (T : ShapeTold s (Some (record { root_tag = root; record_tag = tag }))) where
     abbrev tags : RecordTags
     tags = record { root_tag = root; record_tag = tag }
 
@@ -80,7 +80,7 @@ module _ {s b area part : List ℕ} where
   entered_back (may_run m) h out rep = absurd (h refl)
   entered_back (given_back k f) h out rep = f out rep
 
-  pub no_other : {n : ℕ} → SalvageEntered s b area part n → n ≡ 0 → {x : Shape} → ShapeTold s x → x ≡ Other → ⊥
+  pub no_other : {n : ℕ} → SalvageEntered s b area part n → n ≡ 0 → {x : Answered Shape} → ShapeTold s x → x ≡ None → ⊥
   no_other E e T q = let m = entered_run E e in none_some m.tags (sym (ap tags_seen q) ∙ T.is m.sheet m.is_sheet ∙ m.of_shape)
 
   pub back_untouched : {n : ℕ} → SalvageEntered s b area part n → (n ≡ 0 → ⊥) → (ended : Bool) (out rep : List ℕ) {r : SalvageCounts} → r ≡ untouched_with n b →

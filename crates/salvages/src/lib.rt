@@ -3,11 +3,10 @@
 
 #![tactic(auto)]
 
-ghost use Rattle.std.specs.Prelude.{◌≡◌, length};
+ghost use Rattle.std.specs.Prelude.{◌≡◌, Some, length};
 ghost use Rattle.layout.specs.LaidOut.{LaidOut};
 ghost use Rattle.state.specs.Bytes.{long_at};
 ghost use Rattle.shapes.specs.Told.{ShapeTold};
-ghost use Rattle.shapes.specs.declared.Shape.TheVariants.{Records};
 ghost use Rattle.turns.specs.Stands.{Grounds};
 ghost use Rattle.holding.specs.Told.{StandAs};
 ghost use Rattle.rescuer.specs.Ran.{ResumptionIs};
@@ -24,7 +23,7 @@ use rescued::SalvageCounts;
 use rescuer::run_steps;
 use resting::{clear, put_stand};
 use salvager::given_back;
-use shapes::{Shape, put_mark, shape_of};
+use shapes::{put_mark, shape_of};
 use state::State;
 use state::bytes::{heading_at, number_at, to_bytes};
 use turns::{Given, Stand};
@@ -111,7 +110,7 @@ fn run_bytes(
 ) -> SalvageCounts
     requires laid_out { LaidOut s.now l }
     requires may_salvage { MaySalvage s.now state.old waiting.old part.now }
-    requires shape_told { ShapeTold s.now (Records root tag) }
+    requires shape_told { ShapeTold s.now (Some (record { root_tag = root; record_tag = tag })) }
     ensures { SalvageRan s.now part.now ended (lending state.old out.old waiting.old report.old) (lending state.new out.new waiting.new report.new) result }
 {
     let mut start = [0u8; shapes::MARK];
@@ -176,12 +175,20 @@ pub fn salvage_bytes(
         return untouched(number, state);
     }
     let l = layout_of(sheet);
-    let shape = shape_of(sheet, l);
-    let Shape::Records { root, record } = shape else {
+    let Some(shape) = shape_of(sheet, l) else {
         // No sheet that came so far is of another shape.
         return untouched(number, state);
     };
     run_bytes(
-        sheet, l, root, record, state, part, ended, out, waiting, report,
+        sheet,
+        l,
+        shape.root_tag,
+        shape.record_tag,
+        state,
+        part,
+        ended,
+        out,
+        waiting,
+        report,
     )
 }

@@ -1,4 +1,5 @@
 -- A byte in a declaration. Assumes nothing.
+use Rattle.std.specs.Prelude.{Some, None}
 use mathlib.Core.Path.{◌≡◌, refl, sym, ◌∙◌, ap, subst}
 use mathlib.Core.Logic.{◌⊎◌, ◌↔◌, inl, inr}
 use mathlib.Core.Bool.{Bool, true, false, cond, true≢false}
@@ -16,7 +17,6 @@ use Rattle.encoding.specs.Distinct.{place_of}
 use Rattle.models.specs.Models.{Declaration}
 use Rattle.models.specs.Expressions.{spec_nodes, spec_depth}
 use Rattle.models.specs.Family.{mentioned, EachFewNodes}
-use Rattle.models.specs.Answers.{TooMuchAt, refuses}
 use Rattle.models.specs.Names.{whole_names, own_name, inner_name}
 use Rattle.models.specs.Reader.{Phase, opening, naming, named, contents, emptying, inside, hashing, mixing, barred, mixed_name, mixed_closed, wants, in_name, marking, after, group_closed, ended, to, over, step_phase, DtdProgress, outside, within, moved_by, step_declarations, finished_phase, finished_dtd}
 use Rattle.models.specs.Promises.{DtdFits}
@@ -46,7 +46,7 @@ use Rattle.dockets.specs.Noted.{end_long, Noting, NamesLast, NotedAs, NotedIs}
 use Rattle.dockets.specs.Concluded.{Concluding, ConcludedIs}
 use Rattle.scans.specs.declared.Scan.{Scan}
 use Rattle.scans.specs.Scans.{limit_by, content_in, Rooms, ScanIs, between, amid, ReadUpTo, InText, ByteRead, onward, halted}
-use Rattle.scans.proofs.Limits.{last_few, last_shallow, few_with, shallow_with, told_some, followed, scan}
+use Rattle.scans.proofs.Limits.{last_few, last_shallow, few_with, shallow_with, followed, scan}
 
 abbrev Names : Type 0
 Names = List (List ℕ)
@@ -145,7 +145,7 @@ module _ (text : List ℕ) (at b : ℕ) (s : Scan) (nb ne tb te productions node
         where
           on : DeclarationsKept text here.ds s.docket productions nodes → DeclarationsKept text here.ds k productions nodes
           on (within_bounds g h l) = within_bounds (f.passed_same ∙ g) h (subst (λ t. DeclarationsHeld here.ds t productions nodes) (sym f.tally_same) l)
-          on (passed_bounds g h l) = passed_bounds (f.passed_same ∙ g) (subst (TooMuchAt text) (sym f.byte_same) h) l
+          on (passed_bounds byte g h l) = passed_bounds byte (f.passed_same ∙ g) h l
 
       pub rooms_now : Rooms nb' ne' tb' te' productions nodes
       rooms_now = record { name_room = f.name_room; tag_room = f.tag_room; section_room = i.up_to_lem.rooms.section_room }
@@ -175,7 +175,7 @@ module _ (text : List ℕ) (at b : ℕ) (s : Scan) (nb ne tb te productions node
             deep_is : size.deep ≡ spec_depth (finished_phase q').content
             deep_is = (w.is (place_of noted.rows_now) q' hw (step_has_room parentheses here.q q' b few_here g)).deep_is
 
-            goes : size.nodes ≤ nodes_at_most → size.deep ≤ deepest_tree → ByteRead text at nb' ne' tb' te' productions nodes (scan false 0 m.headway k)
+            goes : size.nodes ≤ nodes_at_most → size.deep ≤ deepest_tree → ByteRead text at nb' ne' tb' te' productions nodes (scan false None m.headway k)
             goes c d =
                 let fits : DtdFits (here.ds ++ finished_phase q' ∷ []) = record {
                   few = few_with here.ds (finished_phase here.q) (finished_phase q') here.stands.fits.few (omega (arith, c, nodes_are));
@@ -196,14 +196,14 @@ module _ (text : List ℕ) (at b : ℕ) (s : Scan) (nb ne tb te productions node
                       (subst (ElementIs k noted.rows_now noted.tag_rows_now) (sym (names_grow parentheses here.q b (to q') g).declared_are) element_now) hw kept_now;
                 })
 
-            large : nodes_at_most < size.nodes → ByteRead text at nb' ne' tb' te' productions nodes (scan false 53 m.headway k)
+            large : nodes_at_most < size.nodes → ByteRead text at nb' ne' tb' te' productions nodes (scan false (Some 53) m.headway k)
             large c =
-                halted (λ e. omega (arith, e))
+                halted 53 refl
                 (refused_by_nodes text i.rest at b parentheses (within here.ds here.q) (within here.ds q') here.stands i.next step_on (λ few. omega (arith, c, nodes_are, last_few here.ds (finished_phase q') few)))
 
-            deep : size.nodes ≤ nodes_at_most → deepest_tree < size.deep → ByteRead text at nb' ne' tb' te' productions nodes (scan false 54 m.headway k)
+            deep : size.nodes ≤ nodes_at_most → deepest_tree < size.deep → ByteRead text at nb' ne' tb' te' productions nodes (scan false (Some 54) m.headway k)
             deep c d =
-                halted (λ e. omega (arith, e))
+                halted 54 refl
                 (refused_by_depth text i.rest at b parentheses (within here.ds here.q) (within here.ds q') here.stands i.next step_on
                 (few_with here.ds (finished_phase here.q) (finished_phase q') here.stands.fits.few (omega (arith, c, nodes_are)))
                 (inl (λ low. omega (arith, d, deep_is, last_shallow here.ds (finished_phase q') low))))
@@ -211,11 +211,11 @@ module _ (text : List ℕ) (at b : ℕ) (s : Scan) (nb ne tb te productions node
             weighed : ByteRead text at nb' ne' tb' te' productions nodes (scan false (limit_by size) m.headway k)
             weighed = by_nodes (ltb nodes_at_most size.nodes) refl
               where
-                by_depth : (t : Bool) → ltb deepest_tree size.deep ≡ t → size.nodes ≤ nodes_at_most → ByteRead text at nb' ne' tb' te' productions nodes (scan false (cond t 54 0) m.headway k)
+                by_depth : (t : Bool) → ltb deepest_tree size.deep ≡ t → size.nodes ≤ nodes_at_most → ByteRead text at nb' ne' tb' te' productions nodes (scan false (cond t (Some 54) None) m.headway k)
                 by_depth true e c = deep c (ltb-true _ _ e)
                 by_depth false e c = goes c (ltb-false _ _ e)
 
-                by_nodes : (t : Bool) → ltb nodes_at_most size.nodes ≡ t → ByteRead text at nb' ne' tb' te' productions nodes (scan false (cond t 53 (cond (ltb deepest_tree size.deep) 54 0)) m.headway k)
+                by_nodes : (t : Bool) → ltb nodes_at_most size.nodes ≡ t → ByteRead text at nb' ne' tb' te' productions nodes (scan false (cond t (Some 53) (cond (ltb deepest_tree size.deep) (Some 54) None)) m.headway k)
                 by_nodes true e = large (ltb-true _ _ e)
                 by_nodes false e = by_depth (ltb deepest_tree size.deep) refl (ltb-false _ _ e)
 
@@ -226,17 +226,17 @@ module _ (text : List ℕ) (at b : ℕ) (s : Scan) (nb ne tb te productions node
             on (moves q' g hw) = weighed q' g size w hw
 
         -- one pair of parentheses too many
-        pub byte_deep : m.fate ≡ Fate.Deep → ByteRead text at nb' ne' tb' te' productions nodes (scan false 54 s.headway k)
+        pub byte_deep : m.fate ≡ Fate.Deep → ByteRead text at nb' ne' tb' te' productions nodes (scan false (Some 54) s.headway k)
         byte_deep e = on (taken_as Fate.Deep e)
           where
-            on : FateAs (place_of noted.rows_now) (λ p. step_phase p here.q b) (finished_phase here.q) Fate.Deep m.headway → ByteRead text at nb' ne' tb' te' productions nodes (scan false 54 s.headway k)
+            on : FateAs (place_of noted.rows_now) (λ p. step_phase p here.q b) (finished_phase here.q) Fate.Deep m.headway → ByteRead text at nb' ne' tb' te' productions nodes (scan false (Some 54) s.headway k)
             on (too_deep q' g l w) =
-                halted (λ e. omega (arith, e))
+                halted 54 refl
                 (refused_by_depth text i.rest at b (suc parentheses) (within here.ds here.q) (within here.ds q') here.stands i.next (ap (moved_by here.ds) l)
                 (subst (λ (d : Declaration). EachFewNodes (here.ds ++ d ∷ [])) (sym w) here.stands.fits.few) (inr (ap (moved_by here.ds) g)))
 
         -- a byte that the grammar does not take
-        pub byte_refused : (content : Bool) (n : ℕ) → m.fate ≡ Fate.Refused → content ≡ content_in s.headway.station → NumberAt text at content n → ByteRead text at nb' ne' tb' te' productions nodes (scan false n s.headway k)
+        pub byte_refused : (content : Bool) (n : ℕ) → m.fate ≡ Fate.Refused → content ≡ content_in s.headway.station → NumberAt text at content n → ByteRead text at nb' ne' tb' te' productions nodes (scan false (Some n) s.headway k)
         byte_refused content n e c w = on (taken_as Fate.Refused e)
           where
             at_contents : content ≡ content_in (station_of here.q)
@@ -249,9 +249,9 @@ module _ (text : List ℕ) (at b : ℕ) (s : Scan) (nb ne tb te productions node
                   (λ y. let p = v.0 y in at_contents ∙ contents_station here.ds p.0 here.q p.1 p.2),
                 )
 
-            on : FateAs (place_of noted.rows_now) (λ p. step_phase p here.q b) (finished_phase here.q) Fate.Refused m.headway → ByteRead text at nb' ne' tb' te' productions nodes (scan false n s.headway k)
+            on : FateAs (place_of noted.rows_now) (λ p. step_phase p here.q b) (finished_phase here.q) Fate.Refused m.headway → ByteRead text at nb' ne' tb' te' productions nodes (scan false (Some n) s.headway k)
             on (FateAs.refuses g) =
-                halted (told_some text at n (w begins)) (refused_by_grammar text i.rest at b n (within here.ds here.q) here.stands i.next (λ p. ap (moved_by here.ds) (g p)) (w begins))
+                halted n refl (refused_by_grammar text i.rest at b n (within here.ds here.q) here.stands i.next (λ p. ap (moved_by here.ds) (g p)) (w begins))
 
         -- a declaration that is over
         module _ (e : m.fate ≡ Fate.Over) where
@@ -312,7 +312,7 @@ module _ (text : List ℕ) (at b : ℕ) (s : Scan) (nb ne tb te productions node
           }
 
           pub byte_over : (productions' nodes' : List ℕ) (r : Docket) → ConcludedIs k at m.headway.row productions nodes productions' nodes' r
-              → ByteRead text at nb' ne' tb' te' productions' nodes' (scan true 0 s.headway r)
+              → ByteRead text at nb' ne' tb' te' productions' nodes' (scan true None s.headway r)
           byte_over productions' nodes' r c = onward (record {
             inside = followed text i.rest at b i.next;
             rooms = rooms_over productions' nodes' r c;

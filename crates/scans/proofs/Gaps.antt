@@ -1,4 +1,5 @@
 -- A byte between declarations, and the first. Assumes nothing.
+use Rattle.std.specs.Prelude.{Some, None}
 use mathlib.Core.Path.{◌≡◌, refl, sym, ◌∙◌, ap, subst}
 use mathlib.Core.Logic.{◌↔◌}
 use mathlib.Core.Bool.{Bool, true, false, cond, true≢false}
@@ -34,7 +35,7 @@ use Rattle.dockets.specs.declared.Docket.{Docket}
 use Rattle.dockets.specs.Kept.{NamesHeld, ElementIs, DeclarationsKept, within_bounds}
 use Rattle.scans.specs.declared.Scan.{Scan}
 use Rattle.scans.specs.Scans.{ScanFresh, Rooms, ScanIs, between, amid, ReadUpTo, InText, ByteRead, onward, halted, BetweenIs}
-use Rattle.scans.proofs.Limits.{few_more, shallow_more, told_some, followed, scan}
+use Rattle.scans.proofs.Limits.{few_more, shallow_more, followed, scan}
 
 abbrev Names : Type 0
 Names = List (List ℕ)
@@ -80,10 +81,10 @@ module _ (text : List ℕ) (at b : ℕ) (s : Scan) where
             kept = between h.rows h.tag_rows o h.held h.kept;
           })
 
-  pub between_opened : (hw : Headway) → blank b ≡ false → b ≡ 60 → BegunIs hw → BetweenIs text at b s (scan false 0 hw s.docket)
+  pub between_opened : (hw : Headway) → blank b ≡ false → b ≡ 60 → BegunIs hw → BetweenIs text at b s (scan false None hw s.docket)
   between_opened hw e f begun = record { is = λ nb ne tb te productions nodes i o. on nb ne tb te productions nodes i o }
     where
-      on : (nb ne tb te productions nodes : List ℕ) → InText text at b s nb ne tb te productions nodes → s.out ≡ true → ByteRead text at nb ne tb te productions nodes (scan false 0 hw s.docket)
+      on : (nb ne tb te productions nodes : List ℕ) → InText text at b s nb ne tb te productions nodes → s.out ≡ true → ByteRead text at nb ne tb te productions nodes (scan false None hw s.docket)
       on nb ne tb te productions nodes i o =
           let h = between_of text at s nb ne tb te productions nodes o i.up_to_lem in
           let step : step_declarations parentheses (outside h.ds) b ≡ some (within h.ds (opening element_tail)) =
@@ -103,17 +104,17 @@ module _ (text : List ℕ) (at b : ℕ) (s : Scan) where
                 (no_element s.docket h.rows h.tag_rows) (begun.is (place_of h.rows)) h.kept;
           })
 
-  pub between_other : (n : ℕ) → blank b ≡ false → (b ≡ 60 → ⊥) → NumberAt text at false n → BetweenIs text at b s (scan true n s.headway s.docket)
+  pub between_other : (n : ℕ) → blank b ≡ false → (b ≡ 60 → ⊥) → NumberAt text at false n → BetweenIs text at b s (scan true (Some n) s.headway s.docket)
   between_other n e f w = record { is = λ nb ne tb te productions nodes i o. on nb ne tb te productions nodes i o }
     where
-      on : (nb ne tb te productions nodes : List ℕ) → InText text at b s nb ne tb te productions nodes → s.out ≡ true → ByteRead text at nb ne tb te productions nodes (scan true n s.headway s.docket)
+      on : (nb ne tb te productions nodes : List ℕ) → InText text at b s nb ne tb te productions nodes → s.out ≡ true → ByteRead text at nb ne tb te productions nodes (scan true (Some n) s.headway s.docket)
       on nb ne tb te productions nodes i o =
           let h = between_of text at s nb ne tb te productions nodes o i.up_to_lem in
           let step : (p : ℕ) → step_declarations p (outside h.ds) b ≡ none =
           λ p. ap (λ (t : Bool). cond t (some (outside h.ds)) (moved_by h.ds (only_if_true (eqb b 60) (opening element_tail)))) e ∙ ap (λ (t : Bool). moved_by h.ds (only_if_true t (opening element_tail))) (ne_eqb b 60 f) in
           let begins : (false ≡ true) ↔ ContentMayBegin text at =
           ((λ y. absurd (true≢false (sym y))), (λ y. let p = (where_content_begins text at (outside h.ds) h.stands).0 y in absurd (outside_within h.ds p.0 p.1 p.2))) in
-          halted (told_some text at n (w begins)) (refused_by_grammar text i.rest at b n (outside h.ds) h.stands i.next step (w begins))
+          halted n refl (refused_by_grammar text i.rest at b n (outside h.ds) h.stands i.next step (w begins))
         where
           outside_within : (ds es : List Declaration) (n : List ℕ) → outside ds ≡ within es (Phase.contents n) → ⊥
           outside_within ds es n e = let z : ◌≡◌ {A = ℕ} 0 1 = cc in omega arith

@@ -1,6 +1,7 @@
 -- The limits of declarations, with the last of them; the byte that follows, and numbers. Assumes nothing.
-use mathlib.Core.Path.{◌≡◌, sym, ◌∙◌, ap}
-use mathlib.Core.Bool.{Bool, cond}
+use Rattle.std.specs.Prelude.{Option as Taken, Some, None}
+use mathlib.Core.Path.{◌≡◌, refl, sym, ◌∙◌, ap}
+use mathlib.Core.Bool.{Bool, false, cond}
 use mathlib.Core.List.{List, [], ◌∷◌, ◌++◌}
 use Prim.Native.Nat.{ℕ, suc, ◌≤◌, ◌<◌}
 use native.Mathlib.Omega.{arith}
@@ -11,9 +12,9 @@ use Rattle.limits.specs.Limits.{nodes_at_most, deepest_tree}
 use Rattle.models.specs.Models.{Declaration}
 use Rattle.models.specs.Expressions.{spec_nodes, spec_depth}
 use Rattle.models.specs.Family.{EachFewNodes, Shallow}
-use Rattle.models.specs.Answers.{Stands, any, entity, attlist, other}
 use Rattle.levels.specs.declared.ModelSize.{ModelSize}
 use Rattle.stages.specs.declared.Station.{Station}
+use Rattle.stages.specs.declared.Station.TheVariants.{Opening, Naming, Named, Contents, Emptying, Inside, Hashing, Mixing, Barred, MixedName, MixedClosed, Wants, InName, Marking, After, GroupClosed, Ended}
 use Rattle.stages.specs.declared.Headway.{Headway}
 use Rattle.dockets.specs.declared.Docket.{Docket}
 use Rattle.scans.specs.declared.Scan.{Scan}
@@ -49,28 +50,37 @@ shallow_more (x ∷ ds) e h k = (h.0, shallow_more ds e h.1 k)
 pub followed : (text rest : List ℕ) (at b : ℕ) → drop at text ≡ b ∷ rest → suc at ≤ length text
 followed text rest at b e = omega (arith, ap length e, length-drop at text)
 
--- a number that is told is not 0
-pub told_some : (text : List ℕ) (at n : ℕ) → Stands text at n → n ≡ 0 → ⊥
-told_some text at n (any h) e = omega (arith, e)
-told_some text at n (entity h) e = omega (arith, e)
-told_some text at n (attlist h) e = omega (arith, e)
-told_some text at n (other f g h) e = omega (arith, e)
-
-abbrev pub scan : Bool → ℕ → Headway → Docket → Scan
+abbrev pub scan : Bool → Taken ℕ → Headway → Docket → Scan
 scan o n h k = record { out = o; halt = n; headway = h; docket = k }
 
 -- the number of a size
-pub too_large : (s : ModelSize) → nodes_at_most < s.nodes → 53 ≡ limit_by s
-too_large s h = ap (λ (t : Bool). cond t 53 (cond (ltb deepest_tree s.deep) 54 0)) (sym (lt-ltb _ _ h))
+pub too_large : (s : ModelSize) → nodes_at_most < s.nodes → Some 53 ≡ limit_by s
+too_large s h = ap (λ (t : Bool). cond t (Some 53) (cond (ltb deepest_tree s.deep) (Some 54) None)) (sym (lt-ltb _ _ h))
 
-pub too_deep : (s : ModelSize) → s.nodes ≤ nodes_at_most → deepest_tree < s.deep → 54 ≡ limit_by s
+pub too_deep : (s : ModelSize) → s.nodes ≤ nodes_at_most → deepest_tree < s.deep → Some 54 ≡ limit_by s
 too_deep s h k =
-    ap (λ (t : Bool). cond t 54 0) (sym (lt-ltb _ _ k)) ∙ ap (λ (t : Bool). cond t 53 (cond (ltb deepest_tree s.deep) 54 0)) (sym (le-ltb _ _ h))
+    ap (λ (t : Bool). cond t (Some 54) None) (sym (lt-ltb _ _ k)) ∙ ap (λ (t : Bool). cond t (Some 53) (cond (ltb deepest_tree s.deep) (Some 54) None)) (sym (le-ltb _ _ h))
 
-pub within_limits : (s : ModelSize) → s.nodes ≤ nodes_at_most → s.deep ≤ deepest_tree → 0 ≡ limit_by s
+pub within_limits : (s : ModelSize) → s.nodes ≤ nodes_at_most → s.deep ≤ deepest_tree → None ≡ limit_by s
 within_limits s h k =
-    ap (λ (t : Bool). cond t 54 0) (sym (le-ltb _ _ k)) ∙ ap (λ (t : Bool). cond t 53 (cond (ltb deepest_tree s.deep) 54 0)) (sym (le-ltb _ _ h))
+    ap (λ (t : Bool). cond t (Some 54) None) (sym (le-ltb _ _ k)) ∙ ap (λ (t : Bool). cond t (Some 53) (cond (ltb deepest_tree s.deep) (Some 54) None)) (sym (le-ltb _ _ h))
 
--- whether a content is wanted, once the station is known
-pub station_known : (t : Station) (h : Headway) → h.station ≡ t → content_in t ≡ content_in h.station
-station_known t h e = ap content_in (sym e)
+-- no content begins elsewhere
+pub elsewhere : (t : Station) → (t ≡ Contents → ⊥) → false ≡ content_in t
+elsewhere Opening h = refl
+elsewhere Naming h = refl
+elsewhere Named h = refl
+elsewhere Contents h = absurd (h refl)
+elsewhere Emptying h = refl
+elsewhere Inside h = refl
+elsewhere Hashing h = refl
+elsewhere Mixing h = refl
+elsewhere Barred h = refl
+elsewhere MixedName h = refl
+elsewhere MixedClosed h = refl
+elsewhere Wants h = refl
+elsewhere InName h = refl
+elsewhere Marking h = refl
+elsewhere After h = refl
+elsewhere GroupClosed h = refl
+elsewhere Ended h = refl

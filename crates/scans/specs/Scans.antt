@@ -1,5 +1,5 @@
 -- Where a reader of declarations stands in a text, and what it keeps there. Assumes nothing.
-use Rattle.std.specs.Prelude.{◌≡◌, Bool, true, false, cond, List, ◌∷◌, ◌++◌, ℕ, suc, ◌≤◌, ltb, length, drop}
+use Rattle.std.specs.Prelude.{Option, Some, None, ◌≡◌, Bool, true, false, cond, List, ◌∷◌, ◌++◌, ℕ, suc, ◌≤◌, ltb, length, drop}
 use Rattle.limits.specs.Limits.{nodes_at_most, deepest_tree}
 use Rattle.encoding.specs.Distinct.{place_of}
 use Rattle.models.specs.Models.{Declaration}
@@ -22,8 +22,8 @@ use Rattle.dockets.specs.Kept.{NamesHeld, ElementIs, DocketSmall, DeclarationsKe
 use Rattle.scans.specs.declared.Scan.{Scan}
 
 -- 53 where a model has too many nodes, or else 54 where it is too deep
-abbrev pub limit_by : ModelSize → ℕ
-limit_by s = cond (ltb nodes_at_most s.nodes) 53 (cond (ltb deepest_tree s.deep) 54 0)
+abbrev pub limit_by : ModelSize → Option ℕ
+limit_by s = cond (ltb nodes_at_most s.nodes) (Some 53) (cond (ltb deepest_tree s.deep) (Some 54) None)
 
 abbrev pub content_in : Station → Bool
 content_in Opening = false
@@ -47,12 +47,12 @@ content_in Ended = false
 -- nothing is read, and nothing is kept
 pub record ScanFresh (s : Scan) : Type 0 where
   pub out : s.out ≡ true
-  pub going : s.halt ≡ 0
+  pub going : s.halt ≡ None
   pub no_names : s.docket.names ≡ record { count = 0; full = false; number = 0 }
   pub no_tags : s.docket.tags ≡ record { count = 0; full = false; number = 0 }
   pub no_element : s.docket.element ≡ 0
   pub no_declarations : s.docket.tally ≡ record { productions = 0; nodes = 0 }
-  pub not_passed : s.docket.passed ≡ false
+  pub not_passed : s.docket.passed ≡ None
 
 -- a declaration goes on, or its model is over a limit
 pub record WeighedIs (next : Headway) (k : Docket) (s : Scan) : Type 0 where
@@ -79,7 +79,7 @@ pub record ReadUpTo (text : List ℕ) (at : ℕ) (s : Scan) (names name_ends tag
   pub inside : at ≤ length text
   pub rooms : Rooms names name_ends tags tag_ends productions nodes
   pub small : DocketSmall s.docket
-  pub going : s.halt ≡ 0
+  pub going : s.halt ≡ None
   pub state : DtdProgress
   pub stands : StandsBehind text at state
   pub kept : ScanIs text s names name_ends tags tag_ends productions nodes state
@@ -93,7 +93,7 @@ pub record InText (text : List ℕ) (at b : ℕ) (s : Scan) (names name_ends tag
 -- it is read too, or it is where the text is refused
 pub data ByteRead (text : List ℕ) (at : ℕ) (names name_ends tags tag_ends productions nodes : List ℕ) (s : Scan) : Type 0 where
   onward : ReadUpTo text (suc at) s names name_ends tags tag_ends productions nodes → ByteRead text at names name_ends tags tag_ends productions nodes s
-  halted : (s.halt ≡ 0 → ⊥) → ReadModels text (refuses s.halt at) → ByteRead text at names name_ends tags tag_ends productions nodes s
+  halted : (number : ℕ) → s.halt ≡ Some number → ReadModels text (refuses number at) → ByteRead text at names name_ends tags tag_ends productions nodes s
 
 pub record ByteIs (text : List ℕ) (at : ℕ) (names name_ends tags tag_ends productions nodes : List ℕ) (s : Scan) : Type 0 where
   pub rooms : Rooms names name_ends tags tag_ends productions nodes

@@ -11,12 +11,12 @@ use levels::ModelSize;
 use rosters::Roster;
 use stages::{Fate, Headway, Station};
 
-// Where a reader stands: whether between declarations, or how far one is read; what is kept beside it; and the number of the byte that was not taken,
-// or 0.
+// Where a reader stands: whether between declarations, or how far one is read; what is kept beside it; and the number of the byte that was not
+// taken.
 #[derive(Clone, Copy)]
 pub struct Scan {
     pub out: bool,
-    pub halt: usize,
+    pub halt: Option<usize>,
     pub headway: Headway,
     pub docket: Docket,
 }
@@ -39,19 +39,18 @@ pub fn fresh() -> Scan
         tags: none,
         element: 0,
         tally: tally,
-        passed: false,
-        byte: 0,
+        passed: None,
     };
     Scan {
         out: true,
-        halt: 0,
+        halt: None,
         headway: Headway::begun(),
         docket: docket,
     }
 }
 
 // Where a reader stands behind a byte, or in front of one that it did not take.
-fn standing(out: bool, halt: usize, headway: Headway, docket: Docket) -> Scan
+fn standing(out: bool, halt: Option<usize>, headway: Headway, docket: Docket) -> Scan
     ensures { result ≡ record { out = out; halt = halt; headway = headway; docket = docket } }
 {
     Scan {
@@ -66,39 +65,20 @@ fn standing(out: bool, halt: usize, headway: Headway, docket: Docket) -> Scan
 fn wants_content(h: Headway) -> bool
     ensures { result ≡ content_in h.station }
 {
-    let station = h.station;
-    match station {
-        Station::Contents => true,
-        Station::Opening => false,
-        Station::Naming => false,
-        Station::Named => false,
-        Station::Emptying => false,
-        Station::Inside => false,
-        Station::Hashing => false,
-        Station::Mixing => false,
-        Station::Barred => false,
-        Station::MixedName => false,
-        Station::MixedClosed => false,
-        Station::Wants => false,
-        Station::InName => false,
-        Station::Marking => false,
-        Station::After => false,
-        Station::GroupClosed => false,
-        Station::Ended => false,
-    }
+    matches!(h.station, Station::Contents)
 }
 
-// The number of a size that is over a model's limits, or 0.
-fn limit(size: ModelSize) -> usize
+// The number of a size that is over a model's limits.
+fn limit(size: ModelSize) -> Option<usize>
     ensures { result ≡ limit_by size }
 {
     if 32 < size.nodes {
-        return 53;
+        return Some(53);
     }
     if 12 < size.deep {
-        return 54;
+        return Some(54);
     }
-    0
+    None
 }
 
 // A declaration goes on, where its model keeps its limits.
@@ -120,10 +100,10 @@ pub fn between(text: &[u8], at: usize, b: u8, s: Scan) -> Scan
     let h = s.headway;
     let k = s.docket;
     if b == 60 {
-        return standing(false, 0, Headway::begun(), k);
+        return standing(false, None, Headway::begun(), k);
     }
     let number = judging::number_at(text, at, false);
-    standing(true, number, h, k)
+    standing(true, Some(number), h, k)
 }
 
 // A byte in a declaration.
@@ -158,15 +138,15 @@ pub fn amid(
         Fate::Over => {
             let row = next.row;
             let more = dockets::conclude(k, at, row, productions, nodes);
-            return standing(true, 0, h, more);
+            return standing(true, None, h, more);
         }
         Fate::Refused => {
             let content = wants_content(h);
             let number = judging::number_at(text, at, content);
-            return standing(false, number, h, k);
+            return standing(false, Some(number), h, k);
         }
         Fate::Deep => {
-            return standing(false, 54, h, k);
+            return standing(false, Some(54), h, k);
         }
     }
 }

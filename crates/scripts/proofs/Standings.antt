@@ -17,14 +17,13 @@ use Rattle.outlines.specs.Promises.{OutlineKeeps}
 use Rattle.outlines.specs.Shape.{ConditionFirm, StageFirm, SoundOutline, ExtentUnder, SideUnder, StageUnder}
 use Rattle.outlines.proofs.Shapes.{stays_sound, few_layers, small_parts, parts_stay_small, one_layer_more, finished_kernel, extent_more, side_more, layers_more, margins_more}
 use Rattle.extents.specs.declared.Extent.{Extent}
-use Rattle.extents.specs.declared.Side.{Side}
 use Rattle.extents.specs.declared.Margin.{Margin}
 use Rattle.extents.specs.Held.{extent_of, side_of, margin_of, around_of, bare_around, bare_margin, margins_at, most_margins}
 use Rattle.extents.proofs.Stacks.{long}
 use Rattle.scripts.specs.declared.Stage.{Stage}
 use Rattle.scripts.specs.declared.Stage.TheVariants.{At, Assign, Operand, Item, Single, Equals, Other, Behind, Past}
 use Rattle.scripts.specs.declared.Script.{Script}
-use Rattle.std.specs.Prelude.{Some, None}
+use Rattle.std.specs.Prelude.{Option as Side, Some, None}
 use Rattle.scripts.specs.Scripts.{stage_of, layers_in, margins_in, outline_of, Standing, LayerRoom, MarginRoom, MarginsHeld, ScriptFirm, tested_of, Stepped, taken, refused}
 
 pub extent_under : {m n : ℕ} {e : outlines.Extent} → m ≤ n → ExtentUnder m e → ExtentUnder n e
@@ -97,16 +96,16 @@ module _ (s : Script) (h : ScriptFirm s) where
   pub level_other : s.stage ≡ Other → MarginRoom s
   level_other e = record { room = held_as Other e; small = inner_as Other e }
 
-  pub room_behind : (d : Extent) (o : Side) → s.stage ≡ Behind d o → s.deep < most_margins
+  pub room_behind : (d : Extent) (o : Side Extent) → s.stage ≡ Behind d o → s.deep < most_margins
   room_behind d o e = held_as (Behind d o) e
 
-  pub level_behind : (d : Extent) (o : Side) → s.stage ≡ Behind d o → MarginRoom s
+  pub level_behind : (d : Extent) (o : Side Extent) → s.stage ≡ Behind d o → MarginRoom s
   level_behind d o e = record { room = omega (arith, room_behind d o e); small = (inner_as (Behind d o) e).2 }
 
-  pub behind_extent : (d : Extent) (o : Side) → s.stage ≡ Behind d o → ExtentUnder 1000 (extent_of d)
+  pub behind_extent : (d : Extent) (o : Side Extent) → s.stage ≡ Behind d o → ExtentUnder 1000 (extent_of d)
   behind_extent d o e = (inner_as (Behind d o) e).0
 
-  pub behind_side : (d : Extent) (o : Side) → s.stage ≡ Behind d o → SideUnder 1000 (side_of o)
+  pub behind_side : (d : Extent) (o : Side Extent) → s.stage ≡ Behind d o → SideUnder 1000 (side_of o)
   behind_side d o e = (inner_as (Behind d o) e).1
 
   pub past_extent : (b : Bool) (p : Extent) → s.stage ≡ Past b p → ExtentUnder 1000 (extent_of p)

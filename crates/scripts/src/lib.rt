@@ -15,7 +15,7 @@ ghost use Rattle.outlines.specs.Shape.{ExtentUnder, LayerUnder, LayersUnder, Sid
 ghost use Rattle.extents.specs.Held.{extent_of, side_of, margin_of, layer_of, layers_at, margins_at, most_around, most_margins};
 ghost use Rattle.scripts.specs.Scripts.{reading_place, stage_of, layers_in, margins_in, outline_of, Standing, LayerRoom, MarginRoom, ScriptFirm, answer_of, tested_of, separated_as, unblocked_as, Stepped};
 
-use extents::{Around, Extent, Layer, Margin, Side};
+use extents::{Around, Extent, Layer, Margin};
 
 #[derive(Clone, Copy)]
 pub enum Place {
@@ -34,7 +34,7 @@ pub enum Stage {
     Single,
     Equals,
     Other,
-    Behind(Extent, Side),
+    Behind(Extent, Option<Extent>),
     Past(bool, Extent),
 }
 
@@ -58,10 +58,9 @@ impl Script {
         };
         let layer = Layer::Among(nothing);
         let around = Around { layer: layer };
-        let blank = Side::Blank;
         let margin = Margin {
-            or_left: blank,
-            and_left: blank,
+            or_left: None,
+            and_left: None,
             nots: 0,
         };
         let layers = [around; Around::MOST];
@@ -193,10 +192,9 @@ impl Script {
     fn test(self) -> Option<Script>
         ensures { answer_of result ≡ some (outlined (in_condition (wanting a_single (blank_margin ∷ []))) (layers_in self)) }
     {
-        let blank = Side::Blank;
         let margin = Margin {
-            or_left: blank,
-            and_left: blank,
+            or_left: None,
+            and_left: None,
             nots: 0,
         };
         let stage = Stage::Single;
@@ -333,10 +331,10 @@ impl Script {
         requires extent_under { ExtentUnder 1000 (extent_of p) }
         ensures { answer_of result ≡ step_past print (extent_of p) (closed_list (layers_in self) (extent_of p)) (layers_in self) kind }
     {
-        if extents::both(print, extents::is_short_item(kind)) {
+        if print & extents::is_short_item(kind) {
             return self.more(p, 2);
         }
-        if extents::both(print, extents::is_long_item(kind)) {
+        if print & extents::is_long_item(kind) {
             return self.more(p, 4);
         }
         if kind == 32 {
@@ -385,10 +383,9 @@ impl Script {
         if Margin::MOST <= deep {
             return None;
         }
-        let blank = Side::Blank;
         let margin = Margin {
-            or_left: blank,
-            and_left: blank,
+            or_left: None,
+            and_left: None,
             nots: 0,
         };
         let stage = Stage::Single;
@@ -477,7 +474,7 @@ impl Script {
     }
 
     // Behind a single condition.
-    fn behind(self, d: Extent, o: Side, kind: usize) -> Option<Script>
+    fn behind(self, d: Extent, o: Option<Extent>, kind: usize) -> Option<Script>
         requires layer_room { LayerRoom self × MarginRoom self }
         requires deep_lt_most_margins { self.deep < most_margins }
         requires extent_under { ExtentUnder 1000 (extent_of d) × SideUnder 1000 (side_of o) }
@@ -487,20 +484,17 @@ impl Script {
         let deep = self.deep;
         let stage = Stage::Single;
         if kind == 20 {
-            let left = Side::Of(d);
             let margin = Margin {
                 or_left: o,
-                and_left: left,
+                and_left: Some(d),
                 nots: 0,
             };
             return self.margined(deep, margin, stage);
         }
         if kind == 21 {
-            let left = Side::Of(c);
-            let blank = Side::Blank;
             let margin = Margin {
-                or_left: left,
-                and_left: blank,
+                or_left: Some(c),
+                and_left: None,
                 nots: 0,
             };
             return self.margined(deep, margin, stage);

@@ -44,19 +44,6 @@ pub fn put_string(
     printer::put_quoted(&strings[o..e], out, at, write)
 }
 
-fn wide(x: u8) -> usize
-    ensures { (result ≡ x) × (result < 256) }
-{
-    x as usize
-}
-
-// The byte at i, 0 past the end.
-fn byte(s: &[u8], i: usize) -> u8
-    ensures { result ≡ get_or s.now i 0 }
-{
-    if i < s.len() { s[i] } else { 0 }
-}
-
 // Writes the statement at i, one other than an if.
 pub fn put_plain(
     s: &[u8],
@@ -80,18 +67,18 @@ pub fn put_plain(
     if k == 9 {
         return lent::put_bytes(out, at, b"ECHO_OFF", write);
     }
-    let x = byte(s, i + 1);
-    let t = wide(x);
+    let x = visits::byte(s, i + 1);
+    let t = usize::from(x);
     if k == 5 {
         return visits::put_tag(tags, t, false, out, at, write);
     }
     if k == 6 {
         return visits::put_tag(tags, t, true, out, at, write);
     }
-    let y = byte(s, i + 2);
+    let y = visits::byte(s, i + 2);
     if k == 7 {
-        let o = t + 256 * wide(y);
-        let n = wide(byte(s, i + 3));
+        let o = t + 256 * usize::from(y);
+        let n = usize::from(visits::byte(s, i + 3));
         return put_string(strings, o, n, out, at, write);
     }
     put_assignment(k - 1, x, y, out, at, write)

@@ -1,9 +1,8 @@
 -- A tag of the sheet as its record spells it, put at the start of lent memory that has room for it.
 -- Assumes nothing.
-use mathlib.Core.Path.{◌≡◌, refl, sym, ap, subst, ◌∙◌}
+use mathlib.Core.Path.{◌≡◌, refl, ap, ◌∙◌}
 use mathlib.Core.Bool.{Bool, true, false}
 use mathlib.Core.List.{List, [], ◌∷◌, ◌++◌}
-use mathlib.Core.Option.{Option, none, some}
 use Prim.Native.Nat.{ℕ, ◌+◌, ◌≤◌, ◌<◌}
 use native.Mathlib.Omega.{arith}
 use lib.Dec.{eqb}
@@ -23,10 +22,8 @@ use Rattle.runs.specs.Visits.{grammar}
 use Rattle.visits.specs.Written.{Written, tag_text, TagNameAt, TagOf}
 use Rattle.visits.specs.Ran.{most_printed}
 use Rattle.visits.proofs.Performing.{sources}
-use Rattle.salvage.specs.Shape.{RecordTags}
-use Rattle.salvage.specs.Shaped.{single, record_tags}
 use Rattle.salvage.proofs.Shaped.{shape_decided}
-use Rattle.shapes.specs.Marks.{most_mark, TagThere, MarkPut, MarksResume, TagsThere}
+use Rattle.shapes.specs.Marks.{most_mark, TagThere, MarkPut, TagsThere}
 
 tag_short : (ending : Bool) (n : List ℕ) → length n ≤ 15 → length (tag_text ending n) ≤ most_mark
 tag_short false n h = omega (arith, length-append n (62 ∷ []))

@@ -9,13 +9,11 @@ use native.Mathlib.Omega.{arith}
 use lib.Dec.{eqb, ltb}
 use borrow.Author.Tests.{ltb-true, ltb-false, eq-eqb, ne_eqb, eqb-true}
 use Rattle.expressions.specs.Expr.{Exp, atom, cat, alt, star, empty, nonterminal, anychar, nodes, Content, nothing, tree}
-use Rattle.expressions.specs.Grammar.{Production, content_of}
+use Rattle.expressions.specs.Grammar.{content_of}
 use Rattle.layout.specs.Layout.{production_count}
 use Rattle.layout.specs.Records.{kind_of, argument_of, first_node_of, node_count_of}
 use Rattle.trees.specs.Trees.{TreeAt, ContentAt}
-use Rattle.trees.specs.GrammarAt.{GrammarIs}
 use Rattle.trees.proofs.Grammars.{content_at}
-use Rattle.trees.proofs.Unique.{nodes_pos}
 use Rattle.salvage.specs.Shape.{names_it, content_names}
 use Rattle.shapes.specs.Told.{NamesTold}
 

@@ -10,6 +10,7 @@ use native.Mathlib.Omega.{arith}
 use lib.Dec.{eqb}
 use lib.ListN.{length, drop}
 use borrow.Author.Tests.{eq-eqb, ne_eqb}
+use Rattle.std.specs.Prelude.{Option as Answered, Some, None, IfSome}
 use Rattle.expressions.specs.Expr.{Content}
 use Rattle.expressions.specs.Grammar.{Production, only_if, content_of, tags_of, Nth}
 use Rattle.layout.specs.Layout.{production_count}
@@ -51,16 +52,16 @@ module _ (s : List ℕ) where
   none_left g h q b = drop_past q g (omega (arith, length_grammar s g h))
 
   -- ---- the tags of nonterminal n
-  pub data SeenSo : ℕ → List ℕ → Type 0 where
-    none_yet : SeenSo 256 []
-    one_yet : {t : ℕ} → t < 256 → SeenSo t (t ∷ [])
+  pub data SeenSo : Answered ℕ → List ℕ → Type 0 where
+    none_yet : SeenSo None []
+    one_yet : {t : ℕ} → t < 256 → SeenSo (Some t) (t ∷ [])
 
   -- what is seen of them before production q
-  pub record TagsSo (n q seen : ℕ) : Type 0 where
+  pub record TagsSo (n q : ℕ) (seen : Answered ℕ) : Type 0 where
     pub is : (g : List Production) → GrammarIs s g → (v : List ℕ) × SeenSo seen v × (tags_of g n ≡ v ++ tags_of (drop q g) n)
 
   module _ (n : ℕ) where
-    pub so_start : TagsSo n 0 256
+    pub so_start : TagsSo n 0 None
     so_start = record { is = λ g h. ([], none_yet, refl) }
 
     tags_left : (q : ℕ) (b : Bool) → eqb n (nonterminal_of s q) ≡ b → (g : List Production) → Left g q → tags_of (drop q g) n ≡ only_if b (tag_number_of s q) ++ tags_of (drop (q + 1) g) n
@@ -68,40 +69,38 @@ module _ (s : List ℕ) where
         ap (λ (ds : List Production). tags_of ds n) f.begins
         ∙ ap₂ (λ (c : Bool) (t : ℕ). only_if c t ++ tags_of (drop (q + 1) g) n) (ap (eqb n) f.is.nonterminal_is ∙ e) f.is.tag_is
 
-    pub so_passes : (q seen : ℕ) → q < production_count s → (n ≡ nonterminal_of s q → ⊥) → TagsSo n q seen → TagsSo n (q + 1) seen
+    pub so_passes : (q : ℕ) (seen : Answered ℕ) → q < production_count s → (n ≡ nonterminal_of s q → ⊥) → TagsSo n q seen → TagsSo n (q + 1) seen
     so_passes q seen b e so =
         record { is = λ g h. let w = so.is g h in (w.0, w.1, w.2 ∙ ap (λ (l : List ℕ). w.0 ++ l) (tags_left q false (ne_eqb n (nonterminal_of s q) e) g (left_at g h q b))) }
 
-    first_seen : {v : List ℕ} {seen : ℕ} → seen ≡ 256 → SeenSo seen v → v ≡ []
-    first_seen e none_yet = refl
-    first_seen e (one_yet h) = absurd (omega arith)
+    first_seen : {v : List ℕ} → SeenSo None v → v ≡ []
+    first_seen none_yet = refl
 
-    pub so_first : (q seen : ℕ) → q < production_count s → n ≡ nonterminal_of s q → seen ≡ 256 → tag_number_of s q < 256 → TagsSo n q seen → TagsSo n (q + 1) (tag_number_of s q)
-    so_first q seen b e z few so =
+    pub so_first : (q : ℕ) → q < production_count s → n ≡ nonterminal_of s q → tag_number_of s q < 256 → TagsSo n q None → TagsSo n (q + 1) (Some (tag_number_of s q))
+    so_first q b e few so =
         record {
           is = λ g h.
               let w = so.is g h in
               let l = tags_left q true (eq-eqb n (nonterminal_of s q) e) g (left_at g h q b) in
-              (tag_number_of s q ∷ [], one_yet few, w.2 ∙ ap (λ (v : List ℕ). v ++ tags_of (drop q g) n) (first_seen z w.1) ∙ l);
+              (tag_number_of s q ∷ [], one_yet few, w.2 ∙ ap (λ (v : List ℕ). v ++ tags_of (drop q g) n) (first_seen w.1) ∙ l);
         }
 
-    pub so_second : (q seen : ℕ) → q < production_count s → n ≡ nonterminal_of s q → (seen ≡ 256 → ⊥) → TagsSo n q seen → TagTold s n 256
-    so_second q seen b e z so =
+    pub so_second : (q seen : ℕ) → q < production_count s → n ≡ nonterminal_of s q → TagsSo n q (Some seen) → TagTold s n None
+    so_second q seen b e so =
         record {
-          few = omega arith;
+          few = tt;
           is = λ g h.
               let w = so.is g h in
-              by g seen z w.0 w.1 (tags_of (drop (q + 1) g) n) (w.2 ∙ ap (λ (l : List ℕ). w.0 ++ l) (tags_left q true (eq-eqb n (nonterminal_of s q) e) g (left_at g h q b)));
+              by g seen w.0 w.1 (tags_of (drop (q + 1) g) n) (w.2 ∙ ap (λ (l : List ℕ). w.0 ++ l) (tags_left q true (eq-eqb n (nonterminal_of s q) e) g (left_at g h q b)));
         }
       where
-        two : {ts : List ℕ} (t u : ℕ) (us : List ℕ) → ts ≡ t ∷ u ∷ us → NumberOr (single ts) 256
-        two t u us e = subst (λ (l : List ℕ). NumberOr (single l) 256) (sym e) missing
+        two : {ts : List ℕ} (t u : ℕ) (us : List ℕ) → ts ≡ t ∷ u ∷ us → NumberOr (single ts) None
+        two t u us e = subst (λ (l : List ℕ). NumberOr (single l) None) (sym e) missing
 
-        by : (g : List Production) (seen : ℕ) → (seen ≡ 256 → ⊥) → (v : List ℕ) → SeenSo seen v → (us : List ℕ) → tags_of g n ≡ v ++ (tag_number_of s q ∷ us) → NumberOr (single (tags_of g n)) 256
-        by g seen z v none_yet us e = absurd (z refl)
-        by g seen z v (one_yet {t} h) us e = two t (tag_number_of s q) us e
+        by : (g : List Production) (seen : ℕ) (v : List ℕ) → SeenSo (Some seen) v → (us : List ℕ) → tags_of g n ≡ v ++ (tag_number_of s q ∷ us) → NumberOr (single (tags_of g n)) None
+        by g seen v (one_yet {t} h) us e = two t (tag_number_of s q) us e
 
-    pub so_all : (q seen : ℕ) → seen ≤ 256 → production_count s ≤ q → TagsSo n q seen → TagTold s n seen
+    pub so_all : (q : ℕ) (seen : Answered ℕ) → IfSome seen (λ i. i < 256) → production_count s ≤ q → TagsSo n q seen → TagTold s n seen
     so_all q seen few b so =
         record {
           few = few;
@@ -110,9 +109,9 @@ module _ (s : List ℕ) where
               by seen w.0 w.1 (w.2 ∙ ap (λ (ds : List Production). w.0 ++ tags_of ds n) (none_left g h q b) ∙ append-nil w.0);
         }
       where
-        by : {ts : List ℕ} (seen : ℕ) (v : List ℕ) → SeenSo seen v → ts ≡ v → NumberOr (single ts) seen
-        by seen v none_yet e = subst (λ (l : List ℕ). NumberOr (single l) 256) (sym e) missing
-        by seen v (one_yet {t} h) e = subst (λ (l : List ℕ). NumberOr (single l) t) (sym e) (there h)
+        by : {ts : List ℕ} (seen : Answered ℕ) (v : List ℕ) → SeenSo seen v → ts ≡ v → NumberOr (single ts) seen
+        by seen v none_yet e = subst (λ (l : List ℕ). NumberOr (single l) None) (sym e) missing
+        by seen v (one_yet {t} h) e = subst (λ (l : List ℕ). NumberOr (single l) (Some t)) (sym e) (there h)
 
     -- ---- its first star
     pub record StarsSo (q : ℕ) : Type 0 where
@@ -130,36 +129,34 @@ module _ (s : List ℕ) where
     pub stars_other : (q : ℕ) → q < production_count s → (n ≡ nonterminal_of s q → ⊥) → StarsSo q → StarsSo (q + 1)
     stars_other q b e so = record { is = λ g h. so.is g h ∙ stars_left q false (ne_eqb n (nonterminal_of s q) e) g (left_at g h q b) }
 
-    missing_is : {o : Option ℕ} {r : ℕ} → NumberOr o r → r ≡ 256 → o ≡ none
-    missing_is (there h) e = absurd (omega arith)
-    missing_is missing e = refl
+    missing_is : {o : Option ℕ} → NumberOr o None → o ≡ none
+    missing_is missing = refl
 
-    there_is : {o : Option ℕ} {r : ℕ} → NumberOr o r → (r ≡ 256 → ⊥) → o ≡ some r
-    there_is (there h) e = refl
-    there_is missing e = absurd (e refl)
+    there_is : {o : Option ℕ} {r : ℕ} → NumberOr o (Some r) → o ≡ some r
+    there_is (there h) = refl
 
-    pub stars_none : (q r : ℕ) → q < production_count s → n ≡ nonterminal_of s q → StarTold s q r → r ≡ 256 → StarsSo q → StarsSo (q + 1)
-    stars_none q r b e t z so =
+    pub stars_none : (q : ℕ) → q < production_count s → n ≡ nonterminal_of s q → StarTold s q None → StarsSo q → StarsSo (q + 1)
+    stars_none q b e t so =
         record {
           is = λ g h.
               so.is g h ∙ stars_left q true (eq-eqb n (nonterminal_of s q) e) g (left_at g h q b)
-              ∙ ap (λ (o : Option ℕ). or_else o (first_star (drop (q + 1) g) n)) (missing_is (t.is g h) z);
+              ∙ ap (λ (o : Option ℕ). or_else o (first_star (drop (q + 1) g) n)) (missing_is (t.is g h));
         }
 
-    pub stars_found : (q r : ℕ) → q < production_count s → n ≡ nonterminal_of s q → StarTold s q r → (r ≡ 256 → ⊥) → StarsSo q → FirstTold s n r
-    stars_found q r b e t z so =
+    pub stars_found : (q r : ℕ) → q < production_count s → n ≡ nonterminal_of s q → StarTold s q (Some r) → StarsSo q → FirstTold s n (Some r)
+    stars_found q r b e t so =
         record {
           few = t.few;
           is = λ g h.
-              let f = so.is g h ∙ stars_left q true (eq-eqb n (nonterminal_of s q) e) g (left_at g h q b) ∙ ap (λ (o : Option ℕ). or_else o (first_star (drop (q + 1) g) n)) (there_is (t.is g h) z) in
-              subst (λ (o : Option ℕ). NumberOr o r) (there_is (t.is g h) z ∙ sym f) (t.is g h);
+              let f = so.is g h ∙ stars_left q true (eq-eqb n (nonterminal_of s q) e) g (left_at g h q b) ∙ ap (λ (o : Option ℕ). or_else o (first_star (drop (q + 1) g) n)) (there_is (t.is g h)) in
+              subst (λ (o : Option ℕ). NumberOr o (Some r)) (there_is (t.is g h) ∙ sym f) (t.is g h);
         }
 
-    pub stars_nowhere : (q : ℕ) → production_count s ≤ q → StarsSo q → FirstTold s n 256
+    pub stars_nowhere : (q : ℕ) → production_count s ≤ q → StarsSo q → FirstTold s n None
     stars_nowhere q b so =
         record {
-          few = omega arith;
-          is = λ g h. subst (λ (o : Option ℕ). NumberOr o 256) (sym (so.is g h ∙ ap (λ (ds : List Production). first_star ds n) (none_left g h q b))) missing;
+          few = tt;
+          is = λ g h. subst (λ (o : Option ℕ). NumberOr o None) (sym (so.is g h ∙ ap (λ (ds : List Production). first_star ds n) (none_left g h q b))) missing;
         }
 
 -- ---- what the layout says of a production's number and nodes

@@ -11,70 +11,64 @@ ghost use Rattle.shapes.specs.Marks.{TagThere, MarkPut};
 
 use layout::Layout;
 
-// What no tag and no nonterminal is.
-const MISSING: usize = 256;
-
 // The longest start tag or end tag of a sheet's tag.
 pub const MARK: usize = 18;
 
-// What the sheet is for a salvage run.
+// The tags of a sheet whose start is a star over records: the root's, and the records'.
 #[derive(Clone, Copy)]
-pub enum Shape {
-    // The start is a star over records: the root's tag, and the records'.
-    Records { root: usize, record: usize },
-    // Another shape.
-    Other,
+pub struct Shape {
+    pub root_tag: usize,
+    pub record_tag: usize,
 }
 
-// The nonterminal that production q's expression is a star over, or 256.
-fn star_over(s: &[u8], l: Layout, q: usize) -> usize
+// The nonterminal that production q's expression is a star over.
+fn star_over(s: &[u8], l: Layout, q: usize) -> Option<usize>
     requires laid_out { LaidOut s.now l }
     requires runs_inside { RunsInside s.now }
     requires q_lt_productions { q < l.productions }
     ensures { StarTold s.now q result }
 {
     if layout::node_count_of(s, l, q) != 2 {
-        return MISSING;
+        return None;
     }
     let i = layout::first_node_of(s, l, q);
     if layout::kind_of(s, l, i + 1) != 1 {
-        return MISSING;
+        return None;
     }
-    layout::argument_of(s, l, i + 1)
+    Some(layout::argument_of(s, l, i + 1))
 }
 
-// The tag of nonterminal n where it has one production, or 256.
-fn only_tag(s: &[u8], l: Layout, n: usize) -> usize
+// The tag of nonterminal n where it has one production.
+fn only_tag(s: &[u8], l: Layout, n: usize) -> Option<usize>
     requires { LaidOut s.now l }
     ensures { TagTold s.now n result }
 {
-    let mut seen = MISSING;
+    let mut seen = None;
     for q in 0..l.productions {
         if n == layout::nonterminal_of(s, l, q) {
-            if seen != MISSING {
-                return MISSING;
+            match seen {
+                Some(_) => return None,
+                None => seen = Some(layout::tag_number_of(s, l, q)),
             }
-            seen = layout::tag_number_of(s, l, q);
         }
     }
     seen
 }
 
-// What the first of nonterminal n's productions that is a star over a nonterminal is a star over, or 256.
-fn first_star(s: &[u8], l: Layout, n: usize) -> usize
+// What the first of nonterminal n's productions that is a star over a nonterminal is a star over.
+fn first_star(s: &[u8], l: Layout, n: usize) -> Option<usize>
     requires laid_out { LaidOut s.now l }
     requires runs_inside { RunsInside s.now }
     ensures { FirstTold s.now n result }
 {
     for q in 0..l.productions {
         if n == layout::nonterminal_of(s, l, q) {
-            let star = star_over(s, l, q);
-            if star != MISSING {
-                return star;
+            if let Some(star) = star_over(s, l, q) {
+                return Some(star);
             }
         }
     }
-    MISSING
+    None
 }
 
 // Whether production q's expression names nonterminal n.
@@ -102,14 +96,13 @@ fn shaped_at(s: &[u8], l: Layout, start: usize, n: usize, t: usize, r: usize, q:
     requires laid_out { LaidOut s.now l }
     requires runs_inside { RunsInside s.now }
     requires q_lt_productions { q < l.productions }
-    requires n_bound { n < 256 }
     ensures { ShapedTold s.now start n t r q result }
 {
     let nonterminal = layout::nonterminal_of(s, l, q);
     let tag = layout::tag_number_of(s, l, q);
     let over = star_over(s, l, q);
     let root = start == nonterminal;
-    let of_root = !root | (n == over);
+    let of_root = !root | (Some(n) == over);
     let root_tag = !(tag == t) | root;
     let record_tag = !(tag == r) | (n == nonterminal);
     let named = names(s, l, q, start);
@@ -121,7 +114,6 @@ fn shaped_at(s: &[u8], l: Layout, start: usize, n: usize, t: usize, r: usize, q:
 fn all_shaped(s: &[u8], l: Layout, start: usize, n: usize, t: usize, r: usize) -> bool
     requires laid_out { LaidOut s.now l }
     requires runs_inside { RunsInside s.now }
-    requires n_bound { n < 256 }
     ensures { AllShapedTold s.now start n t r result }
 {
     for q in 0..l.productions {
@@ -132,35 +124,26 @@ fn all_shaped(s: &[u8], l: Layout, start: usize, n: usize, t: usize, r: usize) -
     true
 }
 
-// The root's tag and the records' tag, or that the sheet is not of the shape.
-pub fn shape_of(s: &[u8], l: Layout) -> Shape
+// The root's tag and the records' tag, where the sheet is of the shape.
+pub fn shape_of(s: &[u8], l: Layout) -> Option<Shape>
     requires laid_out { LaidOut s.now l }
     requires runs_inside { RunsInside s.now }
     ensures { ShapeTold s.now result }
 {
     let start = l.start;
-    let root = only_tag(s, l, start);
-    if root == MISSING {
-        return Shape::Other;
-    }
-    let n = first_star(s, l, start);
-    if n == MISSING {
-        return Shape::Other;
-    }
-    let record = only_tag(s, l, n);
-    if record == MISSING {
-        return Shape::Other;
-    }
+    let root = only_tag(s, l, start)?;
+    let n = first_star(s, l, start)?;
+    let record = only_tag(s, l, n)?;
     if n == start {
-        return Shape::Other;
+        return None;
     }
     if !all_shaped(s, l, start, n, root, record) {
-        return Shape::Other;
+        return None;
     }
-    Shape::Records {
-        root: root,
-        record: record,
-    }
+    Some(Shape {
+        root_tag: root,
+        record_tag: record,
+    })
 }
 
 // Writes the start tag or the end tag of tag t, without white space, and answers its length.

@@ -1,12 +1,12 @@
 -- Where a row is stays where it is, and how many rows fit. Assumes nothing.
-use mathlib.Core.Path.{◌≡◌, refl, sym, ◌∙◌, ap, ap₂, subst}
-use mathlib.Core.Logic.{◌⊎◌, inl, inr}
+use mathlib.Core.Path.{◌≡◌, sym, ◌∙◌, ap, subst}
+use mathlib.Core.Logic.{inl, inr}
 use mathlib.Core.Bool.{Bool, true, false, cond, ◌||◌}
 use mathlib.Core.List.{List, [], ◌∷◌, ◌++◌}
-use Prim.Native.Nat.{ℕ, suc, ◌+◌, ◌*◌, ◌≤◌, ◌<◌}
+use Prim.Native.Nat.{ℕ, suc, ◌*◌, ◌≤◌}
 use native.Mathlib.Omega.{arith}
 use lib.ListN.{length, length-append}
-use Rattle.encoding.specs.Distinct.{equal, has, added, distinct, AllDifferent, place_of, offset_of, run_together}
+use Rattle.encoding.specs.Distinct.{has, added, distinct, AllDifferent, place_of, offset_of, run_together}
 use Rattle.encoding.proofs.Stored.{added_different}
 use Rattle.stores.specs.Mentioned.{TooManyFor}
 use Rattle.stores.proofs.Grows.{grows_behind, grows_by_one, places_stay, offsets_stay}

@@ -1,13 +1,12 @@
 -- What a token mentions is filed in the store of its sort, or there is no room for it. Assumes nothing.
-use Rattle.std.specs.Prelude.{◌≡◌, true, false, List, [], ◌∷◌, ◌++◌, ℕ, ◌+◌, ◌≤◌, ◌<◌, length}
+use Rattle.std.specs.Prelude.{Option as Taken, Some, None, IfSome, IfNone, MatchOption, ◌≡◌, List, [], ◌∷◌, ◌++◌, ℕ, ◌≤◌, ◌<◌, length}
 use Rattle.std.proofs.Math.Option.{Option, some}
-use Rattle.limits.specs.Limits.{most_tags, most_string_bytes, most_program_bytes}
 use Rattle.text.specs.Characters.{utf8s}
 use Rattle.programs.specs.Program.{program_bytes}
 use Rattle.notation.specs.Program.{TextProgram}
 use Rattle.notation.specs.Rules.{Rules}
 use Rattle.notation.specs.Tokens.{TextToken, nonterminal, value, attribute, name, start_tag, end_tag, empty_tag, string, word, sign, Sign, DEFINED, ASSIGNED, OPEN, CLOSE, BRACE, UNBRACE, DOT, BAR, STAR, SEMICOLON, EQUALS}
-use Rattle.encoding.specs.Distinct.{has, distinct, place_of, offset_of}
+use Rattle.encoding.specs.Distinct.{distinct, place_of, offset_of}
 use Rattle.encoding.specs.Encoded.{program_of}
 use Rattle.reading.specs.Rules.{Progress}
 use Rattle.lexemes.specs.Kinds.{token_kind, TokenFits}
@@ -30,13 +29,14 @@ pub record StoredAs (l : List (List ℕ)) (x bytes ends : List ℕ) (a : Filing)
   pub low : a.place < length ends
   pub inside : a.offset ≤ length bytes
 
-abbrev pub FiledOr : List (List ℕ) → List ℕ → List ℕ → List ℕ → Filing → Type 0
-FiledOr l x bytes ends a = (a.full ≡ false → StoredAs l x bytes ends a) × (a.full ≡ true → TooManyFor (distinct (l ++ x ∷ [])) bytes ends)
+abbrev pub FiledOr : List (List ℕ) → List ℕ → List ℕ → List ℕ → Taken Filing → Type 0
+FiledOr l x bytes ends (Some a) = StoredAs l x bytes ends a
+FiledOr l x bytes ends None = TooManyFor (distinct (l ++ x ∷ [])) bytes ends
 
-pub record FilingIs (bytes ends : List ℕ) (count : ℕ) (x bytes_after ends_after : List ℕ) (a : Filing) : Type 0 where
+pub record FilingIs (bytes ends : List ℕ) (count : ℕ) (x bytes_after ends_after : List ℕ) (a : Taken Filing) : Type 0 where
   pub long_bytes : length bytes_after ≡ length bytes
   pub long_ends : length ends_after ≡ length ends
-  pub has_rows : HasRows bytes_after ends_after a.count
+  pub has_rows : MatchOption a (HasRows bytes_after ends_after count) (λ f. HasRows bytes_after ends_after f.count)
   pub is : (l : List (List ℕ)) → RowsIn bytes ends count (distinct l) → FiledOr l x bytes_after ends_after a
 
 -- the stores, with as many places as a sheet can have: an end for each string and each program that fits, of which one at most is empty
@@ -78,12 +78,12 @@ RowMentioned r s (word w) x = Unit {0}
 RowMentioned r s (sign g) x = RowOfSign r (whole_in (listing_of s)) g x
 
 -- with the row the stores hold what is mentioned now, and the number is the row's in the sheet; or there is no space for what is mentioned now
-pub record ShelvedAs (r : Rules) (s s' : Progress) (t : TextToken) (a : Shelved) (tb te sb se pb pe : List ℕ) : Type 0 where
-  pub stored : a.full ≡ false → StoresHold r s' tb te a.tags sb se a.strings pb pe a.programs
-  pub placed : a.full ≡ false → RowPlaceIs r s t a.place
-  pub no_space : a.full ≡ true → SpaceFor r (so_far s') → ⊥
+pub record ShelvedAs (r : Rules) (s s' : Progress) (t : TextToken) (a : Taken Shelved) (tb te sb se pb pe : List ℕ) : Type 0 where
+  pub stored : IfSome a (λ f. StoresHold r s' tb te f.tags sb se f.strings pb pe f.programs)
+  pub placed : IfSome a (λ f. RowPlaceIs r s t f.place)
+  pub no_space : IfNone a (SpaceFor r (so_far s') → ⊥)
 
-pub record ShelvedIs (kind : ℕ) (row : List ℕ) (old : Shelved) (tb te sb se pb pe tb' te' sb' se' pb' pe' : List ℕ) (a : Shelved) : Type 0 where
-  pub rowed : Rowed a tb' te' sb' se' pb' pe'
-  pub is : (r : Rules) (s s' : Progress) (t : TextToken) → old.full ≡ false → kind ≡ token_kind t → TokenFits t → Tidy s → Goes s t s' → LeadsToRules s' r → RowMentioned r s t row
+pub record ShelvedIs (kind : ℕ) (row : List ℕ) (old : Shelved) (tb te sb se pb pe tb' te' sb' se' pb' pe' : List ℕ) (a : Taken Shelved) : Type 0 where
+  pub rowed : MatchOption a (Rowed old tb' te' sb' se' pb' pe') (λ f. Rowed f tb' te' sb' se' pb' pe')
+  pub is : (r : Rules) (s s' : Progress) (t : TextToken) → kind ≡ token_kind t → TokenFits t → Tidy s → Goes s t s' → LeadsToRules s' r → RowMentioned r s t row
       → StoresHold r s tb te old.tags sb se old.strings pb pe old.programs → ShelvedAs r s s' t a tb' te' sb' se' pb' pe'

@@ -10,15 +10,15 @@ use Rattle.verdicts.specs.Judged.{writes, refused_at}
 use Rattle.verdicts.proofs.Judging.{judged_right}
 use Rattle.rulings.specs.declared.Reader.{Reader}
 use Rattle.rulings.specs.Readers.{StartIs}
-use Rattle.sights.specs.declared.Ruling.{Ruling}
+use Rattle.std.specs.Prelude.{Err}
 use Rattle.sights.specs.Glances.{Somewhere, RestTold, rest_writes, rest_refused, RestIs}
-use Rattle.sights.specs.Rulings.{RulingIs, writes_rules, writes_none, OneRuling}
+use Rattle.sights.specs.Rulings.{Ruling, RulingIs, writes_rules, writes_none, OneRuling}
 
 pub one_ruling : OneRuling
 one_ruling text a b (writes_rules r h) (writes_rules q i) = refl
 one_ruling text a b (writes_rules r h) (writes_none {k = k} i) = absurd (none_where_written ℕ Rules RuleText text r k h i)
 one_ruling text a b (writes_none {k = k} h) (writes_rules q i) = absurd (none_where_written ℕ Rules RuleText text q k i h)
-one_ruling text a b (writes_none {k = j} h) (writes_none {k = k} i) = ap Ruling.Refused (one_place ℕ Rules RuleText text j k h i)
+one_ruling text a b (writes_none {k = j} h) (writes_none {k = k} i) = ap Err (one_place ℕ Rules RuleText text j k h i)
 
 pub somewhere_first : (r : Reader) → StartIs r → Somewhere r
 somewhere_first r h = record { state = beginning; holds = h.holds }

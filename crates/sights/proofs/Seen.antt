@@ -1,5 +1,5 @@
 -- What is found behind a gap. Assumes nothing.
-use mathlib.Core.Path.{◌≡◌, refl, sym, ◌∙◌, ap, subst}
+use mathlib.Core.Path.{◌≡◌, sym, ◌∙◌, ap, subst}
 use mathlib.Core.Bool.{Bool, true, false}
 use mathlib.Core.List.{List, ◌∷◌, ◌++◌}
 use Prim.Native.Nat.{ℕ, ◌+◌, ◌≤◌, ◌<◌}
@@ -18,19 +18,16 @@ use Rattle.verdicts.specs.Judged.{Goes, TakesToken, early}
 use Rattle.verdicts.proofs.Stepping.{judges_comment, judges_stuck}
 use Rattle.sketches.specs.Figures.{present}
 use Rattle.rulings.specs.declared.Reader.{Reader}
-use Rattle.std.specs.Prelude.{Option as Taken, Some, None, IfSome}
+use Rattle.std.specs.Prelude.{Option as Taken, Some, None, IfSome, Ok, Err}
 use Rattle.std.specs.Option.{unwrap_or}
 use Rattle.rulings.specs.Readers.{Holds, Firm, Answered, goes, stays, AnswerIs, KindsTaken, EndIs}
 use Rattle.rulings.proofs.Answers.{absent, there}
-use Rattle.sights.specs.declared.Glance.{Glance}
+use Rattle.sights.specs.declared.Token.{Token}
 use Rattle.sights.specs.Glances.{Met, Seen, meets, writes_rules, refuses, GlanceIs}
 use Rattle.sights.proofs.Bounds.{token_within, stuck_within, bad_below}
 
-abbrev pub taken : ℕ → ℕ → ℕ → ℕ → Reader → Glance
-taken i k n l r = record { going = true; written = false; at = i; kind = k; number = n; long = l; reader = r }
-
-abbrev pub nothing : Reader → Bool → ℕ → Glance
-nothing r b n = record { going = false; written = b; at = n; kind = 0; number = 0; long = 0; reader = r }
+abbrev pub taken : ℕ → ℕ → ℕ → ℕ → Reader → Token
+taken i k n l r = record { at = i; kind = k; number = n; long = l; reader = r }
 
 next_held : (s : Progress) (t : TextToken) (r : Reader) (a : Taken Reader) → TakesToken s t → Answered s t a → (s' : Progress) × Goes s t s' × Holds s' (unwrap_or a r)
 next_held s t r a g (goes s' h i) = (s', h, i)
@@ -72,27 +69,31 @@ met s x r may i k n l a (a_byte {b = b} g y h e c o p) w (Lexed.a_token t u d f 
     }
 
 pub seen_token : (x : List ℕ) (r : Reader) (may : List Bool) (i k n l : ℕ) (a : Taken Reader) (next : Reader) → Firm r → (i < length x) × SkippedIs x (Skipped.To i) → KindsTaken r may → Lexed may (drop i x) (Lexeme.Token k n l) → AnswerIs r k a → next ≡ unwrap_or a r
-    → GlanceIs x r (taken i k n l next)
-seen_token x r may i k n l a next f h w y e u = subst (λ z. GlanceIs x r (taken i k n l z)) (sym u) (record {
+    → GlanceIs x r (Ok (taken i k n l next))
+seen_token x r may i k n l a next f h w y e u = subst (λ z. GlanceIs x r (Ok (taken i k n l z))) (sym u) (record {
   high = (token_within may x i k n l h.0 y).1;
   firm = next_firm r a f e.firm;
-  told = λ s v. meets refl (met s x r may i k n l a h.1 w y e v);
+  told = λ s v. meets (met s x r may i k n l a h.1 w y e v);
 })
 
-pub seen_stuck : (x : List ℕ) (r : Reader) (may : List Bool) (i k : ℕ) (g : Glance) → Firm r → (i < length x) × SkippedIs x (Skipped.To i) → KindsTaken r may → Lexed may (drop i x) (Lexeme.Stuck k) → g ≡ nothing r false (i + k)
-    → GlanceIs x r g
-seen_stuck x r may i k g f h w y e = subst (GlanceIs x r) (sym e) (record {
+pub seen_stuck : (x : List ℕ) (r : Reader) (may : List Bool) (i k : ℕ) → (i < length x) × SkippedIs x (Skipped.To i) → KindsTaken r may → Lexed may (drop i x) (Lexeme.Stuck k) → GlanceIs x r (Err (Err (i + k)))
+seen_stuck x r may i k h w y = record {
   high = let z = stuck_within may x i k h.0 y in omega (arith, z);
-  firm = f;
-  told = λ s u. refuses refl refl (judges_stuck s may x i k (w s u) h.1 y);
-})
+  firm = tt;
+  told = λ s u. refuses (judges_stuck s may x i k (w s u) h.1 y);
+}
 
-pub seen_comment : (x : List ℕ) (r : Reader) (i : ℕ) (g : Glance) → Firm r → SkippedIs x (Skipped.Bad i) → g ≡ nothing r false i → GlanceIs x r g
-seen_comment x r i g f h e = subst (GlanceIs x r) (sym e) (record { high = let z = bad_below x i h in omega (arith, z); firm = f; told = λ s u. refuses refl refl (judges_comment s x i h) })
+pub seen_comment : (x : List ℕ) (r : Reader) (i : ℕ) → SkippedIs x (Skipped.Bad i) → GlanceIs x r (Err (Err i))
+seen_comment x r i h = record { high = bad_below x i h; firm = tt; told = λ s u. refuses (judges_comment s x i h) }
 
-end_seen : (s : Progress) (x : List ℕ) (r : Reader) (b : Bool) → SkippedIs x Skipped.End → b ≡ present (value_of_rules s) → Seen s x (nothing r b (length x))
-end_seen s x r true (the_end e) h = let v = there (value_of_rules s) (sym h) in writes_rules refl refl v.0 v.1 e
-end_seen s x r false (the_end e) h = refuses refl refl (early e (absent (value_of_rules s) (sym h)))
+end_written : (s : Progress) (x : List ℕ) (b : Bool) → SkippedIs x Skipped.End → b ≡ true → b ≡ present (value_of_rules s) → Seen s x (Err (Ok tt))
+end_written s x b (the_end e) y h = let v = there (value_of_rules s) (sym h ∙ y) in writes_rules v.0 v.1 e
 
-pub seen_end : (x : List ℕ) (r : Reader) (b : Bool) (g : Glance) → Firm r → EndIs r b → SkippedIs x Skipped.End → g ≡ nothing r b (length x) → GlanceIs x r g
-seen_end x r b g f w h e = subst (GlanceIs x r) (sym e) (record { high = omega arith; firm = f; told = λ s u. end_seen s x r b h (w s u) })
+end_refused : (s : Progress) (x : List ℕ) (b : Bool) → SkippedIs x Skipped.End → b ≡ false → b ≡ present (value_of_rules s) → Seen s x (Err (Err (length x)))
+end_refused s x b (the_end e) y h = refuses (early e (absent (value_of_rules s) (sym h ∙ y)))
+
+pub seen_whole : (x : List ℕ) (r : Reader) (b : Bool) → EndIs r b → SkippedIs x Skipped.End → b ≡ true → GlanceIs x r (Err (Ok tt))
+seen_whole x r b w h y = record { high = tt; firm = tt; told = λ s u. end_written s x b h y (w s u) }
+
+pub seen_early : (x : List ℕ) (r : Reader) (b : Bool) → EndIs r b → SkippedIs x Skipped.End → b ≡ false → GlanceIs x r (Err (Err (length x)))
+seen_early x r b w h y = record { high = omega arith; firm = tt; told = λ s u. end_refused s x b h y (w s u) }

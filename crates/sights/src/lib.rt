@@ -2,19 +2,16 @@
 
 #![tactic(auto)]
 
-ghost use Rattle.std.specs.Prelude.{◌≡◌, false, ◌<◌, length};
+ghost use Rattle.std.specs.Prelude.{◌<◌, length};
 ghost use Rattle.gaps.specs.declared.Skipped.{Skipped};
 ghost use Rattle.gaps.specs.Skipped.{SkippedIs};
 ghost use Rattle.rulings.specs.Readers.{Firm};
 ghost use Rattle.sights.specs.Glances.{GlanceIs, Somewhere, RestIs};
 ghost use Rattle.sights.specs.Rulings.{RulingIs};
 
-// A token that is taken: behind how many bytes it stands, its kind, its number, how many bytes it takes, and the reader behind it. Or none: that the
-// text writes rules, or the byte at which it is refused.
+// A token that is taken: behind how many bytes it stands, its kind, its number, how many bytes it takes, and the reader behind it.
 #[derive(Clone, Copy)]
-pub struct Glance {
-    pub going: bool,
-    pub written: bool,
+pub struct Token {
     pub at: usize,
     pub kind: usize,
     pub number: usize,
@@ -22,23 +19,11 @@ pub struct Glance {
     pub reader: rulings::Reader,
 }
 
-// No token.
-fn told(r: rulings::Reader, written: bool, at: usize) -> Glance
-    ensures { result ≡ record { going = false; written = written; at = at; kind = 0; number = 0; long = 0; reader = r } }
-{
-    Glance {
-        going: false,
-        written: written,
-        at: at,
-        kind: 0,
-        number: 0,
-        long: 0,
-        reader: r,
-    }
-}
+// What is told of a text, or of its rest: it writes rules; or it writes none, and the byte goes with the number 40.
+pub type Ruling = Result<(), usize>;
 
 // At a byte that is in no gap.
-fn at_token(x: &[u8], i: usize, r: rulings::Reader) -> Glance
+fn at_token(x: &[u8], i: usize, r: rulings::Reader) -> Result<Token, Ruling>
     requires { Firm r × ((i < length x.now) × SkippedIs x.now (Skipped.To i)) }
     ensures { GlanceIs x.now r result }
 {
@@ -46,42 +31,33 @@ fn at_token(x: &[u8], i: usize, r: rulings::Reader) -> Glance
     match lexemes::lex(&x[i..], may) {
         lexemes::Lexeme::Token(k, n, l) => {
             let next = rulings::take(r, k).unwrap_or(r);
-            return Glance {
-                going: true,
-                written: false,
+            Ok(Token {
                 at: i,
                 kind: k,
                 number: n,
                 long: l,
                 reader: next,
-            };
+            })
         }
-        lexemes::Lexeme::Stuck(k) => return told(r, false, i + k),
+        lexemes::Lexeme::Stuck(k) => Err(Err(i + k)),
     }
 }
 
-// A gap, and what stands behind it.
-pub fn look(x: &[u8], r: rulings::Reader) -> Glance
+// A gap, and what stands behind it: a token, or what is told of a text that ends there.
+pub fn look(x: &[u8], r: rulings::Reader) -> Result<Token, Ruling>
     requires { Firm r }
     ensures { GlanceIs x.now r result }
 {
     match gaps::skip(x) {
-        gaps::Skipped::To(i) => return at_token(x, i, r),
+        gaps::Skipped::To(i) => at_token(x, i, r),
         gaps::Skipped::End => {
-            let whole = rulings::may_end(r);
-            return told(r, whole, x.len());
+            if rulings::may_end(r) {
+                return Err(Ok(()));
+            }
+            Err(Err(x.len()))
         }
-        gaps::Skipped::Bad(i) => return told(r, false, i),
+        gaps::Skipped::Bad(i) => Err(Err(i)),
     }
-}
-
-// What is told of a text.
-#[derive(Clone, Copy)]
-pub enum Ruling {
-    // It writes rules.
-    Rules,
-    // It writes none: the byte that goes with the number 40.
-    Refused(usize),
 }
 
 // What is told of the rest of a text, from a reader on.
@@ -90,18 +66,18 @@ pub fn judge_rest(x: &[u8], r: rulings::Reader) -> Ruling
     ensures { RestIs x.now r result }
 {
     let mut from = 0;
-    let mut g = look(x, r);
-    // A while: each look goes on behind the token that it read, which no range gives.
-    while g.going {
-        let past = g.at + g.long;
-        from += past;
-        let next = g.reader;
-        g = look(&x[from..], next);
+    let mut reader = r;
+    // A loop: each look goes on behind the token that it read, which no range gives.
+    loop {
+        match look(&x[from..], reader) {
+            Ok(token) => {
+                from += token.at + token.long;
+                reader = token.reader;
+            }
+            Err(Ok(())) => return Ok(()),
+            Err(Err(k)) => return Err(from + k),
+        }
     }
-    if g.written {
-        return Ruling::Rules;
-    }
-    Ruling::Refused(from + g.at)
 }
 
 // A text is judged.

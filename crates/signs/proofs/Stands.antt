@@ -9,6 +9,7 @@ use lib.Dec.{eqb}
 use lib.ListN.{length, drop}
 use lib.Seq.{drop-append_seam, drop-drop}
 use borrow.Author.Tests.{eqb-true}
+use Rattle.std.specs.Prelude.{Option as Found, Some, None}
 use Rattle.expressions.specs.Expr.{Exp}
 use Rattle.parting.specs.Parting.{Node}
 use Rattle.notation.specs.Rules.{Tree, expression, TextRule, Rules}
@@ -70,10 +71,10 @@ sign_stands text v h q d nth t inside n f node r halt = on r.found refl (halt.to
     own : Kth (name d.tag ∷ in_order_of d.inside) post (own_token f)
     own = subst (λ o. Kth (in_order_of o) (rank (expression t) 1 n) (own_token f)) (sym inside) (own_token_there (expression t) f 1 n node)
 
-    on : (b : Bool) → r.found ≡ b → WantedTold (Wanted.Post (suc q) post) h.tokens text r.at b → OwnAt text f r
-    on true e (there w) =
+    on : (o : Found ℕ) → r.found ≡ o → WantedTold (Wanted.Post (suc q) post) h.tokens text o → OwnAt text f r
+    on (Some i) e (there w) =
         let m = met (suc q) post (passed_all set_out w.before) w.token w.wanted in
         let same : w.token ≡ own_token f = posts_are_nodes h.tokens v h.grammatical q d nth w.before w.token (own_token f) w.after w.are m.is_post_lem post m.milestone own in
         let s = stands_there w.stands in
-        record { there = e; rest = s.0; are = s.1 ∙ ap (λ k. token_bytes k ++ s.0) same }
-    on false e (nowhere w) = absurd (posts_there h.tokens v h.grammatical q d nth post (own_token f) own w)
+        record { at = i; there = e; rest = s.0; are = s.1 ∙ ap (λ k. token_bytes k ++ s.0) same }
+    on None e (nowhere w) = absurd (posts_there h.tokens v h.grammatical q d nth post (own_token f) own w)

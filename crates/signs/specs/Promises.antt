@@ -1,5 +1,5 @@
 -- What is promised of signs: found in a rule text by its post, a node's own token stands there. Assumes nothing.
-use Rattle.std.specs.Prelude.{◌≡◌, true, List, ◌++◌, ℕ, suc, drop}
+use Rattle.std.specs.Prelude.{◌≡◌, Some, List, ◌++◌, ℕ, suc, drop}
 use Rattle.std.proofs.Math.Option.{some}
 use Rattle.expressions.specs.Expr.{Exp}
 use Rattle.parting.specs.Parting.{Node}
@@ -18,9 +18,10 @@ OwnTokenThere = (e f : Exp) (i n : ℕ) → Node e i n f → Kth (in_order e) (r
 
 -- the bytes from there on begin with it
 pub record OwnAt (text : List ℕ) (f : Exp) (r : Halt) : Type 0 where
-  pub there : r.found ≡ true
+  pub at : ℕ
+  pub there : r.found ≡ Some at
   pub rest : List ℕ
-  pub are : drop r.at text ≡ token_bytes (own_token f) ++ rest
+  pub are : drop at text ≡ token_bytes (own_token f) ++ rest
 
 -- of every node of every production of a rule text
 abbrev pub SignStands : Type 0

@@ -145,19 +145,13 @@ pub fn on_at(bytes: &[u8], at: usize) -> bool
     byte_at(bytes, at) != 0
 }
 
-fn wide(b: u8) -> u64
-    ensures { result ≡ b }
-{
-    b as u64
-}
-
 pub fn number_at(bytes: &[u8], at: usize) -> u64
     requires { at + 8 < 2 ^ 64 }
     ensures { result ≡ long_at bytes.now at }
 {
     let mut n: u64 = 0;
     for i in (0..8).rev() {
-        n = n * 256 + wide(byte_at(bytes, at + i));
+        n = n * 256 + u64::from(byte_at(bytes, at + i));
     }
     n
 }

@@ -1,8 +1,9 @@
 -- Acts one after another, each from a state that holds no output: as acts do the same whatever output stands before them, what was written joins.
 -- Assumes nothing.
-use mathlib.Core.Path.{◌≡◌, sym, ap, ◌∙◌, subst}
+use Rattle.std.specs.Prelude.{Option as Taken, Some, None}
+use mathlib.Core.Path.{◌≡◌, refl, sym, ap, ◌∙◌, subst}
 use mathlib.Core.List.{List, [], ◌∷◌, ◌++◌}
-use mathlib.Core.Option.{Option, none, some}
+use mathlib.Core.Option.{Option, none, some, none-ne-some as none_some}
 use Prim.Native.Nat.{ℕ}
 use Rattle.lent.specs.Put.{PutAs}
 use Rattle.output.specs.Escape.{Piece, render}
@@ -38,11 +39,11 @@ written_on p o o' d d' at at' x y =
     (put_then p.write p.lent p.at (render o) (render o') d d' at at' x y)
 
 -- acts, and then one more from the state that they left
-module _ (a : Sheet) (bs : List Act) (x : Act) {c : Control} {z : State} {p : Pen} {r : ActedSeen} {d : List ℕ} (c' : Control) (r' : ActedSeen) (d' : List ℕ) where
+module _ (a : Sheet) (bs : List Act) (x : Act) {c : Control} {z : State} {p : Pen} {r : ActedSeen} {d : List ℕ} (c' : Control) (r' : Taken ActedSeen) (d' : List ℕ) where
   pub join : (m : Store) → acts a bs (meaning_of z).store ≡ some m → Done c m z p r d →
       Comes (act a x (meaning_of r.state).store) c' r.state (on_pen p d r.at) r' d' → Comes (acts a (bs ++ x ∷ []) (meaning_of z).store) c' z p r' d'
   join m e D C =
-      subst (λ (y : Option Store). Comes y c' z p r' d') (sym whole) (by (act a x quiet.store) (subst (λ (y : Standing). Comes (act a x y.store) c' r.state (on_pen p d r.at) r' d') D.means C))
+      subst (λ (y : Option Store). Comes y c' z p r' d') (sym whole) (by (act a x quiet.store) r' (subst (λ (y : Standing). Comes (act a x y.store) c' r.state (on_pen p d r.at) r' d') D.means C))
     where
       full : Standing
       full = record { control = c; store = m }
@@ -55,21 +56,23 @@ module _ (a : Sheet) (bs : List Act) (x : Act) {c : Control} {z : State} {p : Pe
           acts_append a bs (x ∷ []) (meaning_of z).store ∙ ap (λ (y : Option Store). bind y (λ m'. acts a (x ∷ []) m')) e
           ∙ ap (λ (y : Standing). acts a (x ∷ []) y.store) (behind_silent [] full) ∙ acts_frame a (out_of full) (x ∷ []) quiet.store
 
-      by : (y : Option Store) → Comes y c' r.state (on_pen p d r.at) r' d' → Comes (bind (bind y (λ m''. some m'')) (λ m'. some (store_behind (out_of full) m'))) c' z p r' d'
-      by none C = C
-      by (some m') C =
+      by : (y : Option Store) (t : Taken ActedSeen) → Comes y c' r.state (on_pen p d r.at) t d' → Comes (bind (bind y (λ m''. some m'')) (λ m'. some (store_behind (out_of full) m'))) c' z p t d'
+      by none None C = refl
+      by none (Some t) C = C
+      by (some m') None C = absurd (none_some m' (sym C))
+      by (some m') (Some t) C =
           record {
-            ok = C.ok;
             means = C.means;
             shaped = C.shaped;
             closed = C.closed ∙ D.closed;
-            written = written_on p (out_of full) m'.env.out d d' r.at r'.at D.written C.written;
+            written = written_on p (out_of full) m'.env.out d d' r.at t.at D.written C.written;
           }
 
 -- as the machine answers it
-pub answered_as : (c : Control) (o : Option Store) (z : State) (p : Pen) (r : ActedSeen) (d : List ℕ) → Comes o c z p r d → StepAnswered (acted c o) z p (answering r) d
-answered_as c none z p r d C = rw C
-answered_as c (some m) z p r d C = record { number = rw C.ok; means = C.means; shaped = C.shaped; closed = C.closed; written = C.written }
+pub answered_as : (c : Control) (o : Option Store) (z : State) (p : Pen) (r : Taken ActedSeen) (d : List ℕ) → Comes o c z p r d → StepAnswered (acted c o) z p (answering z p.at r) d
+answered_as c o z p None d C = subst (λ (y : Option Store). StepAnswered (acted c y) z p (answering z p.at None) d) (sym C) refl
+answered_as c none z p (Some r) d C = absurd C
+answered_as c (some m) z p (Some r) d C = record { number = refl; means = C.means; shaped = C.shaped; closed = C.closed; written = C.written }
 
 -- an event, and then another one from the state that it left
 module _ (a : Sheet) {z : State} {p : Pen} {r : SteppedSeen} {d : List ℕ} (r' : SteppedSeen) (d' : List ℕ) where

@@ -1,4 +1,5 @@
 pub mod Places
+pub mod Answering
 pub mod Joined
 pub mod Tops
 pub mod Turns

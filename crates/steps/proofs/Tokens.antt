@@ -7,8 +7,8 @@ use mathlib.Core.List.{List, [], ◌∷◌}
 use mathlib.Core.Option.{Option, none, some}
 use Prim.Native.Nat.{ℕ, ◌+◌, ◌-◌, ◌<◌}
 use native.Mathlib.Omega.{arith}
-use borrow.Author.Tests.{lt-ltb}
 use lib.ListN.{take, drop}
+use Rattle.std.specs.Prelude.{Option as Answered}
 use Rattle.lent.proofs.Laws.{put_none}
 use Rattle.text.specs.Names.{blank}
 use Rattle.tokens.specs.declared.Event.{Event as Read}
@@ -21,14 +21,11 @@ use Rattle.runs.specs.Fits.{EventsFit}
 use Rattle.runs.specs.Machine.{before, after, Configuration as Standing, Answer, took, refused, step, finished, onward, answered, run}
 use Rattle.runs.specs.Spells.{empty_token, passes_at, unless_blank, step_token}
 use Rattle.runs.proofs.SheetFits.{sheet_fits}
-use Rattle.sheet.specs.Tags.{TagAt}
-use Rattle.sheet.proofs.SheetLaws.{from_counted}
 use Rattle.calls.specs.Names.{tag_named, character_token}
-use Rattle.calls.proofs.Names.{named_is}
 use Rattle.calls.proofs.Frame.{step_number}
 use Rattle.fit.specs.RunFits.{RunFits}
 use Rattle.fit.proofs.Steps.{step_fits, silent_fits}
-use Rattle.lookups.specs.Found.{or_missing, TagFound, BlanksTold}
+use Rattle.lookups.specs.Found.{answer_of, TagFound, BlanksTold}
 use Rattle.state.specs.declared.State.{State}
 use Rattle.state.specs.Changes.{top_of}
 use Rattle.state.specs.Meaning.{meaning_of, Shaped}
@@ -56,19 +53,14 @@ alone : (m : Standing) (xs : List Event) (y : Answer) → answered (onward m xs 
 alone m xs (took z) = refl
 alone m xs (refused n) = refl
 
--- a name's tag by its number
-tag_named_lem : {s : List ℕ} {a : Sheet} → IsSheet s a → {name : List ℕ} {t : ℕ} → TagFound s name t → tag_in t ≡ tag_named a.names name
-tag_named_lem {s} {a} i {name} {t} T = by (tag_named a.names name) refl (T.is a i)
-  where
-    by : (o : Option ℕ) → tag_named a.names name ≡ o → t ≡ or_missing o → tag_in t ≡ o
-    by none e k = ap tag_in k
-    by (some u) e k =
-        let h : u < 256 = omega (arith, (named_is a.names name u e).0, from_counted (TagAt s) 0 _ a.names i.names_are, i.well_formed_lem.sections.few_tags) in
-        ap tag_in k ∙ rw (lt-ltb u 256 h)
+-- a name's tag as it was looked up
+tag_back : (o : Option ℕ) → tag_in (answer_of o) ≡ o
+tag_back none = refl
+tag_back (some t) = refl
 
-tag_there : {s : List ℕ} {a : Sheet} → IsSheet s a → (part : List ℕ) (from len : ℕ) {name : List ℕ} → name ≡ take len (drop from part) → {t : ℕ} → TagFound s name t →
+pub tag_there : {s : List ℕ} {a : Sheet} → IsSheet s a → (part : List ℕ) (from len : ℕ) {name : List ℕ} → name ≡ take len (drop from part) → {t : Answered ℕ} → TagFound s name t →
     tag_in t ≡ tag_named a.names (take len (drop from part))
-tag_there {s} {a} i part from len e T = tag_named_lem i T ∙ ap (tag_named a.names) e
+tag_there {s} {a} i part from len {name} e T = ap tag_in (T.is a i) ∙ tag_back (tag_named a.names name) ∙ ap (tag_named a.names) e
 
 -- where it went on, the machine took it, and the state is of a run that fits the sheet
 module _ {s : List ℕ} {x : Event} {z : State} {p : Pen} {r : SteppedSeen} {d : List ℕ} (S : SteppedAs s x z p r d) where
@@ -98,7 +90,7 @@ module _ {s : List ℕ} {x : Event} {z : State} {p : Pen} {r : SteppedSeen} {d :
 
 module _ {s part : List ℕ} {z : State} {p : Pen} {r : SteppedSeen} {d : List ℕ} where
   -- tags
-  module _ {from len : ℕ} {name : List ℕ} (named : name ≡ take len (drop from part)) {t : ℕ} (T : TagFound s name t) where
+  module _ {from len : ℕ} {name : List ℕ} (named : name ≡ take len (drop from part)) {t : Answered ℕ} (T : TagFound s name t) where
     pub start_token : SteppedAs s (starts (tag_in t)) z p r d → TokenAs s part (Start from len) z p r d
     start_token S =
         record {
@@ -136,7 +128,7 @@ module _ {s part : List ℕ} {z : State} {p : Pen} {r : SteppedSeen} {d : List �
   text_as S = record { reach = S.reach; count = S.count; dry = S.dry; right = S.right }
 
 -- an empty tag's two events
-module _ {s : List ℕ} {z : State} {p : Pen} {r : SteppedSeen} {d : List ℕ} (t : ℕ) where
+module _ {s : List ℕ} {z : State} {p : Pen} {r : SteppedSeen} {d : List ℕ} (t : Answered ℕ) where
   pub empty_stopped : SteppedAs s (starts (tag_in t)) z p r d → (r.number ≡ 0 → ⊥) → OneTokenAs s (empty_token (tag_in t)) z p r d
   empty_stopped S e =
       record {

@@ -2,7 +2,7 @@
 -- nodes ask for, and what was looked up for it is what the machine finds.
 -- Assumes nothing.
 use mathlib.Core.Path.{◌≡◌, refl, sym, ap, ◌∙◌, subst}
-use mathlib.Core.Bool.{Bool, true, false}
+use mathlib.Core.Bool.{Bool, true}
 use mathlib.Core.List.{List, [], ◌∷◌}
 use mathlib.Core.Option.{Option, none, some}
 use Prim.Native.Nat.{ℕ, zero, suc, ◌≤◌, ◌<◌}
@@ -29,11 +29,10 @@ use Rattle.sheet.specs.Defect.{WellFormed}
 use Rattle.sheet.proofs.DefectLaws.{runs_inside}
 use Rattle.sheet.specs.Sheet.{Sheet, IsSheet}
 use Rattle.visits.specs.Written.{Pen}
-use Rattle.sheet.proofs.SheetLaws.{sheet_grammar, few_productions}
-use Rattle.ways.specs.Held.{codes, argument_number, LineIs, WayIs}
+use Rattle.sheet.proofs.SheetLaws.{sheet_grammar}
+use Rattle.ways.specs.declared.Way.{Way}
+use Rattle.ways.specs.Held.{codes, argument_number, HoldsString, HoldsWay, LineIs, no_line, a_line, WayIs, no_way, a_way}
 use Rattle.ways.specs.Answers.{FollowsS, EndWayIs, AtomWayIs}
-use Rattle.ways.specs.Held.{LineIn as Line}
-use Rattle.ways.specs.Held.{WayIn as Way}
 use Rattle.runs.specs.Lookup.{tag_of, produces, find}
 use Rattle.runs.specs.Visits.{grammar}
 use Rattle.runs.specs.Way.{Way as Found, end_way, atom_way}
@@ -46,7 +45,9 @@ use Rattle.fit.proofs.Frames.{produces_inv}
 use Rattle.fit.proofs.Balanced.{of_nonterminal, way_balanced, end_balanced}
 use Rattle.runs.specs.Nodes.{through_nodes, KeptAt}
 use Rattle.runs.specs.Visits.{Saved}
-use Rattle.lookups.specs.Found.{or_missing, ProductionFound, BlanksTold}
+use Rattle.std.specs.Prelude.{Option as Past, Some, None}
+use Rattle.std.proofs.lemmas.Option.{none-some, same_Some}
+use Rattle.lookups.specs.Found.{answer_of, ProductionFound, BlanksTold}
 use Rattle.acts.specs.Acted.{BracketsAs, LeavesAs}
 use Rattle.acts.specs.Seen.{ActedSeen}
 use Rattle.state.specs.declared.Frame.{Frame}
@@ -80,10 +81,10 @@ module _ {s : List ℕ} {a : Sheet} (i : IsSheet s a) where
     pub tag_is : tag_of (grammar a) q ≡ tag_number_of s q
     tag_is = nth_tag (grammar a) q own own_nth
 
-    pub end_is : {p : ℕ} {r : Line} → EndWayIs s q p r → LineIs (end_way (content_of (grammar a) q) p) r
+    pub end_is : {p : ℕ} {r : Past ℕ} {b : List ℕ} → EndWayIs s q p r b → LineIs (end_way (content_of (grammar a) q) p) r b
     end_is w = w.is (grammar a) γ own own_nth
 
-    pub way_is : {p : ℕ} {x : Symbol} {r : Way} → AtomWayIs s q p x r → WayIs (atom_way (tags_of (grammar a)) (content_of (grammar a) q) p (next_of x)) r
+    pub way_is : {p : ℕ} {x : Symbol} {r : Past Way} {b : List ℕ} → AtomWayIs s q p x r b → WayIs (atom_way (tags_of (grammar a)) (content_of (grammar a) q) p (next_of x)) r b
     way_is w = w.is (grammar a) γ own own_nth
 
     pub few_nodes : node_count_of s q ≤ 32
@@ -93,22 +94,22 @@ module _ {s : List ℕ} {a : Sheet} (i : IsSheet s a) where
   find_few : (n t q : ℕ) → find (grammar a) n t ≡ some q → q < production_count s
   find_few n t q e = (produces_inv s (grammar a) γ q n (find_sound (grammar a) n t q e).0).0
 
-  pub production_found : {n t r : ℕ} → ProductionFound s n t r → (r ≡ 256 → ⊥) → find (grammar a) n t ≡ some r
-  production_found {n} {t} {r} f h = by (find (grammar a) n t) (f.is a i)
+  pub production_found : {n t q : ℕ} → ProductionFound s n t (Some q) → find (grammar a) n t ≡ some q
+  production_found {n} {t} {q} f = by (find (grammar a) n t) (f.is a i)
     where
-      by : (o : Option ℕ) → r ≡ or_missing o → o ≡ some r
-      by none e = absurd (h e)
-      by (some q) e = ap some (sym e)
+      by : (o : Option ℕ) → Some q ≡ answer_of o → o ≡ some q
+      by none e = absurd (none-some q (sym e))
+      by (some p) e = ap some (sym (same_Some q p e))
 
-  pub no_production : {n t r : ℕ} → ProductionFound s n t r → r ≡ 256 → find (grammar a) n t ≡ none
-  no_production {n} {t} {r} f h = by (find (grammar a) n t) refl (f.is a i)
+  pub no_production : {n t : ℕ} → ProductionFound s n t None → find (grammar a) n t ≡ none
+  no_production {n} {t} f = by (find (grammar a) n t) (f.is a i)
     where
-      by : (o : Option ℕ) → find (grammar a) n t ≡ o → r ≡ or_missing o → o ≡ none
-      by none e k = refl
-      by (some q) e k = absurd (omega (arith, find_few n t q e, k, h, i.well_formed_lem.sections.few_productions))
+      by : (o : Option ℕ) → None ≡ answer_of o → o ≡ none
+      by none e = refl
+      by (some q) e = absurd (none-some q e)
 
-  pub found_below : {n t r : ℕ} → ProductionFound s n t r → (r ≡ 256 → ⊥) → r < production_count s
-  found_below {n} {t} {r} f h = find_few n t r (production_found f h)
+  pub found_below : {n t q : ℕ} → ProductionFound s n t (Some q) → q < production_count s
+  found_below {n} {t} {q} f = find_few n t q (production_found f)
 
   -- where the run stands
   module _ {z : State} (h : Shaped z) (f : RunFits a (meaning_of z)) (p : 0 < z.depth) where
@@ -170,85 +171,78 @@ module _ {s : List ℕ} {z : State} (y : RunReady s z) where
     pub top_few : node_count_of s f.production ≤ 32
     top_few = subst (λ (x : Frame). node_count_of s x.production ≤ 32) (sym e) (few_nodes y.is_sheet top_there)
 
-  pub found_inside : {l : Layout} {n t q : ℕ} → LaidOut s l → ProductionFound s n t q → (q ≡ 256 → ⊥) → q < l.productions
-  found_inside {l} L P h = omega (arith, found_below y.is_sheet P h, L.layout_is.productions_is.is)
+  pub found_inside : {l : Layout} {n t q : ℕ} → LaidOut s l → ProductionFound s n t (Some q) → q < l.productions
+  found_inside {l} L P = omega (arith, found_below y.is_sheet P, L.layout_is.productions_is.is)
 
 module _ (s : List ℕ) (z : State) {f : Frame} (e : f ≡ top_of z) where
-  pub top_way : {x : Symbol} {w : Way} → AtomWayIs s f.production f.place x w → AtomWayIs s (top_of z).production (top_of z).place x w
-  top_way {x} {w} h = subst (λ (k : Frame). AtomWayIs s k.production k.place x w) e h
+  pub top_way : {x : Symbol} {w : Past Way} {b : List ℕ} → AtomWayIs s f.production f.place x w b → AtomWayIs s (top_of z).production (top_of z).place x w b
+  top_way {x} {w} {b} h = subst (λ (k : Frame). AtomWayIs s k.production k.place x w b) e h
 
-  pub top_end : {w : Line} → EndWayIs s f.production f.place w → EndWayIs s (top_of z).production (top_of z).place w
-  top_end {w} h = subst (λ (k : Frame). EndWayIs s k.production k.place w) e h
+  pub top_end : {w : Past ℕ} {b : List ℕ} → EndWayIs s f.production f.place w b → EndWayIs s (top_of z).production (top_of z).place w b
+  top_end {w} {b} h = subst (λ (k : Frame). EndWayIs s k.production k.place w b) e h
 
   pub top_reads : {u : ℕ} → NumberRead 256 (tag_number_of s f.production) u → NumberRead 256 (tag_number_of s (top_of z).production) u
   top_reads {u} h = subst (λ (k : Frame). NumberRead 256 (tag_number_of s k.production) u) e h
 
-  pub top_brackets : {w : List ℕ} {p : Pen} {r : ActedSeen} {d : List ℕ} → BracketsAs s f.production w z p r d → BracketsAs s (top_of z).production w z p r d
+  pub top_brackets : {w : List ℕ} {p : Pen} {r : Past ActedSeen} {d : List ℕ} → BracketsAs s f.production w z p r d → BracketsAs s (top_of z).production w z p r d
   top_brackets {w} {p} {r} {d} h = subst (λ (k : Frame). BracketsAs s k.production w z p r d) e h
 
-  pub top_leaves : {b : State} {p : Pen} {r : ActedSeen} {d : List ℕ} → LeavesAs s f.production b p r d → LeavesAs s (top_of z).production b p r d
+  pub top_leaves : {b : State} {p : Pen} {r : Past ActedSeen} {d : List ℕ} → LeavesAs s f.production b p r d → LeavesAs s (top_of z).production b p r d
   top_leaves {b} {p} {r} {d} h = subst (λ (k : Frame). LeavesAs s k.production b p r d) e h
 
   pub top_blanks : {r : Bool} → BlanksTold s f.production r → BlanksTold s (top_of z).production r
   top_blanks {r} h = subst (λ (k : Frame). BlanksTold s k.production r) e h
 
 -- a line that was found, and one that was not
-pub line_found : (o : Option (List Bracket)) (r : Line) → LineIs o r → r.found ≡ true → (α : List Bracket) × (o ≡ some α)
-line_found none r l e = absurd (let y : true ≡ false = sym e ∙ l.found_is in let y : ◌≡◌ {A = ℕ} 0 1 = cc in omega arith)
-line_found (some α) r l e = (α, refl)
+pub line_found : {o : Option (List Bracket)} {n : ℕ} {b : List ℕ} → LineIs o (Some n) b → (α : List Bracket) × (o ≡ some α) × HoldsString α n b
+line_found (a_line {α} h) = (α, refl, h)
 
-pub line_missing : (o : Option (List Bracket)) (r : Line) → LineIs o r → r.found ≡ false → o ≡ none
-line_missing none r l e = refl
-line_missing (some α) r l e = absurd (let y : true ≡ false = sym l.found_is ∙ e in let y : ◌≡◌ {A = ℕ} 0 1 = cc in omega arith)
+pub line_missing : {o : Option (List Bracket)} {b : List ℕ} → LineIs o None b → o ≡ none
+line_missing no_line = refl
 
-pub way_found : (o : Option Found) (r : Way) → WayIs o r → r.line.found ≡ true → (v : Found) × (o ≡ some v)
-way_found none r w e = absurd (let y : true ≡ false = sym e ∙ w.line_is.found_is in let y : ◌≡◌ {A = ℕ} 0 1 = cc in omega arith)
-way_found (some v) r w e = (v, refl)
+pub way_found : {o : Option Found} {r : Way} {b : List ℕ} → WayIs o (Some r) b → (v : Found) × (o ≡ some v) × HoldsWay v r b
+way_found (a_way {w} h) = (w, refl, h)
 
-pub way_missing : (o : Option Found) (r : Way) → WayIs o r → r.line.found ≡ false → o ≡ none
-way_missing none r w e = refl
-way_missing (some v) r w e = absurd (let y : true ≡ false = sym w.line_is.found_is ∙ e in let y : ◌≡◌ {A = ℕ} 0 1 = cc in omega arith)
+pub way_missing : {o : Option Found} {b : List ℕ} → WayIs o None b → o ≡ none
+way_missing no_way = refl
 
 -- a run inside an element, and the way that was found for it
-pub record Leads (a : Sheet) (z : State) (x : Next) (w : Way) : Type 0 where
+pub record Leads (a : Sheet) (z : State) (x : Next) (w : Way) (b : List ℕ) : Type 0 where
   pub os : List Open
   pub stands : (meaning_of z).control ≡ inside (open_of (top_of z)) os
   pub deep : z.depth ≡ suc (length os)
   pub way : Found
   pub is_way : atom_way (tags_of (grammar a)) (content_of (grammar a) (top_of z).production) (top_of z).place x ≡ some way
-  pub held : WayIs (some way) w
-  pub bytes : take w.line.length w.line.bytes ≡ codes way.string
+  pub held : HoldsWay way w b
+  pub bytes : take w.length b ≡ codes way.string
 
-module _ {s : List ℕ} {a : Sheet} (i : IsSheet s a) {z : State} (h : Shaped z) (f : RunFits a (meaning_of z)) (o : 0 < z.depth) {x : Symbol} {w : Way}
-    (W : AtomWayIs s (top_of z).production (top_of z).place x w) where
-  pub no_way_there : w.line.found ≡ false → atom_way (tags_of (grammar a)) (content_of (grammar a) (top_of z).production) (top_of z).place (next_of x) ≡ none
-  no_way_there e = way_missing _ w (way_is i (top_below i h f o) W) e
+module _ {s : List ℕ} {a : Sheet} (i : IsSheet s a) {z : State} (h : Shaped z) (f : RunFits a (meaning_of z)) (o : 0 < z.depth) {x : Symbol} {b : List ℕ} where
+  pub no_way_there : AtomWayIs s (top_of z).production (top_of z).place x None b → atom_way (tags_of (grammar a)) (content_of (grammar a) (top_of z).production) (top_of z).place (next_of x) ≡ none
+  no_way_there W = way_missing (way_is i (top_below i h f o) W)
 
-  pub way_leads : w.line.found ≡ true → Leads a z (next_of x) w
-  way_leads e =
+  pub way_leads : {w : Way} → AtomWayIs s (top_of z).production (top_of z).place x (Some w) b → Leads a z (next_of x) w b
+  way_leads W =
       let j = inside_at z h o in
-      let held = way_is i (top_below i h f o) W in
-      let v = way_found _ w held e in
-      let held_so = subst (λ (y : Option Found). WayIs y w) v.1 held in
+      let v = way_found (way_is i (top_below i h f o) W) in
       record {
         os = j.around;
         stands = j.stands;
         deep = j.deep;
         way = v.0;
         is_way = v.1;
-        held = held_so;
-        bytes = held_so.line_is.string_is.1 (omega (arith, W.few e, W.room));
+        held = v.2;
+        bytes = v.2.string_is.bytes_are (omega (arith, W.few, W.room));
       }
 
-pub place_below : {s : List ℕ} {z : State} → RunReady s z → 0 < z.depth → {x : Symbol} {w : Way} → AtomWayIs s (top_of z).production (top_of z).place x w → w.line.found ≡ true → w.place < 256
-place_below y o {x} {w} W e =
-    let L = way_leads y.is_sheet y.shaped y.fits o W e in
+pub place_below : {s : List ℕ} {z : State} → RunReady s z → 0 < z.depth → {x : Symbol} {w : Way} {b : List ℕ} → AtomWayIs s (top_of z).production (top_of z).place x (Some w) b → w.place < 256
+place_below y o {x} W =
+    let L = way_leads y.is_sheet y.shaped y.fits o W in
     omega (arith, place_small y.is_sheet y.shaped y.fits o (next_of x) L.way L.is_way, L.held.place_is)
 
 -- a way to an atom that can be a tag leads to a nonterminal, which is the argument that the way holds
-pub to_nonterminal : (g : List Production) (e : Content) (p t : ℕ) (v : Found) (r : Way) → atom_way (tags_of g) e p (tag t) ≡ some v → WayIs (some v) r →
+pub to_nonterminal : (g : List Production) (e : Content) (p t : ℕ) (v : Found) (r : Way) (b : List ℕ) → atom_way (tags_of g) e p (tag t) ≡ some v → HoldsWay v r b →
     production_for g v.kind t ≡ find g r.argument t
-to_nonterminal g e p t v r h w = by v.kind (found_atom (tags_of g) (tag t) e p v h).1 w.argument_is
+to_nonterminal g e p t v r b h w = by v.kind (found_atom (tags_of g) (tag t) e p v h).1 w.argument_is
   where
     by : (k : Atom) → can_be (tags_of g) k (tag t) ≡ true → r.argument ≡ argument_number k → production_for g k t ≡ find g r.argument t
     by (nonterminal n) c q = ap (λ (m : ℕ). find g m t) (sym q)

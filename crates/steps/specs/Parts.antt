@@ -1,6 +1,6 @@
 -- What the parts of taking an event hand on: the ground that they stand on, and what following a way to an atom comes to.
 -- Assumes nothing.
-use Rattle.std.specs.Prelude.{◌≡◌, Bool, false, cond, List, ℕ, ◌+◌, ◌*◌, ◌≤◌, length}
+use Rattle.std.specs.Prelude.{Option as Taken, Some, None, IfSome, ◌≡◌, Bool, false, List, ℕ, ◌+◌, ◌*◌, ◌≤◌, length}
 use Rattle.std.proofs.Math.Option.{some}
 use Rattle.expressions.specs.Grammar.{tags_of, content_of, Next}
 use Rattle.sheet.specs.Sheet.{Sheet, IsSheet}
@@ -25,9 +25,8 @@ use Rattle.acts.specs.declared.Acted.{Acted as LiveActed}
 use Rattle.state.specs.Bounds.{stack_width}
 use Rattle.live.specs.declared.Live.{Live}
 use Rattle.live.specs.Live.{full, SameBelow}
-use Rattle.steps.specs.Seen.{whole}
 use Rattle.steps.specs.Seen.{SteppedSeen}
-use Rattle.steps.specs.Stepped.{StepAnswered, SteppedAs, event_reach, event_visits}
+use Rattle.steps.specs.Stepped.{StepAnswered, event_reach, event_visits}
 
 -- the bytes are a sheet that passes, and the state is of a run that fits it
 pub record RunReady (s : List ℕ) (z : State) : Type 0 where
@@ -52,18 +51,20 @@ pub record OverStack (h : Live) (b b' : List ℕ) (P : Type 0) : Type 0 where
 abbrev pub refusing : ℕ → Run → LiveStepped
 refusing n u = record { number = n; at = u.at; live = u.live }
 
--- as the acts came out: a rejection is 25
-abbrev pub answering_live : LiveActed → LiveStepped
-answering_live x = record { number = cond x.ok 0 25; at = x.at; live = x.live }
+-- as the acts came out: a rejection is 25, and the run is as it was
+abbrev pub answering_live : Run → Taken LiveActed → LiveStepped
+answering_live u None = refusing 25 u
+answering_live u (Some x) = record { number = 0; at = x.at; live = x.live }
 
-abbrev pub answering : ActedSeen → SteppedSeen
-answering x = record { number = cond x.ok 0 25; at = x.at; state = x.state }
+abbrev pub answering : State → ℕ → Taken ActedSeen → SteppedSeen
+answering z at None = record { number = 25; at = at; state = z }
+answering z at (Some x) = record { number = 0; at = x.at; state = x.state }
 
 -- the brackets' visits of a way to an atom that can be x, whose string's bytes are the line, and the innermost element at its place
-pub record FollowsAs (s : List ℕ) (place : ℕ) (line : List ℕ) (z : State) (p : Pen) (r : ActedSeen) (d : List ℕ) : Type 0 where
-  pub reach : r.at ≤ p.at + most_brackets * visit_reach
-  pub count : r.state.count ≤ z.count + most_brackets
-  pub deep : r.state.depth ≡ z.depth
+pub record FollowsAs (s : List ℕ) (place : ℕ) (line : List ℕ) (z : State) (p : Pen) (r : Taken ActedSeen) (d : List ℕ) : Type 0 where
+  pub reach : IfSome r (λ x. x.at ≤ p.at + most_brackets * visit_reach)
+  pub count : IfSome r (λ x. x.state.count ≤ z.count + most_brackets)
+  pub deep : IfSome r (λ x. x.state.depth ≡ z.depth)
   pub dry : p.write ≡ false → d ≡ p.lent
   pub right : (a : Sheet) → IsSheet s a → Shaped z → RunFits a (meaning_of z) → (os : List Open) → (meaning_of z).control ≡ inside (open_of (top_of z)) os →
       (x : Next) (v : Found) → atom_way (tags_of (grammar a)) (content_of (grammar a) (top_of z).production) (top_of z).place x ≡ some v → place ≡ v.place → line ≡ codes v.string →

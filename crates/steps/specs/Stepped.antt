@@ -1,6 +1,6 @@
 -- What an event answers and leaves, and what a token without the limits on count and room does: the machine's answer, as the code holds it.
 -- Assumes nothing.
-use Rattle.std.specs.Prelude.{◌≡◌, false, cond, List, ℕ, ◌+◌, ◌*◌, ◌≤◌, ltb}
+use Rattle.std.specs.Prelude.{Option as Answered, Some, None, ◌≡◌, false, List, ℕ, ◌+◌, ◌*◌, ◌≤◌}
 use Rattle.std.proofs.Math.Option.{Option, none, some}
 use Rattle.lent.specs.Put.{PutAs}
 use Rattle.output.specs.Escape.{render}
@@ -31,9 +31,10 @@ abbrev pub StepAnswered : Answer → State → Pen → SteppedSeen → List ℕ 
 StepAnswered (refused n) z p r d = r.number ≡ n
 StepAnswered (took m) z p r d = Took m z p r d
 
--- a tag by its number; 256 and above are no tag of the sheet
-abbrev pub tag_in : ℕ → Option ℕ
-tag_in t = cond (ltb t 256) (some t) none
+-- a tag as it was looked up: by its number, or none of the sheet's
+abbrev pub tag_in : Answered ℕ → Option ℕ
+tag_in None = none
+tag_in (Some t) = some t
 
 -- the most visits of one event, a way's brackets and a production's own, and the most that they write
 abbrev pub event_visits : ℕ

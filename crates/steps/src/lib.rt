@@ -3,6 +3,7 @@
 #![tactic(auto)]
 
 ghost use Rattle.std.specs.Prelude.{◌≡◌, ◌+◌, ◌≤◌, ◌<◌, ◌^◌, length};
+ghost use Rattle.std.proofs.Math.Option.{some};
 ghost use Rattle.layout.specs.LaidOut.{LaidOut};
 ghost use Rattle.text.specs.Chars.{Char};
 ghost use Rattle.text.specs.Names.{blank};
@@ -10,7 +11,7 @@ ghost use Rattle.runs.specs.Events.{starts, ends, letter};
 ghost use Rattle.runs.specs.Visits.{most_visits};
 ghost use Rattle.live.specs.Live.{full};
 ghost use Rattle.few.specs.Strings.{most_brackets};
-ghost use Rattle.acts.specs.Seen.{seen};
+ghost use Rattle.acts.specs.Seen.{seen_if};
 ghost use Rattle.steps.specs.Seen.{whole};
 ghost use Rattle.steps.specs.Stepped.{tag_in, event_visits, SteppedAs, TokenAs};
 ghost use Rattle.steps.specs.Taken.{EventIn, TakenAs};
@@ -26,9 +27,6 @@ use state::State;
 use tokens::Event;
 use trees::Symbol;
 use ways::find_way;
-
-// What a lookup answers where there is no tag or production.
-const MISSING: usize = 256;
 
 // The output of nearly every token is no longer than this.
 const SCRATCH: usize = 64;
@@ -46,25 +44,6 @@ pub struct Stepped {
     pub number: usize,
     pub at: usize,
     pub live: Live,
-}
-
-// As acts came out: a rejection is 25.
-fn answer(done: Acted) -> Stepped
-    ensures { result ≡ answering_live done }
-{
-    let live = done.live;
-    if done.ok {
-        return Stepped {
-            number: 0,
-            at: done.at,
-            live: live,
-        };
-    }
-    Stepped {
-        number: 25,
-        at: done.at,
-        live: live,
-    }
 }
 
 // Whether a character is white space.
@@ -86,6 +65,21 @@ impl Run {
         }
     }
 
+    // As acts came out: a rejection is 25, and the run is as it was.
+    fn answer(self, done: Option<Acted>) -> Stepped
+        ensures { result ≡ answering_live self done }
+    {
+        let Some(acted) = done else {
+            return self.refuse(25);
+        };
+        let live = acted.live;
+        Stepped {
+            number: 0,
+            at: acted.at,
+            live: live,
+        }
+    }
+
     // The brackets' visits of a way, whose string is the line, and then the innermost element at the way's place.
     fn follow(
         self,
@@ -96,7 +90,7 @@ impl Run {
         stack: &[u8],
         out: &mut [u8],
         write: bool,
-    ) -> Acted
+    ) -> Option<Acted>
         requires laid_out { LaidOut s.now l }
         requires ready_at { ReadyAt s.now self.live stack.now }
         requires depth_nonzero { 0 < self.live.depth }
@@ -104,20 +98,16 @@ impl Run {
         requires line_len_bound { length line.now ≤ most_brackets }
         requires at_bound { self.at ≤ 2 ^ 58 }
         requires count_bound { self.live.count ≤ most_visits + event_visits }
-        ensures { FollowsAs s.now place line.now (full self.live stack.now) (record { write = write; lent = out.old; at = self.at }) (seen result stack.now) out.new }
+        ensures { FollowsAs s.now place line.now (full self.live stack.now) (record { write = write; lent = out.old; at = self.at }) (seen_if result stack.now) out.new }
     {
         let live = self.live;
         let f = live.top();
-        let done = acts::brackets(s, l, f.production as usize, line, live, out, self.at, write);
-        if !done.ok {
-            return done;
-        }
+        let done = acts::brackets(s, l, f.production as usize, line, live, out, self.at, write)?;
         let after = done.live;
-        Acted {
-            ok: true,
+        Some(Acted {
             at: done.at,
             live: after.at_place(place as u8),
-        }
+        })
     }
 
     // A start tag where no element is open: the root's, unless the root has been closed.
@@ -125,7 +115,7 @@ impl Run {
         self,
         s: &[u8],
         l: Layout,
-        t: usize,
+        t: Option<usize>,
         stack: &mut [u8],
         out: &mut [u8],
         write: bool,
@@ -141,15 +131,14 @@ impl Run {
         if live.rooted {
             return self.refuse(26);
         }
-        if 255 < t {
+        let Some(t) = t else {
             return self.refuse(23);
-        }
-        let q = production_for(s, l, l.start, t);
-        if q == MISSING {
+        };
+        let Some(q) = production_for(s, l, l.start, t) else {
             return self.refuse(23);
-        }
+        };
         let entered = acts::enter(s, l, q, live, stack, out, self.at, write);
-        answer(entered)
+        self.answer(entered)
     }
 
     // A start tag of the sheet inside an element, by the way to an atom that can be it.
@@ -165,48 +154,44 @@ impl Run {
         requires laid_out { LaidOut s.now l }
         requires ready_at { ReadyAt s.now self.live stack.old }
         requires depth_nonzero { 0 < self.live.depth }
-        requires t_bound { t ≤ 255 }
         requires at_bound { self.at ≤ 2 ^ 58 }
         requires count_bound { self.live.count ≤ most_visits + event_visits }
-        ensures { OverStack self.live stack.old stack.new (SteppedAs s.now (starts (tag_in t)) (full self.live stack.old) (record { write = write; lent = out.old; at = self.at }) (whole result stack.new) out.new) }
+        ensures { OverStack self.live stack.old stack.new (SteppedAs s.now (starts (some t)) (full self.live stack.old) (record { write = write; lent = out.old; at = self.at }) (whole result stack.new) out.new) }
     {
         let live = self.live;
         let f = live.top();
         let mut line = [0u8; ways::MOST];
-        let w = find_way(
+        let Some(w) = find_way(
             s,
             l,
             f.production as usize,
             f.place as usize,
             Symbol::Tag(t),
             &mut line,
-        );
-        if !w.line.found {
+        ) else {
             return self.refuse(23);
-        }
-        let q = production_for(s, l, w.argument, t);
-        if q == MISSING {
+        };
+        let Some(q) = production_for(s, l, w.argument, t) else {
             return self.refuse(23);
-        }
+        };
         if Live::DEPTH <= live.depth {
             return self.refuse(24);
         }
-        let n = w.line.length;
-        let led = self.follow(s, l, w.place, &line[..n], stack, out, write);
-        if !led.ok {
-            return answer(led);
-        }
+        let n = w.length;
+        let Some(led) = self.follow(s, l, w.place, &line[..n], stack, out, write) else {
+            return self.refuse(25);
+        };
         let after = led.live;
         let entered = acts::enter(s, l, q, after, stack, out, led.at, write);
-        answer(entered)
+        self.answer(entered)
     }
 
-    // The start tag t.
+    // The start of a tag by its number, or of none of the sheet's.
     pub fn start(
         self,
         s: &[u8],
         l: Layout,
-        t: usize,
+        t: Option<usize>,
         stack: &mut [u8],
         out: &mut [u8],
         write: bool,
@@ -220,9 +205,9 @@ impl Run {
         if self.live.depth == 0 {
             return self.start_root(s, l, t, stack, out, write);
         }
-        if 255 < t {
+        let Some(t) = t else {
             return self.refuse(23);
-        }
+        };
         self.start_inside(s, l, t, stack, out, write)
     }
 
@@ -231,7 +216,7 @@ impl Run {
         self,
         s: &[u8],
         l: Layout,
-        t: usize,
+        t: Option<usize>,
         stack: &[u8],
         out: &mut [u8],
         write: bool,
@@ -246,30 +231,28 @@ impl Run {
         let live = self.live;
         let f = live.top();
         let q = f.production as usize;
-        if layout::tag_number_of(s, l, q) != t {
+        if t != Some(layout::tag_number_of(s, l, q)) {
             return self.refuse(22);
         }
         let mut line = [0u8; ways::MOST];
-        let w = find_way(s, l, q, f.place as usize, Symbol::End, &mut line);
-        if !w.line.found {
+        let Some(w) = find_way(s, l, q, f.place as usize, Symbol::End, &mut line) else {
             return self.refuse(23);
-        }
-        let n = w.line.length;
-        let done = acts::brackets(s, l, q, &line[..n], live, out, self.at, write);
-        if !done.ok {
-            return answer(done);
-        }
+        };
+        let n = w.length;
+        let Some(done) = acts::brackets(s, l, q, &line[..n], live, out, self.at, write) else {
+            return self.refuse(25);
+        };
         let after = done.live;
         let left = acts::leave(s, l, q, after, stack, out, done.at, write);
-        answer(left)
+        self.answer(left)
     }
 
-    // The end tag t.
+    // The end of a tag by its number, or of none of the sheet's.
     pub fn end(
         self,
         s: &[u8],
         l: Layout,
-        t: usize,
+        t: Option<usize>,
         stack: &[u8],
         out: &mut [u8],
         write: bool,
@@ -311,25 +294,23 @@ impl Run {
         let live = self.live;
         let f = live.top();
         let mut line = [0u8; ways::MOST];
-        let w = find_way(
+        let Some(w) = find_way(
             s,
             l,
             f.production as usize,
             f.place as usize,
             Symbol::Character,
             &mut line,
-        );
-        if !w.line.found {
+        ) else {
             return self.refuse(23);
-        }
-        let n = w.line.length;
-        let led = self.follow(s, l, w.place, &line[..n], stack, out, write);
-        if !led.ok {
-            return answer(led);
-        }
+        };
+        let n = w.length;
+        let Some(led) = self.follow(s, l, w.place, &line[..n], stack, out, write) else {
+            return self.refuse(25);
+        };
         let after = led.live;
         let read = acts::read_character(c, after, out, led.at, write);
-        answer(read)
+        self.answer(Some(read))
     }
 
     // The character c.
@@ -364,7 +345,7 @@ impl Run {
         self,
         s: &[u8],
         l: Layout,
-        t: usize,
+        t: Option<usize>,
         stack: &mut [u8],
         out: &mut [u8],
         write: bool,

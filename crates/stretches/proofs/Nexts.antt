@@ -23,7 +23,7 @@ use Rattle.tokens.proofs.Theory.{one_answer}
 use Rattle.tokens.proofs.Streams.{token_moves}
 use Rattle.calls.proofs.Read.{token_means}
 use Rattle.stretches.specs.declared.Literal.{Literal}
-use Rattle.stretches.specs.declared.Literal.TheVariants.{Character as Stands, Other}
+use Rattle.std.specs.Prelude.{Option as Stands, Some, None}
 use Rattle.output.specs.Escape.{escaped_as, escaped}
 use Rattle.output.specs.Reach.{farthest}
 use Rattle.runs.specs.Visits.{most_visits}
@@ -124,17 +124,17 @@ module _ (part : List ℕ) (at : ℕ) where
       subst (λ (n : ℕ). Means (front part at) at (Token (Character b true) (record { at = at + n }))) (ap length bytes) read
 
   module _ (x : Answer) (m : Means (front part at) at x) where
-    pub no_token : ((e : Event) (next : Cursor) → x ≡ Token e next → ⊥) → LiteralIs part at Other
+    pub no_token : ((e : Event) (next : Cursor) → x ≡ Token e next → ⊥) → LiteralIs part at None
     no_token h c next n = h (Character c true) next (one_answer (front part at) at x (Token (Character c true) next) m n)
 
     module _ (e : Event) (next : Cursor) (q : x ≡ Token e next) where
       token : Means (front part at) at (Token e next)
       token = subst (Means (front part at) at) q m
 
-      pub no_character : ((c : ℕ) (l : Bool) → e ≡ Character c l → ⊥) → LiteralIs part at Other
+      pub no_character : ((c : ℕ) (l : Bool) → e ≡ Character c l → ⊥) → LiteralIs part at None
       no_character h c then n = h c true (ap event_in (one_answer (front part at) at (Token e next) (Token (Character c true) then) token n))
 
-      pub by_reference : (c : ℕ) (l : Bool) → e ≡ Character c l → l ≡ false → LiteralIs part at Other
+      pub by_reference : (c : ℕ) (l : Bool) → e ≡ Character c l → l ≡ false → LiteralIs part at None
       by_reference c l f k d then n =
           true≢false (sym (ap (λ (y : Answer). literally (event_in y)) (one_answer (front part at) at (Token e next) (Token (Character d true) then) token n)) ∙ ap literally f ∙ k)
 
@@ -145,14 +145,14 @@ module _ (part : List ℕ) (at : ℕ) where
         pub reaches : at ≤ next.at
         reaches = omega (arith, (token_moves part at (Character c true) next h there.0).0)
 
-        pub read_character : LiteralIs part at (Stands c (next.at - at))
+        pub read_character : LiteralIs part at (Some (record { character = c; width = next.at - at }))
         read_character =
             let n : next.at ≡ at + (next.at - at) = omega (arith, reaches) in
             subst (λ (i : ℕ). Means (front part at) at (Token (Character c true) (record { at = i }))) n there
 
   -- what stands there is what the reader says, and takes a byte at least
-  pub stands : (r : Literal) → LiteralIs part at r → (c n : ℕ) → r ≡ Stands c n → Means (front part at) at (Token (Character c true) (record { at = at + n }))
-  stands r m c n q = subst (LiteralIs part at) q m
+  pub stands : (r : Stands Literal) → LiteralIs part at r → (l : Literal) → r ≡ Some l → Means (front part at) at (Token (Character l.character true) (record { at = at + l.width }))
+  stands r m l q = subst (LiteralIs part at) q m
 
   pub onward : (c n : ℕ) → at ≤ length part → Means (front part at) at (Token (Character c true) (record { at = at + n })) → (0 < n) × (at + n ≤ length part)
   onward c n h m =

@@ -1,6 +1,6 @@
 -- What stands at a place of a part, as far as characters go; and the bytes that are a character by themselves wherever they stand.
 -- Assumes nothing.
-use Rattle.std.specs.Prelude.{Bool, true, cond, not, ◌&&◌, ◌||◌, List, ℕ, ◌+◌, ◌-◌, leb, ltb, eqb, length, get_or}
+use Rattle.std.specs.Prelude.{Option as Stands, Some, None, Bool, true, cond, not, ◌&&◌, ◌||◌, List, ℕ, ◌+◌, ◌-◌, leb, ltb, eqb, length, get_or}
 use Rattle.tokens.specs.Tokens.{front, Means}
 use Rattle.tokens.specs.declared.Cursor.{Cursor}
 use Rattle.tokens.specs.declared.Event.TheVariants.{Character}
@@ -8,7 +8,6 @@ use Rattle.tokens.specs.declared.Answer.TheVariants.{Token}
 use Rattle.output.specs.Reach.{farthest}
 use Rattle.runs.specs.Visits.{most_visits}
 use Rattle.stretches.specs.declared.Literal.{Literal}
-use Rattle.stretches.specs.declared.Literal.TheVariants.{Character as Stands, Other}
 
 -- one of ASCII from the space on other than < & >; a space, a tab or a line feed
 abbrev pub plain : ℕ → Bool
@@ -26,6 +25,6 @@ abbrev pub allows : ℕ → ℕ → ℕ → ℕ → Bool
 allows k count room to = leb count (most_visits - k) && (leb 5 room && leb to farthest)
 
 -- a character stands there itself, as the reader says, and takes so many bytes; or none does: a reference, or a CR that waits, is none
-abbrev pub LiteralIs : List ℕ → ℕ → Literal → Type 0
-LiteralIs part at (Stands c n) = Means (front part at) at (Token (Character c true) (record { at = at + n }))
-LiteralIs part at Other = (c : ℕ) (next : Cursor) → Means (front part at) at (Token (Character c true) next) → ⊥
+abbrev pub LiteralIs : List ℕ → ℕ → Stands Literal → Type 0
+LiteralIs part at (Some l) = Means (front part at) at (Token (Character l.character true) (record { at = at + l.width }))
+LiteralIs part at None = (c : ℕ) (next : Cursor) → Means (front part at) at (Token (Character c true) next) → ⊥

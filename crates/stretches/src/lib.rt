@@ -28,11 +28,11 @@ pub struct Stretch {
     pub count: u64,
 }
 
-// What stands at a place of the part: a character itself, no reference, and how many bytes it takes; or no such.
+// A character that stands in the part itself, by no reference, and how many bytes it takes.
 #[derive(Clone, Copy)]
-pub enum Literal {
-    Character(u32, usize),
-    Other,
+pub struct Literal {
+    pub character: u32,
+    pub width: usize,
 }
 
 // Whether a byte is a character by itself wherever it stands, and is written as it is: one of ASCII from the space on other than < & >.
@@ -49,23 +49,26 @@ fn is_space(b: u8) -> bool
     (b == 32) | ((b == 9) | (b == 10))
 }
 
-// What the reader says of the place.
-fn read_literal(part: &[u8], at: usize) -> Literal
+// What the reader says of the place: the character that stands there, if one does.
+fn read_literal(part: &[u8], at: usize) -> Option<Literal>
     requires { at ≤ length part.now }
     ensures { LiteralIs part.now at result }
 {
     let cursor = Cursor { at: at };
     let answer = cursor.read(part);
     let Answer::Token(event, next) = answer else {
-        return Literal::Other;
+        return None;
     };
     let Event::Character(c, literal) = event else {
-        return Literal::Other;
+        return None;
     };
     if !literal {
-        return Literal::Other;
+        return None;
     }
-    Literal::Character(c, next.at - at)
+    Some(Literal {
+        character: c,
+        width: next.at - at,
+    })
 }
 
 // Whether no character can stand there: a stretch that ends at a tag or with the part asks the reader nothing.
@@ -171,16 +174,15 @@ pub fn characters(
         if tag_or_end(part, far.at) {
             return far;
         }
-        let next = read_literal(part, far.at);
-        let Literal::Character(c, w) = next else {
+        let Some(next) = read_literal(part, far.at) else {
             return far;
         };
         if !allowed(k, far.count, out.len() - far.put, far.put) {
             return far;
         }
-        to = show(c, on, out, far.put);
+        to = show(next.character, on, out, far.put);
         count = far.count + k;
-        at = far.at + w;
+        at = far.at + next.width;
     }
 }
 

@@ -27,14 +27,6 @@ const NONTERMINALS: usize = 64;
 // The deepest that an expression may be.
 const DEEPEST: usize = 12;
 
-// What the nodes from one on are.
-#[derive(Clone, Copy)]
-pub enum Parsed {
-    // a whole tree; the number of the node past it
-    Tree(usize),
-    Bad,
-}
-
 // The next symbol: a tag by its number, a character, or the end of the element.
 #[derive(Clone, Copy)]
 pub enum Symbol {
@@ -84,34 +76,32 @@ fn node_fits(kind: usize, argument: usize) -> bool
     argument == 0
 }
 
-// The node past the tree at node i, which may have `left` nodes and be `deep` deep.
-fn parse(s: &[u8], l: Layout, i: usize, left: usize, deep: usize) -> Parsed
+// The node past the tree at node i, which may have `left` nodes and be `deep` deep; none where no such tree lies there.
+fn parse(s: &[u8], l: Layout, i: usize, left: usize, deep: usize) -> Option<usize>
     requires laid_out { LaidOut s.now l }
     requires left_bound { i + left ≤ l.nodes }
     ensures { ParsedAt s.now i left deep result }
 {
     if left == 0 {
-        return Parsed::Bad;
+        return None;
     }
     if deep == 0 {
-        return Parsed::Bad;
+        return None;
     }
     let kind = kind_of(s, l, i);
     let argument = argument_of(s, l, i);
     if !node_fits(kind, argument) {
-        return Parsed::Bad;
+        return None;
     }
     if kind > 5 {
-        return Parsed::Tree(i + 1);
+        return Some(i + 1);
     }
     if kind < 3 {
-        return Parsed::Tree(i + 1);
+        return Some(i + 1);
     }
-    let Parsed::Tree(j) = parse(s, l, i + 1, left - 1, deep - 1) else {
-        return Parsed::Bad;
-    };
+    let j = parse(s, l, i + 1, left - 1, deep - 1)?;
     if kind == 5 {
-        return Parsed::Tree(j);
+        return Some(j);
     }
     parse(s, l, j, i + left - j, deep - 1)
 }
@@ -128,7 +118,7 @@ fn content_fits(s: &[u8], l: Layout, q: usize) -> bool
         return true;
     }
     let first = first_node_of(s, l, q);
-    let Parsed::Tree(past) = parse(s, l, first, nodes, DEEPEST) else {
+    let Some(past) = parse(s, l, first, nodes, DEEPEST) else {
         return false;
     };
     past == first + nodes

@@ -9,7 +9,11 @@ ghost use Rattle.io.specs.Counts.{IsPrefixLen};
 
 use crate::{LENT, each_line};
 use cases::{Read, STDOUT_FILENO, fill, is_kept, mark, one_more, read_bytes, read_number};
+use dtds::Declared;
+use faults::Checked;
 use files::within;
+use prints::Printed;
+use writer::Written;
 
 // What is asked of every case of a file.
 #[derive(Clone, Copy)]
@@ -26,39 +30,55 @@ struct Told {
     count: usize,
 }
 
+impl From<Checked> for Told {
+    fn from(c: Checked) -> Told {
+        Told {
+            number: usize::from(c.number),
+            count: c.count,
+        }
+    }
+}
+
+impl From<Printed> for Told {
+    fn from(p: Printed) -> Told {
+        Told {
+            number: usize::from(p.number),
+            count: p.count,
+        }
+    }
+}
+
+impl From<Written> for Told {
+    fn from(w: Written) -> Told {
+        Told {
+            number: w.number,
+            count: w.count,
+        }
+    }
+}
+
+impl From<Declared> for Told {
+    fn from(d: Declared) -> Told {
+        Told {
+            number: d.number,
+            count: d.count,
+        }
+    }
+}
+
 // Writes a text as a sheet, or prints a sheet as text.
 fn translate(prints: bool, given: &[u8], memory: &mut [u8]) -> Told {
     if prints {
-        let p = prints::print(given, memory);
-        return Told {
-            number: p.number as usize,
-            count: p.count,
-        };
+        return Told::from(prints::print(given, memory));
     }
-    let w = writer::write(given, memory);
-    Told {
-        number: w.number,
-        count: w.count,
-    }
+    Told::from(writer::write(given, memory))
 }
 
 fn run(asked: Asked, prints: bool, given: &[u8], memory: &mut [u8]) -> Told {
     match asked {
-        Asked::Check => {
-            let c = faults::check(given, memory);
-            Told {
-                number: c.number as usize,
-                count: c.count,
-            }
-        }
+        Asked::Check => Told::from(faults::check(given, memory)),
         Asked::Translate => translate(prints, given, memory),
-        Asked::Declare => {
-            let d = dtds::declare(given, memory);
-            Told {
-                number: d.number,
-                count: d.count,
-            }
-        }
+        Asked::Declare => Told::from(dtds::declare(given, memory)),
     }
 }
 

@@ -6,7 +6,7 @@ ghost use Rattle.io.specs.Counts.{IsPrefixLen};
 
 use crate::{LENT, each_line};
 use cases::{STDOUT_FILENO, change, fill, is_kept, letter, one_more, read_bytes, read_number};
-use converter::convert_bytes;
+use converter::{Counts, convert_bytes};
 use files::within;
 use state::State;
 
@@ -46,6 +46,17 @@ struct Answer {
     visits: u64,
 }
 
+impl From<Counts> for Answer {
+    fn from(c: Counts) -> Answer {
+        Answer {
+            number: c.number as u64,
+            taken: c.taken as u64,
+            written: c.written as u64,
+            visits: c.visits,
+        }
+    }
+}
+
 // A call's line: the part's place, whether it is the last, the room; what must be answered, where in the wanted output its bytes begin, and
 // where in the line the state's first bytes do.
 #[derive(Clone, Copy)]
@@ -69,9 +80,8 @@ fn fresh(state: &mut [u8]) {
 
 // Copies as many bytes as both have.
 fn copy(from: &[u8], to: &mut [u8]) {
-    for (place, b) in to.iter_mut().zip(from) {
-        *place = *b;
-    }
+    let n = from.len().min(to.len());
+    to[..n].copy_from_slice(&from[..n]);
 }
 
 // Whether the first n bytes are those of the other memory from a place on.
@@ -183,16 +193,9 @@ fn convert(
 ) -> Outcome {
     fill(out, LENT);
     let r = convert_bytes(sheet, state, part, c.ended, out);
-    let output = is_output(out, r.written, wanted, c.output);
-    let is = Answer {
-        number: r.number as u64,
-        taken: r.taken as u64,
-        written: r.written as u64,
-        visits: r.visits,
-    };
     Outcome {
-        is: is,
-        output: output,
+        is: Answer::from(r),
+        output: is_output(out, r.written, wanted, c.output),
     }
 }
 

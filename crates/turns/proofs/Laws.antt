@@ -2,21 +2,23 @@
 -- Assumes nothing.
 use mathlib.Core.Path.{◌≡◌, refl, sym, ap, ap₂, subst, ◌∙◌}
 use mathlib.Core.Bool.{Bool, true, false, not, cond, ◌&&◌, ◌||◌, and-false}
-use mathlib.Core.List.{List, [], ◌∷◌, ◌++◌}
+use mathlib.Core.List.{List, ◌++◌}
 use mathlib.Core.Option.{Option, none, some}
 use Prim.Native.Nat.{ℕ, ◌+◌, ◌-◌, ◌*◌, ◌/◌, ◌≤◌, ◌<◌}
 use native.Mathlib.Omega.{arith}
 use lib.Dec.{eqb, leb}
 use lib.ListN.{length, take, drop}
-use borrow.Author.Tests.{eq-eqb, ne_eqb, eqb-true, eqb-false, leb-true, leb-false, not-true, not-false}
+use Rattle.std.specs.Prelude.{Option as Answered, Some}
+use Rattle.std.specs.Option.{option_eq}
+use borrow.Author.Tests.{eq-eqb, ne_eqb, eqb-false, leb-true, leb-false}
 use Rattle.lent.specs.Put.{put}
 use Rattle.lent.proofs.Laws.{put_append}
 use Rattle.tokens.specs.declared.Event.{Event}
 use Rattle.tokens.specs.declared.Event.TheVariants.{Start, End, Empty, Character}
-use Rattle.sheet.specs.Sheet.{Sheet, IsSheet}
+use Rattle.sheet.specs.Sheet.{Sheet}
 use Rattle.calls.specs.Held.{leaves_open}
 use Rattle.calls.specs.Names.{tag_named, character_token, token_of}
-use Rattle.lookups.specs.Found.{or_missing, TagFound}
+use Rattle.lookups.specs.Found.{answer_of, TagFound}
 use Rattle.runs.specs.Machine.{same_tag}
 use Rattle.salvage.specs.Salvage.{starts_with, lost}
 use Rattle.state.specs.Bytes.{number_bytes, Wrote}
@@ -100,16 +102,17 @@ pub entry_at : {rep' : List ℕ} (rep : List ℕ) (at f l l' n : ℕ) → rep' �
 entry_at rep at f l l' n e k = e ∙ ap (λ (i : ℕ). put true rep at (entry_bytes (lost f i n))) k
 
 -- ---- names
-found_tag : (o : Option ℕ) (r t : ℕ) → t < 256 → r ≡ or_missing o → eqb r t ≡ same_tag o t
-found_tag none r t h e = ne_eqb r t (λ k. omega (arith, e))
-found_tag (some u) r t h e = ap (λ (i : ℕ). eqb i t) e
+found_tag : (o : Option ℕ) (t : ℕ) → option_eq eqb (answer_of o) (Some t) ≡ same_tag o t
+found_tag none t = refl
+found_tag (some u) t = refl
 
-pub named_as : (s part : List ℕ) (from len end t r : ℕ) → end ≡ from + len → TagFound s (take (end - from) (drop from part)) r → NamedAs s part from len t (eqb r t)
-named_as s part from len end t r e T =
+pub named_as : (s part : List ℕ) (from len end t : ℕ) (r : Answered ℕ) (b : Bool) → end ≡ from + len → TagFound s (take (end - from) (drop from part)) r → b ≡ option_eq eqb r (Some t) → NamedAs s part from len t b
+named_as s part from len end t r b e T q =
     record {
       is = λ a i h.
           let k : end - from ≡ len = omega arith in
-          found_tag (tag_named a.names (take len (drop from part))) r t h (T.is a i ∙ ap (λ (j : ℕ). or_missing (tag_named a.names (take j (drop from part)))) k);
+          q ∙ ap (λ (o : Answered ℕ). option_eq eqb o (Some t)) (T.is a i ∙ ap (λ (j : ℕ). answer_of (tag_named a.names (take j (drop from part)))) k)
+          ∙ found_tag (tag_named a.names (take len (drop from part))) t;
     }
 
 pub begins_so : {s part : List ℕ} {e : Event} {t d : ℕ} {b c : Bool} → BeginsAs s part e t d b → b ≡ c → BeginsAs s part e t d c

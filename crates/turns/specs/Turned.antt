@@ -17,7 +17,7 @@ use Rattle.salvaging.specs.declared.Resumed.TheVariants.{Here, Waits, Nowhere}
 use Rattle.salvaging.specs.Resumed.{ResumedIs}
 use Rattle.state.specs.Meaning.{meaning_of, Shaped}
 use Rattle.live.specs.declared.Live.{Live}
-use Rattle.live.specs.Live.{full, SameBelow}
+use Rattle.live.specs.Live.{full}
 use Rattle.steps.specs.declared.Stepped.{Stepped}
 use Rattle.steps.specs.Seen.{whole}
 use Rattle.steps.specs.Parts.{OverStack}

@@ -217,7 +217,7 @@ fn named(s: &[u8], l: Layout, part: &[u8], from: usize, len: usize, tag: usize) 
     ensures { NamedAs s.now part.now from len tag result }
 {
     let end = from + len;
-    tag_named(s, l, &part[from..end]) == tag
+    tag_named(s, l, &part[from..end]) == Some(tag)
 }
 
 // Whether a token begins a record: the records' tag, started or empty, where only the root is open.

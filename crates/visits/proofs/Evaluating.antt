@@ -1,7 +1,7 @@
 -- Operands and conditions: the first byte tells the form, and a condition's answer comes from those of its parts, one after the other.
 -- Assumes nothing.
 use mathlib.Core.Path.{◌≡◌, refl, sym, ap, ◌∙◌, subst}
-use mathlib.Core.Bool.{Bool, true, false, not, ◌&&◌, ◌||◌}
+use mathlib.Core.Bool.{false, not, ◌&&◌, ◌||◌}
 use mathlib.Core.List.{List, [], ◌∷◌, ◌++◌}
 use Prim.Native.Nat.{ℕ, ◌+◌, ◌-◌, ◌≤◌, ◌<◌}
 use native.Mathlib.Omega.{arith}
@@ -97,28 +97,22 @@ module _ (s : List ℕ) (i : ℕ) (kept values : List ℕ) where
             let y = Q.right d (subst (λ (n : ℕ). Starts (drop n s) (condition_bytes d)) (sym x.1) (second_part s (i + 1) (condition_bytes c) (condition_bytes d) two)) in
             (x.0, y.0, omega (arith, x.1, y.1, length-append (condition_bytes c) (condition_bytes d)))
 
-        pub both_hold : get_or s i 0 ≡ 2 → (y : Bool) → y ≡ r.yes && q.yes → JudgedAs s i kept values (record { yes = y; next = q.next })
-        both_hold e y yis = record { low = omega (arith, R.low, Q.low); high = Q.high; right = go }
+        pub both_hold : get_or s i 0 ≡ 2 → JudgedAs s i kept values (record { yes = r.yes && q.yes; next = q.next })
+        both_hold e = record { low = omega (arith, R.low, Q.low); high = Q.high; right = go }
           where
-            go : (c : Condition) → LiesAt condition_bytes s i c → (y ≡ holds kept c values) × (q.next ≡ i + length (condition_bytes c))
+            go : (c : Condition) → LiesAt condition_bytes s i c → (r.yes && q.yes ≡ holds kept c values) × (q.next ≡ i + length (condition_bytes c))
             go c st =
                 let w = condition_of s i h e c st in
                 let p = two_parts 2 w.0 w.1 (rw w.2 at st) in
-                rw w.2 (rw (← p.0, ← p.1) yis, p.2)
+                rw w.2 (rw (p.0, p.1) refl, p.2)
 
-        pub either_holds : (get_or s i 0 ≡ 0 → ⊥) → (get_or s i 0 ≡ 1 → ⊥) → (get_or s i 0 ≡ 2 → ⊥) → (y : Bool) → y ≡ not r.yes && not q.yes
-            → JudgedAs s i kept values (record { yes = not y; next = q.next })
-        either_holds f g k y yis = record { low = omega (arith, R.low, Q.low); high = Q.high; right = go }
+        pub either_holds : (get_or s i 0 ≡ 0 → ⊥) → (get_or s i 0 ≡ 1 → ⊥) → (get_or s i 0 ≡ 2 → ⊥) → JudgedAs s i kept values (record { yes = r.yes || q.yes; next = q.next })
+        either_holds f g k = record { low = omega (arith, R.low, Q.low); high = Q.high; right = go }
           where
-            or : (a b : Bool) → not (not a && not b) ≡ a || b
-            or true b = refl
-            or false true = refl
-            or false false = refl
-
-            go : (c : Condition) → LiesAt condition_bytes s i c → (not y ≡ holds kept c values) × (q.next ≡ i + length (condition_bytes c))
+            go : (c : Condition) → LiesAt condition_bytes s i c → (r.yes || q.yes ≡ holds kept c values) × (q.next ≡ i + length (condition_bytes c))
             go (equal x z) st = absurd (f (first_byte s i 0 (operand_bytes x ++ operand_bytes z) st))
             go (negated c) st = absurd (g (first_byte s i 1 (condition_bytes c) st))
             go (both c d) st = absurd (k (first_byte s i 2 (condition_bytes c ++ condition_bytes d) st))
             go (either c d) st =
                 let p = two_parts 3 c d st in
-                (ap not yis ∙ or r.yes q.yes ∙ rw (p.0, p.1), p.2)
+                (rw (p.0, p.1), p.2)

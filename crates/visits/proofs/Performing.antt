@@ -1,7 +1,8 @@
 -- From the sheet's bytes to what the runners ask: the tags' names and the strings are the sheet's, and the program that a field names lies at that
 -- offset of the section and fits. Assumes nothing.
 use mathlib.Core.Path.{◌≡◌, refl, sym, ap, ap₂, ◌∙◌, subst}
-use mathlib.Core.Bool.{Bool, true, false, true≢false}
+use Rattle.std.specs.Prelude.{Option as Taken, Some, None}
+use mathlib.Core.Bool.{true}
 use mathlib.Core.List.{List, [], ◌∷◌, ◌++◌, append_assoc}
 use mathlib.Core.Option.{Option, none, some}
 use Prim.Native.Nat.{ℕ, zero, suc, ◌+◌, ◌-◌, ◌*◌, ◌≤◌, ◌<◌}
@@ -18,12 +19,12 @@ use Rattle.layout.specs.declared.Layout.{Layout}
 use Rattle.sheet.specs.Tags.{tag_record, TagAt}
 use Rattle.sheet.specs.Sheet.{Sheet, From, IsSheet}
 use Rattle.sheet.proofs.SheetLaws.{from_counted}
-use Rattle.runs.specs.Execute.{Effect, name_of}
+use Rattle.runs.specs.Execute.{name_of}
 use Rattle.runs.specs.Visits.{performed}
 use Rattle.runs.proofs.SheetFits.{one_of_all}
 use Rattle.visits.specs.Evaluated.{LiesAt}
 use Rattle.visits.specs.Written.{Pen, TagNameAt, Sources}
-use Rattle.visits.specs.Ran.{most_printed, Came, RanAs, lists}
+use Rattle.visits.specs.Ran.{most_printed, Came, RanTo, RanAs, lists}
 use Rattle.visits.specs.Performed.{PerformedAs}
 use Rattle.visits.specs.declared.Env.{Env}
 use Rattle.visits.specs.declared.Ran.{Ran}
@@ -103,39 +104,33 @@ module _ (s : List ℕ) (l : Layout) (L : LaidOut s l) where
         (subst (λ (w : List ℕ). Fill (tag_count s) (strings_in s) w z.well_formed_lem.programs.programs) (sym section_is) F))
 
   module _ (field : ℕ) (kept : List ℕ) (e : Env) (p : Pen) where
-    pub no_field : field ≡ 65535 → PerformedAs s field kept e p (record { ok = true; at = p.at; env = e }) p.lent
-    no_field k = record { reach = omega arith; dry = λ y. refl; back = λ y. absurd (true≢false y); right = λ a z v m f. go a m f }
+    pub no_field : field ≡ 65535 → PerformedAs s field kept e p (Some (record { at = p.at; env = e })) p.lent
+    no_field k = record { reach = omega arith; dry = λ y. refl; right = λ a z v m f. go a m f }
       where
-        go : (a : Sheet) {ps : List Program} {v : Visit} (m : Option Program) → FieldIs ps v field m → Came (performed a kept m e.values e.echo) p true p.at e p.lent
+        go : (a : Sheet) {ps : List Program} {v : Visit} (m : Option Program) → FieldIs ps v field m → Came (performed a kept m e.values e.echo) p p.at e p.lent
         go a none f = still p e
         go a (some q) (names n q₁ S w) = absurd (n k)
 
-    pub past_section : (field ≡ 65535 → ⊥) → l.programs < field → PerformedAs s field kept e p (record { ok = false; at = p.at; env = e }) p.lent
-    past_section n far = record { reach = omega arith; dry = λ y. refl; back = λ y. (refl, refl); right = go }
+    pub past_section : (field ≡ 65535 → ⊥) → l.programs < field → PerformedAs s field kept e p None p.lent
+    past_section n far = record { reach = tt; dry = λ y. refl; right = go }
       where
-        go : (a : Sheet) (z : IsSheet s a) (v : Visit) (m : Option Program) → FieldIs z.well_formed_lem.programs.programs v field m → Came (performed a kept m e.values e.echo) p false p.at e p.lent
+        go : (a : Sheet) (z : IsSheet s a) (v : Visit) (m : Option Program) → FieldIs z.well_formed_lem.programs.programs v field m → performed a kept m e.values e.echo ≡ none
         go a z v none (no_program k) = absurd (n k)
         go a z v (some q) (names k q₁ S w) =
             absurd (omega (arith, far, section_length, it_starts_inside (length a.names) strings_of section_of z.well_formed_lem.programs.programs (filled a z) field q S))
 
     -- the list at that offset was run
-    module _ (n : field ≡ 65535 → ⊥) (r : Ran) (d : List ℕ) (R : RanAs lists (record { section = section_of; tags = s; strings = strings_of }) field kept e true p r d) where
-      came : (a : Sheet) (z : IsSheet s a) (v : Visit) (m : Option Program) → FieldIs z.well_formed_lem.programs.programs v field m
-          → Came (performed a kept m e.values e.echo) p r.ok r.at r.env d
-      came a z v none (no_program k) = absurd (n k)
-      came a z v (some q) (names k q₁ S w) =
+    module _ (n : field ≡ 65535 → ⊥) where
+      came : (r : Taken Ran) (d : List ℕ) → RanAs lists (record { section = section_of; tags = s; strings = strings_of }) field kept e true p r d → (a : Sheet) (z : IsSheet s a) (v : Visit) (m : Option Program)
+          → FieldIs z.well_formed_lem.programs.programs v field m → RanTo (performed a kept m e.values e.echo) p r d
+      came r d R a z v none (no_program k) = absurd (n k)
+      came r d R a z v (some q) (names k q₁ S w) =
           (R.right a (sources a z) q
           (it_lies (length a.names) strings_of section_of z.well_formed_lem.programs.programs (filled a z) field q S)
           (its_fits (length a.names) strings_of section_of z.well_formed_lem.programs.programs (filled a z) field q S)).0
 
-      pub went_on : r.ok ≡ true → PerformedAs s field kept e p (record { ok = true; at = r.at; env = r.env }) d
-      went_on y =
-          record {
-            reach = reaches;
-            dry = R.dry;
-            back = λ x. absurd (true≢false x);
-            right = λ a z v m f. subst (λ (b : Bool). Came (performed a kept m e.values e.echo) p b r.at r.env d) y (came a z v m f);
-          }
+      pub went_on : (r : Ran) (d : List ℕ) → RanAs lists (record { section = section_of; tags = s; strings = strings_of }) field kept e true p (Some r) d → PerformedAs s field kept e p (Some (record { at = r.at; env = r.env })) d
+      went_on r d R = record { reach = reaches; dry = R.dry; right = came (Some r) d R }
         where
           short : r.next ≤ 16384
           short = omega (arith, R.high, section_length, L.short_programs)
@@ -143,9 +138,5 @@ module _ (s : List ℕ) (l : Layout) (L : LaidOut s l) where
           reaches : r.at ≤ p.at + most_printed * 16384
           reaches = omega (arith, R.reach, short)
 
-      pub was_rejected : r.ok ≡ false → PerformedAs s field kept e p (record { ok = false; at = p.at; env = e }) d
-      was_rejected y = record { reach = omega arith; dry = R.dry; back = λ x. (refl, refl); right = λ a z v m f. rejected (performed a kept m e.values e.echo) (came a z v m f) }
-        where
-          rejected : (o : Option Effect) → Came o p r.ok r.at r.env d → Came o p false p.at e d
-          rejected none c = refl
-          rejected (some x) c = absurd (true≢false (sym c.0 ∙ y))
+      pub was_rejected : (d : List ℕ) → RanAs lists (record { section = section_of; tags = s; strings = strings_of }) field kept e true p None d → PerformedAs s field kept e p None d
+      was_rejected d R = record { reach = tt; dry = R.dry; right = came None d R }

@@ -1,5 +1,5 @@
 -- What running a statement or a list of statements in a program section answers and leaves. Assumes nothing.
-use Rattle.std.specs.Prelude.{◌≡◌, Bool, true, false, List, [], ℕ, ◌+◌, ◌*◌, ◌≤◌, length}
+use Rattle.std.specs.Prelude.{Option as Taken, Some, None, IfSome, ◌≡◌, Bool, true, false, List, [], ℕ, ◌+◌, ◌*◌, ◌≤◌, length}
 use Rattle.std.proofs.Math.Option.{Option, none, some}
 use Rattle.lent.specs.Put.{PutAs}
 use Rattle.programs.specs.Program.{Statement, statement_bytes, Program, program_bytes}
@@ -21,15 +21,19 @@ abbrev pub lived : Bool → Option Effect → Env → Option Effect
 lived true o e = o
 lived false o e = some (record { values = e.values; echo = e.echo; printed = [] })
 
--- whether it went on, the offset, the attributes with echo, and the memory, are what the outcome says from p on
-abbrev pub Came : Option Effect → Pen → Bool → ℕ → Env → List ℕ → Type 0
-Came none p ok at e d = ok ≡ false
-Came (some x) p ok at e d =
-    (ok ≡ true) × (e.values ≡ x.values) × (e.echo ≡ x.echo) × PutAs p.write p.lent p.at (render x.printed) d at
+-- the offset, the attributes with echo, and the memory, are what the outcome says from p on; of a rejection they say nothing, as there are none
+abbrev pub Came : Option Effect → Pen → ℕ → Env → List ℕ → Type 0
+Came none p at e d = ⊥
+Came (some x) p at e d = (e.values ≡ x.values) × (e.echo ≡ x.echo) × PutAs p.write p.lent p.at (render x.printed) d at
+
+-- what was run rejects where the outcome does; else it came to that
+abbrev pub RanTo : Option Effect → Pen → Taken Ran → List ℕ → Type 0
+RanTo o p None d = o ≡ none
+RanTo o p (Some r) d = Came o p r.at r.env d
 
 -- also what was run ended at n, where it went on
-abbrev pub WentOnTo : Option Effect → Pen → ℕ → Ran → List ℕ → Type 0
-WentOnTo o p n r d = Came o p r.ok r.at r.env d × (r.ok ≡ true → r.next ≡ n)
+abbrev pub WentOnTo : Option Effect → Pen → ℕ → Taken Ran → List ℕ → Type 0
+WentOnTo o p n r d = RanTo o p r d × IfSome r (λ x. x.next ≡ n)
 
 -- a kind of thing that lies in a program section and does something
 pub record Runnable : Type 1 where
@@ -52,10 +56,10 @@ pub record Ground : Type 0 where
   pub strings : List ℕ
 
 -- what running at i with the recalled values `kept` came to
-pub record RanAs (K : Runnable) (g : Ground) (i : ℕ) (kept : List ℕ) (e : Env) (live : Bool) (p : Pen) (r : Ran) (d : List ℕ) : Type 0 where
-  pub low : i + K.least ≤ r.next
-  pub high : r.next ≤ length g.section
-  pub reach : r.at + most_printed * i ≤ p.at + most_printed * r.next
+pub record RanAs (K : Runnable) (g : Ground) (i : ℕ) (kept : List ℕ) (e : Env) (live : Bool) (p : Pen) (r : Taken Ran) (d : List ℕ) : Type 0 where
+  pub low : IfSome r (λ x. i + K.least ≤ x.next)
+  pub high : IfSome r (λ x. x.next ≤ length g.section)
+  pub reach : IfSome r (λ x. x.at + most_printed * i ≤ p.at + most_printed * x.next)
   pub dry : p.write ≡ false → d ≡ p.lent
   pub right : (a : Sheet) → Sources g.tags g.strings a → (x : K.Thing) → LiesAt K.bytes g.section i x → K.Fits (length a.names) g.strings x
       → WentOnTo (lived live (K.does a kept x e.values e.echo) e) p (i + length (K.bytes x)) r d

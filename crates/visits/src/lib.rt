@@ -26,54 +26,33 @@ impl Env {
     pub const ATTRIBUTES: usize = programs::ATTRIBUTES;
 }
 
-// What a condition came to, and the byte after it.
+// What a condition came to, and the byte after it: no Option, as what follows is read whatever the answer.
 #[derive(Clone, Copy)]
 pub struct Judged {
     pub yes: bool,
     pub next: usize,
 }
 
-// What running came to: whether it goes on, the byte after what was run, where the next byte of output goes, the attributes and echo.
+// What running came to, where nothing rejects: the byte after what was run, where the next byte of output goes, the attributes and echo.
 #[derive(Clone, Copy)]
 pub struct Ran {
-    pub ok: bool,
     pub next: usize,
     pub at: usize,
     pub env: Env,
 }
 
-// What a visit's program came to.
+// What a visit's program came to, where it does not reject.
 #[derive(Clone, Copy)]
 pub struct Performed {
-    pub ok: bool,
     pub at: usize,
     pub env: Env,
 }
 
-fn both(a: bool, b: bool) -> bool
-    ensures { result ≡ a && b }
-{
-    if a { b } else { false }
-}
-
-fn wide(x: u8) -> usize
-    ensures { (result ≡ x) × (result < 256) }
-{
-    x as usize
-}
-
 // The byte at i, 0 past the end.
-fn byte(s: &[u8], i: usize) -> u8
+pub fn byte(s: &[u8], i: usize) -> u8
     ensures { result ≡ get_or s.now i 0 }
 {
     if i < s.len() { s[i] } else { 0 }
-}
-
-// The value of attribute a.
-fn value_of(values: [u8; Env::ATTRIBUTES], a: usize) -> u8
-    ensures { result ≡ get_or values a 0 }
-{
-    if a < Env::ATTRIBUTES { values[a] } else { 0 }
 }
 
 fn operand(s: &[u8], i: usize, kept: [u8; Env::ATTRIBUTES], values: [u8; Env::ATTRIBUTES]) -> u8
@@ -83,10 +62,10 @@ fn operand(s: &[u8], i: usize, kept: [u8; Env::ATTRIBUTES], values: [u8; Env::AT
     let k = s[i];
     let v = s[i + 1];
     if k == 1 {
-        return value_of(values, wide(v));
+        return byte(&values, usize::from(v));
     }
     if k == 2 {
-        return value_of(kept, wide(v));
+        return byte(&kept, usize::from(v));
     }
     v
 }
@@ -145,12 +124,12 @@ pub fn condition(
     let d = condition(s, c.next, kept, values);
     if k == 2 {
         return Judged {
-            yes: both(c.yes, d.yes),
+            yes: c.yes & d.yes,
             next: d.next,
         };
     }
     Judged {
-        yes: !both(!c.yes, !d.yes),
+        yes: c.yes | d.yes,
         next: d.next,
     }
 }
@@ -182,7 +161,7 @@ fn settled(s: &[u8], i: usize, kept: [u8; Env::ATTRIBUTES], env: Env) -> Env
         return off;
     }
     let values = env.values;
-    let a = wide(byte(s, i + 1));
+    let a = usize::from(byte(s, i + 1));
     let b = byte(s, i + 2);
     if Env::ATTRIBUTES <= a {
         return env;
@@ -191,10 +170,10 @@ fn settled(s: &[u8], i: usize, kept: [u8; Env::ATTRIBUTES], env: Env) -> Env
         return with_value(env, a, b);
     }
     if k == 2 {
-        return with_value(env, a, value_of(values, wide(b)));
+        return with_value(env, a, byte(&values, usize::from(b)));
     }
     if k == 3 {
-        return with_value(env, a, value_of(kept, wide(b)));
+        return with_value(env, a, byte(&kept, usize::from(b)));
     }
     env
 }
@@ -241,7 +220,7 @@ pub fn put_tag(tags: &[u8], t: usize, ending: bool, out: &mut [u8], at: usize, w
     if tags.len() < from {
         return at;
     }
-    let n = wide(tags[16 * t]);
+    let n = usize::from(tags[16 * t]);
     if tags.len() - from < n {
         return at;
     }
@@ -266,7 +245,7 @@ fn print(
     ensures { Written most_printed (PrintOf s.now tags.now strings.now i) (record { write = write; lent = out.old; at = at }) result out.new }
 {
     let k = s[i];
-    let t = wide(byte(s, i + 1));
+    let t = usize::from(byte(s, i + 1));
     if k == 5 {
         return put_tag(tags, t, false, out, at, write);
     }
@@ -274,8 +253,8 @@ fn print(
         return put_tag(tags, t, true, out, at, write);
     }
     if k == 7 {
-        let o = t + 256 * wide(byte(s, i + 2));
-        let n = wide(byte(s, i + 3));
+        let o = t + 256 * usize::from(byte(s, i + 2));
+        let n = usize::from(byte(s, i + 3));
         return put_range(strings, o, n, out, at, write);
     }
     at
@@ -286,10 +265,7 @@ fn end_of(s: &[u8], i: usize, w: usize) -> usize
     requires { (i < length s.now) × (1 ≤ w) }
     ensures { SectionEndIs s.now i w result }
 {
-    if s.len() - i < w {
-        return s.len();
-    }
-    i + w
+    i + w.min(s.len() - i)
 }
 
 // The byte after the statement at i, one other than a branch.
@@ -325,33 +301,26 @@ fn plain(
     out: &mut [u8],
     at: usize,
     write: bool,
-) -> Ran
+) -> Option<Ran>
     requires { (i < length s.now) × (length s.now ≤ 65536) × (get_or s.now i 0 ≡ 10 → ⊥) × (at + most_printed ≤ farthest) }
     ensures { RanAs statements (record { section = s.now; tags = tags.now; strings = strings.now }) i kept env live (record { write = write; lent = out.old; at = at }) result out.new }
 {
     let next = past(s, i);
     if !live {
-        return Ran {
-            ok: true,
+        return Some(Ran {
             next: next,
             at: at,
             env: env,
-        };
+        });
     }
     if s[i] == 4 {
-        return Ran {
-            ok: false,
-            next: next,
-            at: at,
-            env: env,
-        };
+        return None;
     }
-    Ran {
-        ok: true,
+    Some(Ran {
         next: next,
         at: print(s, i, tags, strings, out, at, write),
         env: settled(s, i, kept, env),
-    }
+    })
 }
 
 // The statement at i. Both lists of a branch are run in turn, one of them passed over.
@@ -367,7 +336,7 @@ fn statement(
     out: &mut [u8],
     at: usize,
     write: bool,
-) -> Ran
+) -> Option<Ran>
     requires { (i < length s.now) × (length s.now ≤ 65536) × (at + most_printed * length s.now ≤ farthest + most_printed * i) }
     ensures { RanAs statements (record { section = s.now; tags = tags.now; strings = strings.now }) i kept env live (record { write = write; lent = out.old; at = at }) result out.new }
 {
@@ -376,16 +345,13 @@ fn statement(
     }
     let values = env.values;
     let c = condition(s, i + 1, kept, values);
-    let first = both(live, c.yes);
-    let l = list(s, tags, strings, c.next, kept, env, first, out, at, write);
-    let next = l.next;
+    let first = live & c.yes;
+    let l = list(s, tags, strings, c.next, kept, env, first, out, at, write)?;
     let after = l.env;
-    let to = l.at;
-    if l.ok {
-        let second = both(live, !c.yes);
-        return list(s, tags, strings, next, kept, after, second, out, to, write);
-    }
-    l
+    let second = live & !c.yes;
+    list(
+        s, tags, strings, l.next, kept, after, second, out, l.at, write,
+    )
 }
 
 // The statements from i on, to the 0 that ends them.
@@ -401,33 +367,25 @@ fn list(
     out: &mut [u8],
     at: usize,
     write: bool,
-) -> Ran
+) -> Option<Ran>
     requires { (i ≤ length s.now) × (length s.now ≤ 65536) × (at + most_printed * length s.now ≤ farthest + most_printed * i) }
     ensures { RanAs lists (record { section = s.now; tags = tags.now; strings = strings.now }) i kept env live (record { write = write; lent = out.old; at = at }) result out.new }
 {
     if s.len() <= i {
-        return Ran {
-            ok: false,
-            next: i,
-            at: at,
-            env: env,
-        };
+        return None;
     }
     if s[i] == 0 {
-        return Ran {
-            ok: true,
+        return Some(Ran {
             next: i + 1,
             at: at,
             env: env,
-        };
+        });
     }
-    let l = statement(s, tags, strings, i, kept, env, live, out, at, write);
-    let next = l.next;
+    let l = statement(s, tags, strings, i, kept, env, live, out, at, write)?;
     let after = l.env;
-    if l.ok {
-        return list(s, tags, strings, next, kept, after, live, out, l.at, write);
-    }
-    l
+    list(
+        s, tags, strings, l.next, kept, after, live, out, l.at, write,
+    )
 }
 
 // Runs the program that starts at an offset of the section.
@@ -440,7 +398,7 @@ fn perform_at(
     out: &mut [u8],
     at: usize,
     write: bool,
-) -> Performed
+) -> Option<Performed>
     requires laid_out { LaidOut s.now l }
     requires at_bound { (at ≤ 2 ^ 60) × (field ≤ l.programs) × (field ≡ 65535 → ⊥) }
     ensures { PerformedAs s.now field kept env (record { write = write; lent = out.old; at = at }) result out.new }
@@ -451,21 +409,12 @@ fn perform_at(
     let d = c + l.strings;
     let section = &s[a..b];
     let strings = &s[c..d];
-    let r = list(section, s, strings, field, kept, env, true, out, at, write);
-    let to = r.at;
+    let r = list(section, s, strings, field, kept, env, true, out, at, write)?;
     let after = r.env;
-    if r.ok {
-        return Performed {
-            ok: true,
-            at: to,
-            env: after,
-        };
-    }
-    Performed {
-        ok: false,
-        at: at,
-        env: env,
-    }
+    Some(Performed {
+        at: r.at,
+        env: after,
+    })
 }
 
 // Runs the program that a field of the sheet s names, or none.
@@ -478,24 +427,16 @@ pub fn perform(
     out: &mut [u8],
     at: usize,
     write: bool,
-) -> Performed
+) -> Option<Performed>
     requires laid_out { LaidOut s.now l }
     requires at_bound { at ≤ 2 ^ 60 }
     ensures { PerformedAs s.now field kept env (record { write = write; lent = out.old; at = at }) result out.new }
 {
     if field == NONE {
-        return Performed {
-            ok: true,
-            at: at,
-            env: env,
-        };
+        return Some(Performed { at: at, env: env });
     }
     if l.programs < field {
-        return Performed {
-            ok: false,
-            at: at,
-            env: env,
-        };
+        return None;
     }
     perform_at(s, l, field, kept, env, out, at, write)
 }

@@ -1,18 +1,17 @@
 -- What is held in full tells the string and the way: two that are held alike are equal, as no two brackets have one byte.
 -- Assumes nothing.
 use mathlib.Core.Path.{◌≡◌, refl, sym, ◌∙◌, ap}
-use mathlib.Core.Bool.{Bool, true, false, true≢false}
-use mathlib.Core.List.{List, [], ◌∷◌, ◌++◌}
+use Rattle.std.specs.Prelude.{Option as Past, Some, None, IfSome}
+use mathlib.Core.List.{List, [], ◌∷◌}
 use mathlib.Core.Option.{Option, none, some}
-use Prim.Native.Nat.{ℕ, suc, ◌≤◌}
+use Prim.Native.Nat.{ℕ, ◌≤◌}
 use native.Mathlib.Omega.{arith}
 use lib.ListN.{length}
 use Rattle.expressions.specs.Expr.{Atom, nonterminal, anychar}
 use Rattle.expressions.specs.Words.{Bracket, opening, closing}
 use Rattle.runs.specs.Way.{Way as Found}
-use Rattle.ways.specs.Held.{LineIn as Line}
-use Rattle.ways.specs.Held.{WayIn as Way}
-use Rattle.ways.specs.Held.{code_of, codes, there, string_in, LineIs, kind_number, argument_number, WayIs}
+use Rattle.ways.specs.declared.Way.{Way}
+use Rattle.ways.specs.Held.{code_of, codes, HoldsString, LineIs, no_line, a_line, kind_number, argument_number, WayIs, no_way, a_way}
 
 one_bracket : (c d : Bracket) → code_of c ≡ code_of d → c ≡ d
 one_bracket (opening i) (opening k) e = ap opening (omega arith)
@@ -31,11 +30,18 @@ one_string (c ∷ α) (d ∷ β) e =
     let y = one_string α β tail in
     cc
 
-pub same_string : (o p : Option (List Bracket)) (r : Line) → r.length ≤ length r.bytes → LineIs o r → LineIs p r → o ≡ p
-same_string none none r room h k = refl
-same_string none (some β) r room h k = absurd (true≢false (sym k.found_is ∙ h.found_is))
-same_string (some α) none r room h k = absurd (true≢false (sym h.found_is ∙ k.found_is))
-same_string (some α) (some β) r room h k = ap some (one_string α β (sym (h.string_is.1 room) ∙ k.string_is.1 room))
+one_held : (α β : List Bracket) (n : ℕ) (b : List ℕ) → n ≤ length b → HoldsString α n b → HoldsString β n b → α ≡ β
+one_held α β n b room h k = one_string α β (sym (h.bytes_are room) ∙ k.bytes_are room)
+
+pub same_string : (o p : Option (List Bracket)) (r : Past ℕ) (b : List ℕ) → IfSome r (λ n. n ≤ length b) → LineIs o r b → LineIs p r b → o ≡ p
+same_string none none None b room no_line no_line = refl
+same_string none none (Some n) b room h k = elim h [ ]
+same_string none (some β) None b room h k = elim k [ ]
+same_string none (some β) (Some n) b room h k = elim h [ ]
+same_string (some α) none None b room h k = elim h [ ]
+same_string (some α) none (Some n) b room h k = elim k [ ]
+same_string (some α) (some β) None b room h k = elim h [ ]
+same_string (some α) (some β) (Some n) b room (a_line h) (a_line k) = ap some (one_held α β n b room h k)
 
 one_atom : (a b : Atom) → kind_number a ≡ kind_number b → argument_number a ≡ argument_number b → a ≡ b
 one_atom (nonterminal m) (nonterminal n) e f = ap nonterminal f
@@ -48,11 +54,13 @@ found_by {v} {w} x y z =
     let u : record { string = v.string; place = v.place; kind = v.kind } ≡ w = rw (x, y, z) refl in
     u
 
-pub same_way : (v w : Option Found) (r : Way) → r.line.length ≤ length r.line.bytes → WayIs v r → WayIs w r → v ≡ w
-same_way none none r room h k = refl
-same_way none (some w) r room h k = absurd (true≢false (sym k.line_is.found_is ∙ h.line_is.found_is))
-same_way (some v) none r room h k = absurd (true≢false (sym h.line_is.found_is ∙ k.line_is.found_is))
-same_way (some v) (some w) r room h k =
-    let lines = same_string (some v.string) (some w.string) r.line room h.line_is k.line_is in
-    let strings : v.string ≡ w.string = cc in
-    ap some (found_by strings (sym h.place_is ∙ k.place_is) (one_atom v.kind w.kind (sym h.kind_is ∙ k.kind_is) (sym h.argument_is ∙ k.argument_is)))
+pub same_way : (v w : Option Found) (r : Past Way) (b : List ℕ) → IfSome r (λ u. u.length ≤ length b) → WayIs v r b → WayIs w r b → v ≡ w
+same_way none none None b room no_way no_way = refl
+same_way none none (Some r) b room h k = elim h [ ]
+same_way none (some w) None b room h k = elim k [ ]
+same_way none (some w) (Some r) b room h k = elim h [ ]
+same_way (some v) none None b room h k = elim h [ ]
+same_way (some v) none (Some r) b room h k = elim k [ ]
+same_way (some v) (some w) None b room h k = elim h [ ]
+same_way (some v) (some w) (Some r) b room (a_way h) (a_way k) =
+    ap some (found_by (one_held v.string w.string r.length b room h.string_is k.string_is) (sym h.place_is ∙ k.place_is) (one_atom v.kind w.kind (sym h.kind_is ∙ k.kind_is) (sym h.argument_is ∙ k.argument_is)))

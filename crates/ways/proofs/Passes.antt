@@ -1,8 +1,8 @@
 -- On the way past a tree what is left to pass is a list of trees, one after another from the next node on.
 -- Assumes nothing.
-use mathlib.Core.Path.{◌≡◌, refl, sym, ◌∙◌, ap, subst}
+use mathlib.Core.Path.{◌≡◌, sym, ap, subst}
 use mathlib.Core.List.{List, [], ◌∷◌}
-use Prim.Native.Nat.{ℕ, zero, suc, ◌+◌, ◌-◌, ◌≤◌, ◌<◌}
+use Prim.Native.Nat.{ℕ, ◌+◌, ◌≤◌, ◌<◌}
 use native.Mathlib.Omega.{arith}
 use lib.ListN.{length}
 use Rattle.expressions.specs.Expr.{Exp, atom, cat, alt, star, empty, nonterminal, anychar, nodes, atoms}
@@ -10,7 +10,6 @@ use Rattle.layout.specs.Layout.{node_count}
 use Rattle.layout.specs.Records.{kind_of}
 use Rattle.trees.specs.Trees.{TreeAt}
 use Rattle.trees.specs.Tally.{TreeIn, PastOf}
-use Rattle.trees.proofs.Tallies.{few_atoms}
 use Rattle.trees.proofs.Unique.{nodes_pos, one_tree}
 use Rattle.ways.specs.declared.Passing.{Passing}
 use Rattle.ways.specs.Past.{OneOn, PassedBy}

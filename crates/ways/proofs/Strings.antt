@@ -1,13 +1,13 @@
 -- Strings one after another, and the first of two that is there: by cases on which are there.
 -- Assumes nothing.
-use mathlib.Core.Path.{◌≡◌, refl, sym, ◌∙◌, ap, subst}
-use mathlib.Core.Bool.{Bool, true, false, true≢false}
-use mathlib.Core.List.{List, [], ◌∷◌, ◌++◌, append_assoc}
+use mathlib.Core.Path.{◌≡◌, refl, sym, ap}
+use mathlib.Core.Bool.{true, false, true≢false}
+use mathlib.Core.List.{List, [], ◌∷◌, append_assoc}
 use mathlib.Core.Option.{Option, none, some}
 use Prim.Native.Nat.{ℕ}
 use Rattle.expressions.specs.Words.{Bracket, opening, closing}
 use Rattle.runs.specs.Options.{or_else}
-use Rattle.runs.specs.Way.{Way as Found, joined, led, opened, closed, enclosed}
+use Rattle.runs.specs.Way.{Way as Found, joined, led, enclosed}
 use Rattle.ways.specs.Held.{there, string_of}
 
 pub joined_assoc : (o p q : Option (List Bracket)) → joined (joined o p) q ≡ joined o (joined p q)

@@ -1,99 +1,82 @@
 -- What is told of a way: by the symbol that it is asked to; and of the lent bytes, into which what was tried is put.
 -- Assumes nothing.
 use mathlib.Core.Path.{◌≡◌, refl, sym, ◌∙◌, ap, subst}
-use mathlib.Core.Bool.{Bool, true, false, true≢false}
-use mathlib.Core.List.{List, [], ◌++◌}
-use mathlib.Core.Option.{Option, none, some}
+use mathlib.Core.Bool.{true}
+use mathlib.Core.List.{List, ◌++◌}
+use mathlib.Core.Option.{Option}
+use Rattle.std.specs.Prelude.{Option as Past, Some, None, IfSome}
 use Prim.Native.Nat.{ℕ, ◌+◌, ◌≤◌}
 use native.Mathlib.Omega.{arith}
 use lib.ListN.{length, take, drop}
 use lib.Seq.{length-take-le, take_at, drop_at}
-use Rattle.lent.specs.Put.{put, PutAs}
+use Rattle.lent.specs.Put.{PutAs}
 use Rattle.lent.proofs.Laws.{put_all, put_length}
 use Rattle.expressions.specs.Words.{Bracket}
 use Rattle.runs.specs.Way.{Way as Found}
 use Rattle.trees.specs.declared.Symbol.{Symbol}
 use Rattle.trees.specs.declared.Symbol.TheVariants.{Tag, Character, End}
-use Rattle.ways.specs.declared.Way.{Way as Answer}
-use Rattle.ways.specs.Held.{LineIn as Line, WayIn as Way, way_in, with_bytes, LineIs, Missing, WayIs, MissingWay}
+use Rattle.ways.specs.declared.Way.{Way}
+use Rattle.ways.specs.Held.{length_of, LineIs, no_line, a_line, WayIs, no_way, a_way}
 use Rattle.few.specs.Strings.{most_brackets}
 use Rattle.ways.specs.Answers.{EndWayIs, AtomWayIs, WayTold, WayAs}
-use Rattle.ways.proofs.Holds.{line_with, missing_line, missing_way}
+use Rattle.ways.proofs.Holds.{string_with}
 
 -- a way that was not found, and one in other bytes
-none_line : (o : Option (List Bracket)) (r u : Line) → LineIs o r → r.found ≡ false → LineIs none u → LineIs o u
-none_line none r u l f n = n
-none_line (some α) r u l f n = absurd (true≢false (sym l.found_is ∙ f))
+none_line : {o : Option (List Bracket)} {b d : List ℕ} → LineIs o None b → LineIs o None d
+none_line no_line = no_line
 
-none_way : (o : Option Found) (r u : Way) → WayIs o r → r.line.found ≡ false → WayIs none u → WayIs o u
-none_way none r u w f n = n
-none_way (some v) r u w f n = absurd (true≢false (sym w.line_is.found_is ∙ f))
-
-abbrev in_bytes : Way → List ℕ → Way
-in_bytes r b = record { line = with_bytes r.line b; place = r.place; kind = r.kind; argument = r.argument }
+none_way : {o : Option Found} {b d : List ℕ} → WayIs o None b → WayIs o None d
+none_way no_way = no_way
 
 module _ (s : List ℕ) (q p : ℕ) where
-  module _ (x : Symbol) (r : Way) where
-    pub told_tag : (t : ℕ) → x ≡ Tag t → AtomWayIs s q p x r → WayTold x s q p r
-    told_tag t e h = subst (λ (y : Symbol). WayTold y s q p r) (sym e) (subst (λ (y : Symbol). AtomWayIs s q p y r) e h)
+  module _ (x : Symbol) (r : Past Way) (b : List ℕ) where
+    pub told_tag : (t : ℕ) → x ≡ Tag t → AtomWayIs s q p x r b → WayTold x s q p r b
+    told_tag t e h = subst (λ (y : Symbol). WayTold y s q p r b) (sym e) (subst (λ (y : Symbol). AtomWayIs s q p y r b) e h)
 
-    pub told_character : x ≡ Character → AtomWayIs s q p x r → WayTold x s q p r
-    told_character e h = subst (λ (y : Symbol). WayTold y s q p r) (sym e) (subst (λ (y : Symbol). AtomWayIs s q p y r) e h)
+    pub told_character : x ≡ Character → AtomWayIs s q p x r b → WayTold x s q p r b
+    told_character e h = subst (λ (y : Symbol). WayTold y s q p r b) (sym e) (subst (λ (y : Symbol). AtomWayIs s q p y r b) e h)
 
-    pub told_end : x ≡ End → EndWayIs s q p r.line → r.place ≡ 0 → r.kind ≡ 0 → r.argument ≡ 0 → WayTold x s q p r
-    told_end e h i j k = subst (λ (y : Symbol). WayTold y s q p r) (sym e) (h, i, j, k)
+    pub told_end : x ≡ End → EndWayIs s q p (length_of r) b → IfSome r (λ w. (w.place ≡ 0) × (w.kind ≡ 0) × (w.argument ≡ 0)) → WayTold x s q p r b
+    told_end e h z = subst (λ (y : Symbol). WayTold y s q p r b) (sym e) (h, z)
 
-  pub told_few : (x : Symbol) (r : Way) → WayTold x s q p r → r.line.found ≡ true → r.line.length ≤ most_brackets
-  told_few (Tag t) r h f = h.few f
-  told_few Character r h f = h.few f
-  told_few End r h f = h.0.few f
+  pub told_few : (x : Symbol) (r : Way) (b : List ℕ) → WayTold x s q p (Some r) b → r.length ≤ most_brackets
+  told_few (Tag t) r b h = h.few
+  told_few Character r b h = h.few
+  told_few End r b h = h.0.few
 
   -- what was found, in other bytes that have room for it
-  module _ (r : Way) (found : r.line.found ≡ true) (b : List ℕ) (room : most_brackets ≤ length b) (e : take r.line.length b ≡ take r.line.length r.line.bytes) where
-    way_with : (o : Option Found) → r.line.length ≤ length r.line.bytes → WayIs o r → WayIs o (in_bytes r b)
-    way_with o full w = record { line_is = line_with b (λ _. full) e _ w.line_is; place_is = w.place_is; kind_is = w.kind_is; argument_is = w.argument_is }
+  module _ (r : Way) (b d : List ℕ) (room : most_brackets ≤ length d) (e : take r.length d ≡ take r.length b) where
+    line_with : (o : Option (List Bracket)) → r.length ≤ length b → LineIs o (Some r.length) b → LineIs o (Some r.length) d
+    line_with o full (a_line h) = a_line (string_with d (λ _. full) e h)
 
-    told_with : (x : Symbol) → WayTold x s q p r → WayTold x s q p (in_bytes r b)
-    told_with (Tag t) h = record { few = h.few; room = room; is = λ g γ d m. way_with _ (omega (arith, h.few found, h.room)) (h.is g γ d m) }
-    told_with Character h = record { few = h.few; room = room; is = λ g γ d m. way_with _ (omega (arith, h.few found, h.room)) (h.is g γ d m) }
-    told_with End h =
-        (record { few = h.0.few; room = room; is = λ g γ d m. line_with b (λ _. omega (arith, h.0.few found, h.0.room)) e _ (h.0.is g γ d m) }, h.1, h.2, h.3)
+    way_with : (o : Option Found) → r.length ≤ length b → WayIs o (Some r) b → WayIs o (Some r) d
+    way_with o full (a_way h) =
+        a_way (record { string_is = string_with d (λ _. full) e h.string_is; place_is = h.place_is; kind_is = h.kind_is; argument_is = h.argument_is })
 
-  told_none : (x : Symbol) (r : Way) → WayTold x s q p r → r.line.found ≡ false → (w : Line) → w.length ≡ 0 → (u : Way) → most_brackets ≤ length u.line.bytes → MissingWay w u →
-      WayTold x s q p u
-  told_none (Tag t) r h f w e u room z =
-      record { few = λ _. omega (arith, e, z.line_is.length_is); room = room; is = λ g γ d m. none_way _ r u (h.is g γ d m) f (missing_way z) }
-  told_none Character r h f w e u room z =
-      record { few = λ _. omega (arith, e, z.line_is.length_is); room = room; is = λ g γ d m. none_way _ r u (h.is g γ d m) f (missing_way z) }
-  told_none End r h f w e u room z = (
-    record { few = λ _. omega (arith, e, z.line_is.length_is); room = room; is = λ g γ d m. none_line _ r.line u.line (h.0.is g γ d m) f (missing_line z.line_is) },
-    z.place_is,
-    z.kind_is,
-    z.argument_is,
-  )
+    told_with : (x : Symbol) → WayTold x s q p (Some r) b → WayTold x s q p (Some r) d
+    told_with (Tag t) h = record { few = h.few; room = room; is = λ g γ c m. way_with _ (omega (arith, h.few, h.room)) (h.is g γ c m) }
+    told_with Character h = record { few = h.few; room = room; is = λ g γ c m. way_with _ (omega (arith, h.few, h.room)) (h.is g γ c m) }
+    told_with End h = (record { few = h.0.few; room = room; is = λ g γ c m. line_with _ (omega (arith, h.0.few, h.0.room)) (h.0.is g γ c m) }, h.1)
 
-  module _ (x : Symbol) (lent : List ℕ) where
-    pub way_none : (r : Way) → WayTold x s q p r → r.line.found ≡ false → (w : Line) → w.length ≡ 0 → (u : Answer) → most_brackets ≤ length lent → MissingWay w (way_in u lent) →
-        WayAs s q p x lent u lent
-    way_none r h f w e u room z =
-        record {
-          few = omega (arith, e, z.line_is.length_is);
-          long = refl;
-          told = told_none x r h f w e (way_in u lent) room z;
-          behind = refl;
-          nothing = λ _. omega (arith, e, z.line_is.length_is);
-        }
+  told_none : (x : Symbol) (b d : List ℕ) → WayTold x s q p None b → most_brackets ≤ length d → WayTold x s q p None d
+  told_none (Tag t) b d h room = record { few = tt; room = room; is = λ g γ c m. none_way (h.is g γ c m) }
+  told_none Character b d h room = record { few = tt; room = room; is = λ g γ c m. none_way (h.is g γ c m) }
+  told_none End b d h room = (record { few = tt; room = room; is = λ g γ c m. none_line (h.0.is g γ c m) }, tt)
 
-    module _ (r : Answer) (b : List ℕ) (told : WayTold x s q p (way_in r b)) (room : most_brackets ≤ length lent) (full : most_brackets ≤ length b) (f : r.line.found ≡ true) where
-      fits : r.line.length ≤ most_brackets
-      fits = told_few x (way_in r b) told f
+  module _ (x : Symbol) (lent b : List ℕ) (room : most_brackets ≤ length lent) where
+    pub way_none : WayTold x s q p None b → WayAs s q p x lent None lent
+    way_none h = record { few = tt; long = refl; told = told_none x b lent h room; behind = refl }
 
-      as_long : length (take r.line.length b) ≡ r.line.length
-      as_long = length-take-le r.line.length b (omega (arith, fits, full))
+    module _ (r : Way) (told : WayTold x s q p (Some r) b) (full : most_brackets ≤ length b) where
+      fits : r.length ≤ most_brackets
+      fits = told_few x r b told
 
-      pub way_found : (d : List ℕ) (to : ℕ) → PutAs true lent 0 (take r.line.length b) d to → WayAs s q p x lent r d
+      as_long : length (take r.length b) ≡ r.length
+      as_long = length-take-le r.length b (omega (arith, fits, full))
+
+      pub way_found : (d : List ℕ) (to : ℕ) → PutAs true lent 0 (take r.length b) d to → WayAs s q p x lent (Some r) d
       way_found d to P =
-          let n : ℕ = r.line.length in
+          let n : ℕ = r.length in
           let v : List ℕ = take n b in
           let l : length v ≡ n = as_long in
           let k : 0 + length v ≡ n = omega (arith, l) in
@@ -102,7 +85,6 @@ module _ (s : List ℕ) (q p : ℕ) where
           record {
             few = fits;
             long = long;
-            told = told_with (way_in r b) f d (omega (arith, long, room)) (ap (take n) is ∙ take_at v (drop n lent) n l) x told;
+            told = told_with r b d (omega (arith, long, room)) (ap (take n) is ∙ take_at v (drop n lent) n l) x told;
             behind = ap (drop n) is ∙ drop_at v (drop n lent) n l;
-            nothing = λ e. absurd (true≢false (sym f ∙ e));
           }

@@ -8,7 +8,7 @@ ghost use Rattle.layout.specs.LaidOut.{LaidOut};
 ghost use Rattle.layout.specs.Records.{kind_of, node_count_of};
 ghost use Rattle.trees.specs.Trees.{Trees};
 ghost use Rattle.trees.specs.Parsed.{RunsInside};
-ghost use Rattle.ways.specs.Held.{line_in, way_in, Missing, MissingWay, PushedBracket, Bracketed};
+ghost use Rattle.ways.specs.Held.{PushedBracket, Bracketed};
 ghost use Rattle.trees.specs.Tally.{TreeIn};
 ghost use Rattle.ways.specs.Spot.{SpotIn, PartOf, PartsOf};
 ghost use Rattle.ways.specs.Past.{OneOn, PassedBy};
@@ -22,18 +22,12 @@ use trees::{Symbol, can_be, is_character};
 // The most brackets of a way in a sheet that passes: two for each of a production's nodes.
 pub const MOST: usize = 64;
 
-// Whether there is a bracket string, and how long it is; it stands in the lent bytes, where they have room for it: opening i is the
-// byte 2 * i, closing i is 2 * i + 1.
-#[derive(Clone, Copy)]
-pub struct Line {
-    pub found: bool,
-    pub length: usize,
-}
-
-// A bracket string and the atom that it leads to, with the kind and the argument of the atom's node; zeros where there is none.
+// How many brackets a string has, and the atom that it leads to, with the kind and the argument of the atom's node; zeros where it
+// leads to the end. The brackets stand in the lent bytes, where they have room for them: opening i is the byte 2 * i, closing i is
+// 2 * i + 1.
 #[derive(Clone, Copy)]
 pub struct Way {
-    pub line: Line,
+    pub length: usize,
     pub place: usize,
     pub kind: usize,
     pub argument: usize,
@@ -63,63 +57,33 @@ pub struct Passing {
     pub left: usize,
 }
 
-// No string: what stands in the lent bytes stays.
-fn no_line(w: Line) -> Line
-    ensures { (b : List ℕ) → Missing (line_in w b) (line_in result b) }
-{
-    Line {
-        found: false,
-        length: w.length,
-    }
-}
-
-fn no_way(w: Line) -> Way
-    ensures { (b : List ℕ) → MissingWay (line_in w b) (way_in result b) }
-{
-    let line = no_line(w);
-    Way {
-        line: line,
-        place: 0,
-        kind: 0,
-        argument: 0,
-    }
-}
-
-// One more bracket after a string, where there is one. Past the lent bytes it is counted only: an attempt may be longer than any way.
-fn push(w: Line, b: usize, line: &mut [u8]) -> Line
+// One more bracket after a string of n. Past the lent bytes it is counted only: an attempt may be longer than any way.
+fn push(n: usize, b: usize, line: &mut [u8]) -> usize
     requires b_bound { b < 256 }
-    requires length_lt_most_tried { w.length < most_tried }
-    ensures { PushedBracket b (line_in w line.old) (line_in result line.new) }
+    requires n_lt_most_tried { n < most_tried }
+    ensures { PushedBracket b n line.old result line.new }
 {
-    if !w.found {
-        return w;
-    }
-    let n = w.length;
-    let longer = Line {
-        found: true,
-        length: n + 1,
-    };
     if n < line.len() {
         line[n] = b as u8;
-        return longer;
+        return n + 1;
     }
-    longer
+    n + 1
 }
 
-fn opened(w: Line, i: usize, line: &mut [u8]) -> Line
+fn opened(n: usize, i: usize, line: &mut [u8]) -> usize
     requires i_bound { i < 128 }
-    requires length_lt_most_tried { w.length < most_tried }
-    ensures { Bracketed opening i (line_in w line.old) (line_in result line.new) }
+    requires n_lt_most_tried { n < most_tried }
+    ensures { Bracketed opening i n line.old result line.new }
 {
-    push(w, 2 * i, line)
+    push(n, 2 * i, line)
 }
 
-fn closed(w: Line, i: usize, line: &mut [u8]) -> Line
+fn closed(n: usize, i: usize, line: &mut [u8]) -> usize
     requires i_bound { i < 127 }
-    requires length_lt_most_tried { w.length < most_tried }
-    ensures { Bracketed closing i (line_in w line.old) (line_in result line.new) }
+    requires n_lt_most_tried { n < most_tried }
+    ensures { Bracketed closing i n line.old result line.new }
 {
-    push(w, 2 * i + 1, line)
+    push(n, 2 * i + 1, line)
 }
 
 // The tree behind a star.
@@ -233,76 +197,67 @@ pub fn atom_can(s: &[u8], l: Layout, kind: usize, n: usize, x: Symbol) -> bool
     is_character(x)
 }
 
-// To the atom at t by the string w, where it can be x.
-fn atom_way(s: &[u8], l: Layout, t: Spot, x: Symbol, w: Line) -> Way
+// To the atom at t by a string of n brackets, where it can be x.
+fn atom_way(s: &[u8], l: Layout, t: Spot, x: Symbol, n: usize) -> Option<Way>
     requires laid_out { LaidOut s.now l }
     requires spot_in { SpotIn s.now t }
-    ensures { (b : List ℕ) → AtomWay s.now t x (line_in w b) (way_in result b) }
+    ensures { (b : List ℕ) → AtomWay s.now t x n b result }
 {
     let kind = kind_of(s, l, t.node);
-    let n = argument_of(s, l, t.node);
-    if !w.found {
-        return no_way(w);
+    let argument = argument_of(s, l, t.node);
+    if !atom_can(s, l, kind, argument, x) {
+        return None;
     }
-    if !atom_can(s, l, kind, n, x) {
-        return no_way(w);
-    }
-    Way {
-        line: w,
+    Some(Way {
+        length: n,
         place: t.atom,
         kind: kind,
-        argument: n,
-    }
+        argument: argument,
+    })
 }
 
-// The string w, and then from the start of the tree at t to its end.
-fn through(s: &[u8], l: Layout, t: Spot, w: Line, line: &mut [u8]) -> Line
+// The string of n brackets, and then from the start of the tree at t to its end.
+fn through(s: &[u8], l: Layout, t: Spot, n: usize, line: &mut [u8]) -> Option<usize>
     requires laid_out { LaidOut s.now l }
     requires spot_in { SpotIn s.now t }
-    requires nodes_bound { w.length + 2 * t.nodes ≤ most_tried }
-    ensures { Through s.now t (line_in w line.old) (line_in result line.new) }
+    requires nodes_bound { n + 2 * t.nodes ≤ most_tried }
+    ensures { Through s.now t n line.old result line.new }
 {
-    if !w.found {
-        return w;
-    }
     let kind = kind_of(s, l, t.node);
     if kind < 3 {
-        return no_line(w);
+        return None;
     }
-    let inside = opened(w, t.bracket, line);
+    let inside = opened(n, t.bracket, line);
     if kind > 4 {
-        return closed(inside, t.bracket, line);
+        return Some(closed(inside, t.bracket, line));
     }
     let two = parts_of(s, l, t);
     let first = two.first;
     let second = two.second;
-    let a = through(s, l, first, inside, line);
     if kind == 3 {
-        let b = through(s, l, second, a, line);
-        return closed(b, t.bracket, line);
+        let a = through(s, l, first, inside, line)?;
+        let b = through(s, l, second, a, line)?;
+        return Some(closed(b, t.bracket, line));
     }
-    if a.found {
-        return closed(a, t.bracket, line);
+    if let Some(a) = through(s, l, first, inside, line) {
+        return Some(closed(a, t.bracket, line));
     }
-    let b = through(s, l, second, inside, line);
-    closed(b, t.bracket, line)
+    let b = through(s, l, second, inside, line)?;
+    Some(closed(b, t.bracket, line))
 }
 
-// The string w, and then from the start of the tree at t to an atom that can be x.
-fn into(s: &[u8], l: Layout, t: Spot, x: Symbol, w: Line, line: &mut [u8]) -> Way
+// The string of n brackets, and then from the start of the tree at t to an atom that can be x.
+fn into(s: &[u8], l: Layout, t: Spot, x: Symbol, n: usize, line: &mut [u8]) -> Option<Way>
     requires laid_out { LaidOut s.now l }
     requires spot_in { SpotIn s.now t }
-    requires nodes_bound { w.length + 2 * t.nodes ≤ most_tried }
-    ensures { Into s.now t x (line_in w line.old) (way_in result line.new) }
+    requires nodes_bound { n + 2 * t.nodes ≤ most_tried }
+    ensures { Into s.now t x n line.old result line.new }
 {
-    if !w.found {
-        return no_way(w);
-    }
     let kind = kind_of(s, l, t.node);
     if kind > 5 {
-        return no_way(w);
+        return None;
     }
-    let inside = opened(w, t.bracket, line);
+    let inside = opened(n, t.bracket, line);
     if kind < 3 {
         return atom_way(s, l, t, x, inside);
     }
@@ -313,106 +268,118 @@ fn into(s: &[u8], l: Layout, t: Spot, x: Symbol, w: Line, line: &mut [u8]) -> Wa
     let two = parts_of(s, l, t);
     let first = two.first;
     let second = two.second;
-    let a = into(s, l, first, x, inside, line);
-    if a.line.found {
-        return a;
+    if let Some(way) = into(s, l, first, x, inside, line) {
+        return Some(way);
     }
     if kind == 3 {
-        let over = through(s, l, first, inside, line);
+        let over = through(s, l, first, inside, line)?;
         return into(s, l, second, x, over, line);
     }
     into(s, l, second, x, inside, line)
 }
 
-// What follows an end of the first part, on w: in a concatenation the way through the second, in a union nothing.
-fn if_joined(s: &[u8], l: Layout, kind: usize, second: Spot, w: Line, line: &mut [u8]) -> Line
+// What follows an end of the first part, on n brackets: in a concatenation the way through the second, in a union nothing.
+fn if_joined(
+    s: &[u8],
+    l: Layout,
+    kind: usize,
+    second: Spot,
+    n: usize,
+    line: &mut [u8],
+) -> Option<usize>
     requires laid_out { LaidOut s.now l }
     requires spot_in { SpotIn s.now second }
-    requires nodes_bound { w.length + 2 * second.nodes ≤ most_tried }
-    ensures { IfJoined s.now kind second (line_in w line.old) (line_in result line.new) }
+    requires nodes_bound { n + 2 * second.nodes ≤ most_tried }
+    ensures { IfJoined s.now kind second n line.old result line.new }
 {
     if kind == 3 {
-        return through(s, l, second, w, line);
+        return through(s, l, second, n, line);
     }
-    w
+    Some(n)
 }
 
-// The string w, and then from just after atom p of the tree at t to its end.
-fn out_of(s: &[u8], l: Layout, t: Spot, p: usize, w: Line, line: &mut [u8]) -> Line
+// The string of n brackets, and then from just after atom p of the tree at t to its end.
+fn out_of(s: &[u8], l: Layout, t: Spot, p: usize, n: usize, line: &mut [u8]) -> Option<usize>
     requires laid_out { LaidOut s.now l }
     requires spot_in { SpotIn s.now t }
-    requires nodes_bound { w.length + 2 * t.nodes ≤ most_tried }
-    ensures { OutOf s.now t p (line_in w line.old) (line_in result line.new) }
+    requires nodes_bound { n + 2 * t.nodes ≤ most_tried }
+    ensures { OutOf s.now t p n line.old result line.new }
 {
     let kind = kind_of(s, l, t.node);
     if kind > 5 {
-        return no_line(w);
+        return None;
     }
     if kind < 3 {
         if p == t.atom {
-            return closed(w, t.bracket, line);
+            return Some(closed(n, t.bracket, line));
         }
-        return no_line(w);
+        return None;
     }
     if kind > 4 {
         let only = part(t);
-        let a = out_of(s, l, only, p, w, line);
-        return closed(a, t.bracket, line);
+        let a = out_of(s, l, only, p, n, line)?;
+        return Some(closed(a, t.bracket, line));
     }
     let two = parts_of(s, l, t);
     let first = two.first;
     let second = two.second;
     if p < second.atom {
-        let a = out_of(s, l, first, p, w, line);
-        let b = if_joined(s, l, kind, second, a, line);
-        return closed(b, t.bracket, line);
+        let a = out_of(s, l, first, p, n, line)?;
+        let b = if_joined(s, l, kind, second, a, line)?;
+        return Some(closed(b, t.bracket, line));
     }
-    let c = out_of(s, l, second, p, w, line);
-    closed(c, t.bracket, line)
+    let c = out_of(s, l, second, p, n, line)?;
+    Some(closed(c, t.bracket, line))
 }
 
-// The string w, and then from just after atom p of the tree at t to an atom that can be x.
-fn across(s: &[u8], l: Layout, t: Spot, p: usize, x: Symbol, w: Line, line: &mut [u8]) -> Way
+// The string of n brackets, and then from just after atom p of the tree at t to an atom that can be x.
+fn across(
+    s: &[u8],
+    l: Layout,
+    t: Spot,
+    p: usize,
+    x: Symbol,
+    n: usize,
+    line: &mut [u8],
+) -> Option<Way>
     requires laid_out { LaidOut s.now l }
     requires spot_in { SpotIn s.now t }
-    requires nodes_bound { w.length + 4 * t.nodes ≤ most_tried }
-    ensures { Across s.now t p x (line_in w line.old) (way_in result line.new) }
+    requires nodes_bound { n + 4 * t.nodes ≤ most_tried }
+    ensures { Across s.now t p x n line.old result line.new }
 {
     let kind = kind_of(s, l, t.node);
     if kind > 5 {
-        return no_way(w);
+        return None;
     }
     if kind < 3 {
-        return no_way(w);
+        return None;
     }
     if kind > 4 {
         let only = part(t);
-        let a = across(s, l, only, p, x, w, line);
-        if a.line.found {
-            return a;
+        if let Some(way) = across(s, l, only, p, x, n, line) {
+            return Some(way);
         }
-        let out = out_of(s, l, only, p, w, line);
+        let out = out_of(s, l, only, p, n, line)?;
         return into(s, l, only, x, out, line);
     }
     let two = parts_of(s, l, t);
     let first = two.first;
     let second = two.second;
     if second.atom <= p {
-        return across(s, l, second, p, x, w, line);
+        return across(s, l, second, p, x, n, line);
     }
-    let a = across(s, l, first, p, x, w, line);
-    if a.line.found {
-        return a;
+    if let Some(way) = across(s, l, first, p, x, n, line) {
+        return Some(way);
     }
     if kind == 3 {
-        let out = out_of(s, l, first, p, w, line);
+        let out = out_of(s, l, first, p, n, line)?;
         return into(s, l, second, x, out, line);
     }
-    a
+    None
 }
 
 // The string from the place p of production q to its end.
-fn way_to_end(s: &[u8], l: Layout, q: usize, p: usize, line: &mut [u8]) -> Line
+fn way_to_end(s: &[u8], l: Layout, q: usize, p: usize, line: &mut [u8]) -> Option<usize>
     requires laid_out { LaidOut s.now l }
     requires runs_inside { RunsInside s.now }
     requires trees { Trees s.now }
@@ -420,19 +387,15 @@ fn way_to_end(s: &[u8], l: Layout, q: usize, p: usize, line: &mut [u8]) -> Line
     requires q_lt_productions { q < l.productions }
     requires q_bound { node_count_of s.now q ≤ 32 }
     requires most_brackets_in_bounds { most_brackets ≤ length line.old }
-    ensures end_way_is { EndWayIs s.now q p (line_in result line.new) }
+    ensures end_way_is { EndWayIs s.now q p result line.new }
     ensures line_len_unchanged { length line.new ≡ length line.old }
 {
-    let none = Line {
-        found: true,
-        length: 0,
-    };
     let nodes = node_count_of(s, l, q);
     if nodes == 0 {
         if p == 0 {
-            return none;
+            return Some(0);
         }
-        return no_line(none);
+        return None;
     }
     let first = first_node_of(s, l, q);
     let t = Spot {
@@ -442,13 +405,13 @@ fn way_to_end(s: &[u8], l: Layout, q: usize, p: usize, line: &mut [u8]) -> Line
         atom: 1,
     };
     if p == 0 {
-        return through(s, l, t, none, line);
+        return through(s, l, t, 0, line);
     }
-    out_of(s, l, t, p, none, line)
+    out_of(s, l, t, p, 0, line)
 }
 
 // The way from the place p of production q to its next atom that can be x.
-fn way_to_atom(s: &[u8], l: Layout, q: usize, p: usize, x: Symbol, line: &mut [u8]) -> Way
+fn way_to_atom(s: &[u8], l: Layout, q: usize, p: usize, x: Symbol, line: &mut [u8]) -> Option<Way>
     requires laid_out { LaidOut s.now l }
     requires runs_inside { RunsInside s.now }
     requires trees { Trees s.now }
@@ -456,16 +419,12 @@ fn way_to_atom(s: &[u8], l: Layout, q: usize, p: usize, x: Symbol, line: &mut [u
     requires q_lt_productions { q < l.productions }
     requires q_bound { node_count_of s.now q ≤ 32 }
     requires most_brackets_in_bounds { most_brackets ≤ length line.old }
-    ensures atom_way_is { AtomWayIs s.now q p x (way_in result line.new) }
+    ensures atom_way_is { AtomWayIs s.now q p x result line.new }
     ensures line_len_unchanged { length line.new ≡ length line.old }
 {
-    let none = Line {
-        found: true,
-        length: 0,
-    };
     let nodes = node_count_of(s, l, q);
     if nodes == 0 {
-        return no_way(none);
+        return None;
     }
     let first = first_node_of(s, l, q);
     let t = Spot {
@@ -475,13 +434,13 @@ fn way_to_atom(s: &[u8], l: Layout, q: usize, p: usize, x: Symbol, line: &mut [u
         atom: 1,
     };
     if p == 0 {
-        return into(s, l, t, x, none, line);
+        return into(s, l, t, x, 0, line);
     }
-    across(s, l, t, p, x, none, line)
+    across(s, l, t, p, x, 0, line)
 }
 
 // The way from the place p of production q to the symbol x.
-fn search(s: &[u8], l: Layout, q: usize, p: usize, x: Symbol, line: &mut [u8]) -> Way
+fn search(s: &[u8], l: Layout, q: usize, p: usize, x: Symbol, line: &mut [u8]) -> Option<Way>
     requires laid_out { LaidOut s.now l }
     requires runs_inside { RunsInside s.now }
     requires trees { Trees s.now }
@@ -489,27 +448,27 @@ fn search(s: &[u8], l: Layout, q: usize, p: usize, x: Symbol, line: &mut [u8]) -
     requires q_lt_productions { q < l.productions }
     requires q_bound { node_count_of s.now q ≤ 32 }
     requires most_brackets_in_bounds { most_brackets ≤ length line.old }
-    ensures way_told { WayTold x s.now q p (way_in result line.new) }
+    ensures way_told { WayTold x s.now q p result line.new }
     ensures line_len_unchanged { length line.new ≡ length line.old }
 {
     match x {
         Symbol::Tag(_) => way_to_atom(s, l, q, p, x, line),
         Symbol::Character => way_to_atom(s, l, q, p, x, line),
         Symbol::End => {
-            let end = way_to_end(s, l, q, p, line);
-            Way {
-                line: end,
+            let length = way_to_end(s, l, q, p, line)?;
+            Some(Way {
+                length: length,
                 place: 0,
                 kind: 0,
                 argument: 0,
-            }
+            })
         }
     }
 }
 
 // The way from the place p of production q to its next atom that can be x, or to the end where x is the end: its brackets are put
 // into the first of the lent bytes.
-pub fn find_way(s: &[u8], l: Layout, q: usize, p: usize, x: Symbol, line: &mut [u8]) -> Way
+pub fn find_way(s: &[u8], l: Layout, q: usize, p: usize, x: Symbol, line: &mut [u8]) -> Option<Way>
     requires laid_out { LaidOut s.now l }
     requires runs_inside { RunsInside s.now }
     requires trees { Trees s.now }
@@ -520,15 +479,7 @@ pub fn find_way(s: &[u8], l: Layout, q: usize, p: usize, x: Symbol, line: &mut [
     ensures { WayAs s.now q p x line.old result line.new }
 {
     let mut tried = [0u8; MOST];
-    let found = search(s, l, q, p, x, &mut tried);
-    if !found.line.found {
-        let none = Line {
-            found: false,
-            length: 0,
-        };
-        return no_way(none);
-    }
-    let n = found.line.length;
-    lent::put_bytes(line, 0, &tried[..n], true);
-    found
+    let way = search(s, l, q, p, x, &mut tried)?;
+    lent::put_bytes(line, 0, &tried[..way.length], true);
+    Some(way)
 }

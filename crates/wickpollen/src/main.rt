@@ -5,7 +5,7 @@
 
 #![tactic(auto)]
 
-ghost use Rattle.std.specs.Prelude.{◌≡◌, ◌<◌};
+ghost use Rattle.std.specs.Prelude.{◌≡◌, ◌<◌, IfSome, IfOk};
 ghost use Rattle.io.specs.Counts.{IsPrefixLen};
 
 use callers::Caller;
@@ -18,58 +18,50 @@ use std::io::{Error, IsTerminal};
 use std::os::fd::{AsRawFd, IntoRawFd};
 use std::rt::Env;
 
-// What becomes of one file: it is checked; printed; or printed as the rules that its declarations are.
-const CHECKS: usize = 0;
-
-const PRINTS: usize = 1;
-
-const MODELS: usize = 2;
-
 // What becomes of a schedule: it is tried; converted; or converted without the records that are damaged.
-const TRIES: usize = 0;
-
-const CONVERTS: usize = 1;
-
-const SALVAGES: usize = 2;
-
-// A word of the command that was put into memory: how many bytes it has there, none where it could not be taken; and why not.
 #[derive(Clone, Copy)]
-struct Given {
-    length: usize,
-    refusal: Option<FillError>,
+enum Way {
+    Tries,
+    Converts,
+    Salvages,
 }
 
-// Word i of the command, the program's own name being word 0. `--tell`, which comes before the others, is not counted.
-fn word(rt: HostRuntime, told: bool, i: usize, memory: &mut [u8]) -> Given
+// Word i of the command, the program's own name being word 0, and how many bytes of the memory it has. `--tell`, which comes before the others, is not counted.
+fn word(rt: HostRuntime, told: bool, i: usize, memory: &mut [u8]) -> Result<usize, FillError>
     requires { i < 9 }
-    ensures { IsPrefixLen result.length memory.new }
+    ensures { IfOk result (λ n. IsPrefixLen n memory.new) }
 {
     let at = if told { i + 1 } else { i };
-    match rt.arg(at, memory) {
-        Ok(n) => Given {
-            length: files::within(n, memory),
-            refusal: None,
-        },
-        Err(why) => Given {
-            length: 0,
-            refusal: Some(why),
-        },
-    }
+    let n = rt.arg(at, memory)?;
+    Ok(files::within(n, memory))
 }
 
-// What the system says of a word that is not there, and of one that is too long.
+// What the system says of a word that is not there, and of one that is too long. Numbers: what users are told is the text of an error that is made from one.
 const MISSING: i32 = 22;
 
 const TOO_LONG: i32 = 36;
 
 // Tells on standard error why a word could not be taken.
-fn tell_unread(what: &[u8], why: FillError) -> u64 {
+fn tell_unread(what: &[u8], why: FillError) {
     let number = match why {
         FillError::NotPresent => MISSING,
         FillError::TooLong => TOO_LONG,
     };
     files::fail(what, Error::from_raw_os_error(number));
-    FILE
+}
+
+// As `word`, of a word that names something: where it could not be taken, that is told.
+fn name_word(rt: HostRuntime, told: bool, i: usize, what: &[u8], memory: &mut [u8]) -> Option<usize>
+    requires { i < 9 }
+    ensures { IfSome result (λ n. IsPrefixLen n memory.new) }
+{
+    match word(rt, told, i, memory) {
+        Ok(n) => Some(n),
+        Err(why) => {
+            tell_unread(what, why);
+            None
+        }
+    }
 }
 
 // Whether the program was given a word i, its own name being word 0.
@@ -90,36 +82,27 @@ fn has_words(rt: HostRuntime, told: bool, n: usize) -> bool
     !is_given(rt, end) && (end == 0 || is_given(rt, end - 1))
 }
 
-// `check`, `print` or `models` and its one file.
-fn run_on_one(rt: HostRuntime, told: bool, what: usize) -> u64 {
+// `check`, `print` or `models`, and its one file.
+fn run_on_one<F: Fn(HostRuntime, &[u8]) -> u64>(rt: HostRuntime, told: bool, command: F) -> u64
+    requires { F.IsAlwaysCallable command }
+{
     if !has_words(rt, told, 3) {
         return usage();
     }
     let mut path = io::buffer();
-    let given = word(rt, told, 2, &mut path);
-    if let Some(why) = given.refusal {
-        return tell_unread(b"the name of the file", why);
-    }
-    match what {
-        MODELS => print_models(rt, &path[..given.length]),
-        PRINTS => print_file(rt, &path[..given.length]),
-        _ => check_file(rt, &path[..given.length]),
+    match name_word(rt, told, 2, b"the name of the file", &mut path) {
+        Some(n) => command(rt, &path[..n]),
+        None => FILE,
     }
 }
 
 // `write`, with the name of its rules.
 fn write_into(rt: HostRuntime, rules: &[u8], told: bool) -> u64 {
     let mut sheet = io::buffer();
-    let given = word(rt, told, 3, &mut sheet);
-    if let Some(why) = given.refusal {
-        return tell_unread(b"SHEET", why);
-    }
-    write_file(
-        rt,
-        rules,
-        &sheet[..given.length],
-        Caller::this_one(rt, false, told),
-    )
+    let Some(n) = name_word(rt, told, 3, b"SHEET", &mut sheet) else {
+        return FILE;
+    };
+    write_file(rt, rules, &sheet[..n], Caller::this_one(rt, false, told))
 }
 
 // `write` and its files.
@@ -128,64 +111,76 @@ fn run_write(rt: HostRuntime, told: bool) -> u64 {
         return usage();
     }
     let mut rules = io::buffer();
-    let given = word(rt, told, 2, &mut rules);
-    if let Some(why) = given.refusal {
-        return tell_unread(b"RULES", why);
-    }
-    write_into(rt, &rules[..given.length], told)
+    let Some(n) = name_word(rt, told, 2, b"RULES", &mut rules) else {
+        return FILE;
+    };
+    write_into(rt, &rules[..n], told)
 }
 
-// Word i of a command as it is without --salvage, which comes before the names of the files.
-fn file_word(rt: HostRuntime, told: bool, way: usize, i: usize, memory: &mut [u8]) -> Given
+// As `name_word`, of word i of a command as it is without --salvage, which comes before the names of the files.
+fn file_word(
+    rt: HostRuntime,
+    told: bool,
+    way: Way,
+    i: usize,
+    what: &[u8],
+    memory: &mut [u8],
+) -> Option<usize>
     requires { i < 8 }
-    ensures { IsPrefixLen result.length memory.new }
+    ensures { IfSome result (λ n. IsPrefixLen n memory.new) }
 {
-    if way == SALVAGES {
-        return word(rt, told, i + 1, memory);
+    match way {
+        Way::Salvages => name_word(rt, told, i + 1, what, memory),
+        _ => name_word(rt, told, i, what, memory),
     }
-    word(rt, told, i, memory)
 }
 
 // `convert`, with the names of its sheet and its schedule.
-fn convert_into(rt: HostRuntime, sheet: &[u8], schedule: &[u8], caller: Caller, way: usize) -> u64 {
+fn convert_into(rt: HostRuntime, sheet: &[u8], schedule: &[u8], caller: Caller, way: Way) -> u64 {
     let mut listing = io::buffer();
-    let given = file_word(rt, caller.listens, way, 4, &mut listing);
-    if let Some(why) = given.refusal {
-        return tell_unread(b"LISTING", why);
+    let Some(n) = file_word(
+        rt,
+        caller.listener.is_some(),
+        way,
+        4,
+        b"LISTING",
+        &mut listing,
+    ) else {
+        return FILE;
+    };
+    match way {
+        Way::Salvages => commands::salvage_files(rt, sheet, schedule, &listing[..n], caller),
+        _ => commands::convert_files(rt, sheet, schedule, &listing[..n], caller),
     }
-    if way == SALVAGES {
-        return commands::salvage_files(rt, sheet, schedule, &listing[..given.length], caller);
-    }
-    commands::convert_files(rt, sheet, schedule, &listing[..given.length], caller)
 }
 
 // `convert` or `try`, with the name of its sheet.
-fn run_with(rt: HostRuntime, sheet: &[u8], caller: Caller, way: usize) -> u64 {
+fn run_with(rt: HostRuntime, sheet: &[u8], caller: Caller, way: Way) -> u64 {
     let mut schedule = io::buffer();
-    let given = file_word(rt, caller.listens, way, 3, &mut schedule);
-    if let Some(why) = given.refusal {
-        return tell_unread(b"SCHEDULE", why);
+    let Some(n) = file_word(
+        rt,
+        caller.listener.is_some(),
+        way,
+        3,
+        b"SCHEDULE",
+        &mut schedule,
+    ) else {
+        return FILE;
+    };
+    match way {
+        Way::Tries => commands::try_files(rt, sheet, &schedule[..n], caller),
+        _ => convert_into(rt, sheet, &schedule[..n], caller, way),
     }
-    if way == TRIES {
-        return commands::try_files(rt, sheet, &schedule[..given.length], caller);
-    }
-    convert_into(rt, sheet, &schedule[..given.length], caller, way)
 }
 
 // `convert` or `try` and its files. Somebody watches where it was asked for, or where standard error is a terminal.
-fn run_files(rt: HostRuntime, told: bool, asked: bool, way: usize) -> u64 {
+fn run_files(rt: HostRuntime, told: bool, asked: bool, way: Way) -> u64 {
     let mut sheet = io::buffer();
-    let given = file_word(rt, told, way, 2, &mut sheet);
-    if let Some(why) = given.refusal {
-        return tell_unread(b"RULES", why);
-    }
+    let Some(n) = file_word(rt, told, way, 2, b"RULES", &mut sheet) else {
+        return FILE;
+    };
     let watched = asked | rt.stderr().is_terminal();
-    run_with(
-        rt,
-        &sheet[..given.length],
-        Caller::this_one(rt, watched, told),
-        way,
-    )
+    run_with(rt, &sheet[..n], Caller::this_one(rt, watched, told), way)
 }
 
 // Whether word i is this one.
@@ -193,12 +188,14 @@ fn is_word(rt: HostRuntime, told: bool, i: usize, text: &[u8]) -> bool
     requires { i < 9 }
 {
     let mut memory = io::buffer();
-    let given = word(rt, told, i, &mut memory);
-    &memory[..given.length] == text
+    match word(rt, told, i, &mut memory) {
+        Ok(n) => &memory[..n] == text,
+        Err(_) => false,
+    }
 }
 
 // `convert` or `try`, which have n words, and perhaps --progress behind them.
-fn run_conversion(rt: HostRuntime, told: bool, n: usize, way: usize) -> u64
+fn run_conversion(rt: HostRuntime, told: bool, n: usize, way: Way) -> u64
     requires { n < 7 }
 {
     if has_words(rt, told, n) {
@@ -213,9 +210,9 @@ fn run_conversion(rt: HostRuntime, told: bool, n: usize, way: usize) -> u64
 // `convert`, perhaps with --salvage.
 fn run_convert(rt: HostRuntime, told: bool) -> u64 {
     if is_word(rt, told, 2, b"--salvage") {
-        return run_conversion(rt, told, 6, SALVAGES);
+        return run_conversion(rt, told, 6, Way::Salvages);
     }
-    run_conversion(rt, told, 5, CONVERTS)
+    run_conversion(rt, told, 5, Way::Converts)
 }
 
 // The commands that name no file.
@@ -229,11 +226,11 @@ fn run_other(command: &[u8]) -> u64 {
 
 fn run_command(rt: HostRuntime, told: bool, command: &[u8]) -> u64 {
     match command {
-        b"check" => run_on_one(rt, told, CHECKS),
-        b"print" => run_on_one(rt, told, PRINTS),
-        b"models" => run_on_one(rt, told, MODELS),
+        b"check" => run_on_one(rt, told, check_file),
+        b"print" => run_on_one(rt, told, print_file),
+        b"models" => run_on_one(rt, told, print_models),
         b"write" => run_write(rt, told),
-        b"try" => run_conversion(rt, told, 4, TRIES),
+        b"try" => run_conversion(rt, told, 4, Way::Tries),
         b"convert" => run_convert(rt, told),
         _ => run_other(command),
     }
@@ -241,8 +238,10 @@ fn run_command(rt: HostRuntime, told: bool, command: &[u8]) -> u64 {
 
 fn run(rt: HostRuntime, told: bool) -> u64 {
     let mut command = io::buffer();
-    let given = word(rt, told, 1, &mut command);
-    run_command(rt, told, &command[..given.length])
+    match word(rt, told, 1, &mut command) {
+        Ok(n) => run_command(rt, told, &command[..n]),
+        Err(_) => usage(),
+    }
 }
 
 // Whether the first word is --tell.

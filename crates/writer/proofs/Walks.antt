@@ -1,6 +1,7 @@
 -- A writer of sheets goes through a text. Assumes nothing.
+use Rattle.std.specs.Prelude.{Option as Taken, Some, None}
 use mathlib.Core.Path.{◌≡◌, refl, sym, ◌∙◌, ap, ap₂, subst}
-use mathlib.Core.Bool.{Bool, true, false, true≢false}
+use mathlib.Core.Bool.{Bool, true, false}
 use mathlib.Core.Option.{none, some}
 use mathlib.Core.List.{List, [], ◌∷◌, ◌++◌}
 use Prim.Native.Nat.{ℕ, suc, ◌+◌, ◌-◌, ◌*◌, ◌≤◌, ◌<◌}
@@ -26,10 +27,11 @@ use Rattle.ledgers.specs.Trodden.{Trodden, TokenAt, LeadsToRules}
 use Rattle.ledgers.specs.Space.{SpaceFor}
 use Rattle.ledgers.proofs.Telling.{trodden_first, trodden_on, trodden_tidy, leads_back, tells_rules, tells_40, tells_41}
 use Rattle.rulings.specs.declared.Reader.{Reader}
-use Rattle.sights.specs.declared.Ruling.{Ruling}
+use Rattle.std.specs.Prelude.{Ok, Err}
 use Rattle.rulings.specs.Readers.{Holds, Firm, StartIs}
-use Rattle.sights.specs.declared.Glance.{Glance}
-use Rattle.sights.specs.Glances.{Met, Seen, meets, writes_rules, refuses, GlanceIs, Somewhere, RestTold, rest_writes, rest_refused, RestIs}
+use Rattle.sights.specs.declared.Token.{Token}
+use Rattle.sights.specs.Rulings.{Ruling}
+use Rattle.sights.specs.Glances.{Met, Glance, Seen, writes_rules, refuses, GlanceIs, Somewhere, RestTold, rest_writes, rest_refused, RestIs}
 use Rattle.sights.proofs.Rest.{met_of}
 use Rattle.writing.specs.TooMany.{last_byte_of}
 use Rattle.writing.specs.Written.{WrittenAs}
@@ -47,20 +49,20 @@ use Rattle.advance.specs.declared.Desk.{Desk}
 use Rattle.advance.specs.Advance.{Firmly, DeskHolds, BehindToken, Advanced}
 use Rattle.sealing.specs.declared.Outcome.{Outcome}
 use Rattle.closings.specs.Closings.{AtTheEnd, SomeWhole, FinishIs}
+use Rattle.writer.specs.declared.Ahead.{Ahead}
 use Rattle.writer.specs.declared.Walk.{Walk}
-use Rattle.writer.specs.Walks.{Places, FreshDesk, LastIs, Under, WalkStopped, WalkIs, walks, stopped, WalkedOn}
+use Rattle.writer.specs.Walks.{Places, FreshDesk, LastIs, Under, WalkStopped, LateIs, ahead_of, WalkAhead, WalkIs, WalkedOn}
 use Rattle.writer.proofs.Lasts.{last_small}
 
 pub fresh_as : (ink : Ink) (bed : Bed) → InkIs no_ink ink → FreshDesk (record {
   slip = record { start = 0; nonterm = 0; tag = 0; front = 0xFFFF; back = 0xFFFF };
   past = record { productions = 0; before = 0; nodes = 0 };
-  shelved = record { full = false; place = 0; tags = 0; strings = 0; programs = 0 };
+  shelved = record { place = 0; tags = 0; strings = 0; programs = 0 };
   ink = ink;
   bed = bed;
 })
 fresh_as ink bed h = record {
   trim = h.trim;
-  going = refl;
   no_tags = refl;
   no_strings = refl;
   no_programs_lem = refl;
@@ -107,7 +109,6 @@ module _ (tb te sb se pb pe productions nodes : List ℕ) where
 
   kept_first : (r : Rules) (d : Desk) → FreshDesk d → DeskHolds r beginning d tb te sb se pb pe productions nodes
   kept_first r d f = record {
-    going = f.going;
     stores = record {
       tags_held = subst (λ (n : ℕ). RowsIn tb te n []) (sym f.no_tags) (empty_store tb te);
       strings_held = subst (λ (n : ℕ). RowsIn sb se n []) (sym f.no_strings) (empty_store sb se);
@@ -133,10 +134,16 @@ module _ (tb te sb se pb pe productions nodes : List ℕ) where
     };
   }
 
-  pub walk_first : (text : List ℕ) (r : Reader) (d : Desk) (g : Glance) → Places tb te sb se pb pe productions nodes → StartIs r → FreshDesk d → GlanceIs text r g
-      → WalkIs text (record { going = g.going; full = false; from = 0; byte = 0; desk = d; reader = r; glance = g }) tb te sb se pb pe productions nodes
-  walk_first text r d g p h f i = walks refl refl (record {
-    high = omega (arith, i.high);
+  -- what lies ahead is what was found
+  pub ahead_under : (text : List ℕ) (from : ℕ) (r : Reader) (d : Desk) (g : Glance) (b : Ahead) → b ≡ ahead_of g → Under text from r g d tb te sb se pb pe productions nodes
+      → WalkAhead text from r d tb te sb se pb pe productions nodes b
+  ahead_under text from r d (Ok t) b e u = subst (WalkAhead text from r d tb te sb se pb pe productions nodes) (sym e) u
+  ahead_under text from r d (Err a) b e u = subst (WalkAhead text from r d tb te sb se pb pe productions nodes) (sym e) u
+
+  pub walk_first : (text : List ℕ) (r : Reader) (d : Desk) (g : Glance) (b : Ahead) → Places tb te sb se pb pe productions nodes → StartIs r → FreshDesk d → GlanceIs text r g → b ≡ ahead_of g
+      → WalkIs text (record { from = 0; desk = d; reader = r; ahead = b }) tb te sb se pb pe productions nodes
+  walk_first text r d g b p h f i e = ahead_under text 0 r d g b e (record {
+    high = omega arith;
     firmly = firmly_first d p f;
     state = beginning;
     trodden = trodden_first text;
@@ -145,27 +152,27 @@ module _ (tb te sb se pb pe productions nodes : List ℕ) where
     kept = λ q l. kept_first q d f;
   })
 
-  -- what is known where the walk goes on
-  pub under_of : (text : List ℕ) (w : Walk) → w.going ≡ true → WalkIs text w tb te sb se pb pe productions nodes → Here text w.from w.reader w.glance w.desk × (w.glance.going ≡ true)
-  under_of text w y (walks f e u) = (u, sym e ∙ y)
-  under_of text w y (stopped f e s) = absurd (true≢false (sym y ∙ e))
-
-module _ (text : List ℕ) (from : ℕ) (reader : Reader) (g : Glance) (d : Desk) (tb te sb se pb pe productions nodes : List ℕ) (u : Under text from reader g d tb te sb se pb pe productions nodes) (y : g.going ≡ true) where
+module _ (text : List ℕ) (from : ℕ) (reader : Reader) (g : Token) (d : Desk) (tb te sb se pb pe productions nodes : List ℕ) (u : Under text from reader (Ok g) d tb te sb se pb pe productions nodes) where
   met : Met u.state (drop from text) g
-  met = met_of u.state (drop from text) g y (u.glance.told u.state u.holds)
+  met = met_of u.state (drop from text) g (u.glance.told u.state u.holds)
 
   pub onward : suc from ≤ from + g.at + g.long
   onward = omega (arith, met.onward)
+
+  pub reach : from + (g.at + g.long) ≤ length text
+  reach = omega (arith, u.high, u.glance.high, length-drop from text)
 
   token_is : part text (from + g.at) ≡ token_bytes met.token ++ met.stands.rest
   token_is =
       part_is text (from + g.at) ∙ sym (drop-drop g.at from text) ∙ ap₂ (λ (n : ℕ) (x : List ℕ). drop n x) met.stands.at_is met.stands.are
       ∙ drop-append_seam met.stands.gap (token_bytes met.token ++ met.stands.rest)
 
-  module _ (tb' te' sb' se' pb' pe' productions' nodes' : List ℕ) (a : Desk)
-      (f : Advanced d reader g.reader (part text (from + g.at)) g.kind g.number tb te sb se pb pe productions nodes tb' te' sb' se' pb' pe' productions' nodes' a) where
-    next_of : (r : Rules) → LeadsToRules met.next r → BehindToken r met.next a tb' te' sb' se' pb' pe' productions' nodes'
-    next_of r l =
+  module _ (tb' te' sb' se' pb' pe' productions' nodes' : List ℕ) where
+    abbrev pub Behind : Taken Desk → Type 0
+    Behind a = Advanced d reader g.reader (part text (from + g.at)) g.kind g.number tb te sb se pb pe productions nodes tb' te' sb' se' pb' pe' productions' nodes' a
+
+    next_of : (a : Taken Desk) → Behind a → (r : Rules) → LeadsToRules met.next r → BehindToken r met.next a tb' te' sb' se' pb' pe' productions' nodes'
+    next_of a f r l =
         f.is r u.state met.next met.token met.stands.rest u.holds met.holds met.stands.goes met.stands.fits met.kind_is met.number_is token_is
         (trodden_tidy text from u.state u.trodden) l (u.kept r (leads_back u.state met.next met.token r met.stands.goes.taken l))
 
@@ -175,24 +182,22 @@ module _ (text : List ℕ) (from : ℕ) (reader : Reader) (g : Glance) (d : Desk
     trodden' : Trodden text (from + g.at + g.long) met.next
     trodden' = subst (λ (n : ℕ). Trodden text n met.next) far (trodden_on text from g.at g.long u.state met.next met.token u.trodden met.stands)
 
-    pub stride_on : (h : Glance) → a.shelved.full ≡ false → GlanceIs (part text (from + g.at + g.long)) g.reader h
-        → WalkIs text (record { going = h.going; full = false; from = from + g.at + g.long; byte = 0; desk = a; reader = g.reader; glance = h }) tb' te' sb' se' pb' pe' productions' nodes'
-    stride_on h e i =
-        let k = subst (λ (x : List ℕ). GlanceIs x g.reader h) (part_is text (from + g.at + g.long)) i in
-        walks refl refl (record {
-          high = omega (arith, u.high, k.high, length-drop (from + g.at + g.long) text);
-          firmly = f.firmly;
-          state = met.next;
-          trodden = trodden';
-          holds = met.holds;
-          glance = k;
-          kept = λ r l. (next_of r l).kept e;
-        })
+    pub stride_on : (a : Desk) → Behind (Some a) → (h : Glance) (b : Ahead) → GlanceIs (part text (from + g.at + g.long)) g.reader h → b ≡ ahead_of h
+        → WalkIs text (record { from = from + g.at + g.long; desk = a; reader = g.reader; ahead = b }) tb' te' sb' se' pb' pe' productions' nodes'
+    stride_on a f h b i y = ahead_under tb' te' sb' se' pb' pe' productions' nodes' text (from + g.at + g.long) g.reader a h b y (record {
+      high = omega (arith, reach);
+      firmly = f.firmly;
+      state = met.next;
+      trodden = trodden';
+      holds = met.holds;
+      glance = subst (λ (x : List ℕ). GlanceIs x g.reader h) (part_is text (from + g.at + g.long)) i;
+      kept = λ r l. (next_of (Some a) f r l).kept;
+    })
 
-    pub stride_stop : (last : ℕ) → a.shelved.full ≡ true → LastIs g.kind g.number g.long last
-        → WalkIs text (record { going = false; full = true; from = from + g.at + g.long; byte = from + g.at + last; desk = a; reader = g.reader; glance = g }) tb' te' sb' se' pb' pe' productions' nodes'
-    stride_stop last e l = stopped refl refl (record {
-      high = omega (arith, u.high);
+    pub stride_stop : Behind None → (last : ℕ) → LastIs g.kind g.number g.long last
+        → WalkIs text (record { from = from + g.at + g.long; desk = d; reader = g.reader; ahead = Ahead.Full (from + g.at + last) }) tb' te' sb' se' pb' pe' productions' nodes'
+    stride_stop f last l = record {
+      high = omega (arith, reach);
       firm = u.glance.firm;
       begun = from;
       at = g.at;
@@ -206,81 +211,75 @@ module _ (text : List ℕ) (from : ℕ) (reader : Reader) (g : Glance) (d : Desk
       stands = met.stands;
       holds = met.holds;
       space = λ r k. space_of tb te sb se pb pe productions nodes r u.state d u.firmly (u.kept r k);
-      no_space = λ r k. (next_of r k).no_space e;
-    })
+      no_space = λ r k. (next_of None f r k).no_space;
+    }
 
   pub last_inside : (last : ℕ) → LastIs g.kind g.number g.long last → from + g.at + last ≤ length text
   last_inside last l =
       let e = l.is met.token met.stands.fits met.kind_is met.number_is met.stands.long_is in
-      omega (arith, e, last_small met.token met.stands.fits, met.stands.long_is, u.high)
+      omega (arith, e, last_small met.token met.stands.fits, met.stands.long_is, reach)
 
--- where the walk has ended
-module _ (text area : List ℕ) (w : Walk) (tb te sb se pb pe productions nodes : List ℕ) (h : WalkIs text w tb te sb se pb pe productions nodes) where
-  pub stop_of : w.full ≡ true → WalkStopped text w.from w.byte w.reader
-  stop_of e = on h
-    where
-      on : WalkIs text w tb te sb se pb pe productions nodes → WalkStopped text w.from w.byte w.reader
-      on (walks f g u) = absurd (true≢false (sym e ∙ f))
-      on (stopped f g s) = s
+-- where a store was full: 41, or 40 further on
+module _ (text : List ℕ) (from byte : ℕ) (reader : Reader) (s : WalkStopped text from byte reader) where
+  pub somewhere : Firm reader × Somewhere reader
+  somewhere = (s.firm, record { state = s.next; holds = s.holds })
 
-  pub end_of : w.full ≡ false → Under text w.from w.reader w.glance w.desk tb te sb se pb pe productions nodes × (w.going ≡ w.glance.going)
-  end_of e = on h
-    where
-      on : WalkIs text w tb te sb se pb pe productions nodes → Under text w.from w.reader w.glance w.desk tb te sb se pb pe productions nodes × (w.going ≡ w.glance.going)
-      on (walks f g u) = (u, g)
-      on (stopped f g s) = absurd (true≢false (sym f ∙ e))
+  rest_of : (a b : Ruling) → a ≡ b → RestIs (part text from) reader a → RestTold s.next (drop from text) b
+  rest_of a b e r = subst (RestTold s.next (drop from text)) e ((subst (λ (x : List ℕ). RestIs x reader a) (part_is text from) r).told s.next s.holds)
 
-  pub somewhere : w.full ≡ true → Firm w.reader × Somewhere w.reader
-  somewhere e = let s = stop_of e in (s.firm, record { state = s.next; holds = s.holds })
+  trodden_by : Trodden text (s.begun + (s.at + s.long)) s.next
+  trodden_by = trodden_on text s.begun s.at s.long s.state s.next s.token s.trodden s.stands
 
-  -- 41, or 40 further on
-  rest_told : (s : WalkStopped text w.from w.byte w.reader) (a : Ruling) → RestIs (drop w.from text) w.reader a → RestTold s.next (drop w.from text) a
-  rest_told s a r = r.told s.next s.holds
+  trodden_here : Trodden text from s.next
+  trodden_here = subst (λ (n : ℕ). Trodden text n s.next) (sym s.from_is) trodden_by
 
-  told_41 : (s : WalkStopped text w.from w.byte w.reader) → RestTold s.next (drop w.from text) Ruling.Rules → WrittenAs text area 41 w.byte area
-  told_41 s (rest_writes v j) =
+  told_41 : RestTold s.next (drop from text) (Ok tt) → LateIs text 41 byte
+  told_41 (rest_writes v j) area =
       let j' = subst (λ (n : ℕ). Judged s.next (drop n text) (writes v)) s.from_is j in
-      let t = trodden_on text s.begun s.at s.long s.state s.next s.token s.trodden s.stands in
-      let l = (tells_rules text (s.begun + (s.at + s.long)) s.next v t j').leads in
+      let l = (tells_rules text (s.begun + (s.at + s.long)) s.next v trodden_by j').leads in
       subst (λ (n : ℕ). WrittenAs text area 41 n area) (sym s.byte_is)
       (tells_41 text area s.begun s.at s.long s.state s.next s.token v s.trodden s.stands j' (s.space v (leads_back s.state s.next s.token v s.stands.goes.taken l)) (s.no_space v l))
 
-  told_40 : (s : WalkStopped text w.from w.byte w.reader) (k : ℕ) → RestTold s.next (drop w.from text) (Ruling.Refused k) → WrittenAs text area 40 (w.from + k) area
-  told_40 s k (rest_refused j) =
-      let t = trodden_on text s.begun s.at s.long s.state s.next s.token s.trodden s.stands in
-      let t' = subst (λ (n : ℕ). Trodden text n s.next) (sym s.from_is) t in
-      tells_40 text area w.from k s.next t' j
+  told_40 : (k : ℕ) → RestTold s.next (drop from text) (Err k) → LateIs text 40 (from + k)
+  told_40 k (rest_refused j) area = tells_40 text area from k s.next trodden_here j
 
-  pub settled_41 : (a : Ruling) → w.full ≡ true → a ≡ Ruling.Rules → RestIs (part text w.from) w.reader a → WrittenAs text area 41 w.byte area
-  settled_41 a e b r =
-      let s = stop_of e in
-      told_41 s (rest_told s Ruling.Rules (subst (RestIs (drop w.from text) w.reader) b (subst (λ (x : List ℕ). RestIs x w.reader a) (part_is text w.from) r)))
+  told_high : (k : ℕ) → RestTold s.next (drop from text) (Err k) → from + k ≤ length text
+  told_high k (rest_refused j) = (judged_right text (refused_at (from + k)) (trodden_here.judged (refused_at k) j)).reached
 
-  pub settled_late : (a : Ruling) (k : ℕ) → w.full ≡ true → a ≡ Ruling.Refused k → RestIs (part text w.from) w.reader a → WrittenAs text area 40 (w.from + k) area
-  settled_late a k e b r =
-      let s = stop_of e in
-      told_40 s k (rest_told s (Ruling.Refused k) (subst (RestIs (drop w.from text) w.reader) b (subst (λ (x : List ℕ). RestIs x w.reader a) (part_is text w.from) r)))
+  pub late_41 : (a : Ruling) → a ≡ Ok tt → RestIs (part text from) reader a → LateIs text 41 byte
+  late_41 a e r = told_41 (rest_of a (Ok tt) e r)
 
-  -- at the end of the text
-  seen_of : (u : Under text w.from w.reader w.glance w.desk tb te sb se pb pe productions nodes) → Seen u.state (drop w.from text) w.glance
-  seen_of u = u.glance.told u.state u.holds
+  pub late_40 : (a : Ruling) (k : ℕ) → a ≡ Err k → RestIs (part text from) reader a → LateIs text 40 (from + k)
+  late_40 a k e r = told_40 k (rest_of a (Err k) e r)
 
-  refused : (u : Under text w.from w.reader w.glance w.desk tb te sb se pb pe productions nodes) → w.glance.going ≡ false → w.glance.written ≡ false → Seen u.state (drop w.from text) w.glance
-      → WrittenAs text area 40 (w.from + w.glance.at) area
-  refused u y v (meets e m) = absurd (true≢false (sym e ∙ y))
-  refused u y v (writes_rules e f r a j) = absurd (true≢false (sym f ∙ v))
-  refused u y v (refuses e f j) = tells_40 text area w.from w.glance.at u.state u.trodden j
+  pub late_high : (a : Ruling) (k : ℕ) → a ≡ Err k → RestIs (part text from) reader a → from + k ≤ length text
+  late_high a k e r = told_high k (rest_of a (Err k) e r)
 
-  pub settled_40 : w.going ≡ false → w.full ≡ false → w.glance.written ≡ false → WrittenAs text area 40 (w.from + w.glance.at) area
-  settled_40 y e v = let u = end_of e in refused u.0 (sym u.1 ∙ y) v (seen_of u.0)
+-- where the walk has ended
+module _ (text area : List ℕ) (w : Walk) (tb te sb se pb pe productions nodes : List ℕ) (h : WalkIs text w tb te sb se pb pe productions nodes) where
+  ahead_is : (a : Ahead) → w.ahead ≡ a → WalkAhead text w.from w.reader w.desk tb te sb se pb pe productions nodes a
+  ahead_is a e = subst (WalkAhead text w.from w.reader w.desk tb te sb se pb pe productions nodes) e h
+
+  pub stop_of : (byte : ℕ) → w.ahead ≡ Ahead.Full byte → WalkStopped text w.from byte w.reader
+  stop_of byte e = ahead_is (Ahead.Full byte) e
+
+  end_of : (a b : Ruling) → w.ahead ≡ Ahead.End a → a ≡ b → Under text w.from w.reader (Err b) w.desk tb te sb se pb pe productions nodes
+  end_of a b e f = subst (λ (z : Ruling). Under text w.from w.reader (Err z) w.desk tb te sb se pb pe productions nodes) f (ahead_is (Ahead.End a) e)
+
+  refused : (k : ℕ) (s : Progress) → Trodden text w.from s → Seen s (drop w.from text) (Err (Err k)) → WrittenAs text area 40 (w.from + k) area
+  refused k s t (refuses j) = tells_40 text area w.from k s t j
+
+  pub settled_40 : (a : Ruling) (k : ℕ) → w.ahead ≡ Ahead.End a → a ≡ Err k → WrittenAs text area 40 (w.from + k) area
+  settled_40 a k e y = let u = end_of a (Err k) e y in refused k u.state u.trodden (u.glance.told u.state u.holds)
+
+  pub byte_high : (a : Ruling) (k : ℕ) → w.ahead ≡ Ahead.End a → a ≡ Err k → w.from + k ≤ length text
+  byte_high a k e y = let u = end_of a (Err k) e y in omega (arith, u.high, u.glance.high, length-drop w.from text)
 
   abbrev WholeAt : Rules → Progress → Type 0
   WholeAt r s = AtTheEnd text r s w.desk.slip w.desk.shelved w.desk.past tb te productions nodes sb se pb pe
 
-  whole_at : (u : Under text w.from w.reader w.glance w.desk tb te sb se pb pe productions nodes) → w.glance.going ≡ false → w.glance.written ≡ true → Seen u.state (drop w.from text) w.glance
-      → (r : Rules) × WholeAt r u.state
-  whole_at u y v (meets e m) = absurd (true≢false (sym e ∙ y))
-  whole_at u y v (writes_rules e f r a j) =
+  whole_at : (u : Under text w.from w.reader (Err (Ok tt)) w.desk tb te sb se pb pe productions nodes) → Seen u.state (drop w.from text) (Err (Ok tt)) → (r : Rules) × WholeAt r u.state
+  whole_at u (writes_rules r a j) =
       let t = tells_rules text w.from u.state r u.trodden (ended j a) in
       let k = u.kept r t.leads in (
         r,
@@ -297,41 +296,18 @@ module _ (text area : List ℕ) (w : Walk) (tb te sb se pb pe productions nodes 
           past_held = k.past_held;
         },
       )
-  whole_at u y v (refuses e f j) = absurd (true≢false (sym v ∙ f))
 
-  pub some_whole : w.going ≡ false → w.full ≡ false → w.glance.written ≡ true → SomeWhole w.desk.slip w.desk.shelved w.desk.past tb te productions nodes sb se pb pe
-  some_whole y e v =
-      let u = end_of e in
-      let k = whole_at u.0 (sym u.1 ∙ y) v (seen_of u.0) in
-      record { text = text; rules = k.0; state = u.0.state; whole = k.1 }
+  pub some_whole : (a : Ruling) → w.ahead ≡ Ahead.End a → a ≡ Ok tt → SomeWhole w.desk.slip w.desk.shelved w.desk.past tb te productions nodes sb se pb pe
+  some_whole a e y =
+      let u = end_of a (Ok tt) e y in
+      let k = whole_at u (u.glance.told u.state u.holds) in
+      record { text = text; rules = k.0; state = u.state; whole = k.1 }
 
-  pub settled_0 : (after : List ℕ) (o : Outcome) → w.going ≡ false → w.full ≡ false → w.glance.written ≡ true
-      → FinishIs w.desk.slip w.desk.shelved w.desk.past tb te productions nodes sb se pb pe area after o → WrittenAs text area o.number o.count after
-  settled_0 after o y e v f =
-      let u = end_of e in
-      let k = whole_at u.0 (sym u.1 ∙ y) v (seen_of u.0) in
-      f.is text k.0 u.0.state k.1
-
-  pub walk_high : w.from ≤ length text
-  walk_high = on h
-    where
-      on : WalkIs text w tb te sb se pb pe productions nodes → w.from ≤ length text
-      on (walks f g u) = omega (arith, u.high)
-      on (stopped f g s) = s.high
-
-  pub byte_high : w.full ≡ false → w.from + w.glance.at ≤ length text
-  byte_high e = let u = (end_of e).0 in omega (arith, u.high)
-
-  pub late_high : (a : Ruling) (k : ℕ) → w.full ≡ true → a ≡ Ruling.Refused k → RestIs (part text w.from) w.reader a → w.from + k ≤ length text
-  late_high a k e b r =
-      let s = stop_of e in
-      on s (rest_told s (Ruling.Refused k) (subst (RestIs (drop w.from text) w.reader) b (subst (λ (x : List ℕ). RestIs x w.reader a) (part_is text w.from) r)))
-    where
-      on : (s : WalkStopped text w.from w.byte w.reader) → RestTold s.next (drop w.from text) (Ruling.Refused k) → w.from + k ≤ length text
-      on s (rest_refused j) =
-          let t = trodden_on text s.begun s.at s.long s.state s.next s.token s.trodden s.stands in
-          let t' = subst (λ (n : ℕ). Trodden text n s.next) (sym s.from_is) t in
-          (judged_right text (refused_at (w.from + k)) (t'.judged (refused_at k) j)).reached
+  pub settled_0 : (after : List ℕ) (o : Outcome) (a : Ruling) → w.ahead ≡ Ahead.End a → a ≡ Ok tt → FinishIs w.desk.slip w.desk.shelved w.desk.past tb te productions nodes sb se pb pe area after o → WrittenAs text area o.number o.count after
+  settled_0 after o a e y f =
+      let u = end_of a (Ok tt) e y in
+      let k = whole_at u (u.glance.told u.state u.holds) in
+      f.is text k.0 u.state k.1
 
 places_of : (d : Desk) (tb te sb se pb pe productions nodes : List ℕ) → Firmly d tb te sb se pb pe productions nodes → Places tb te sb se pb pe productions nodes
 places_of d tb te sb se pb pe productions nodes f = record {
@@ -345,35 +321,34 @@ places_of d tb te sb se pb pe productions nodes f = record {
   node_room = f.node_room;
 }
 
-module _ (text : List ℕ) (w : Walk) (tb te sb se pb pe productions nodes : List ℕ) (y : w.going ≡ true) (h : WalkIs text w tb te sb se pb pe productions nodes) where
-  pub here : Under text w.from w.reader w.glance w.desk tb te sb se pb pe productions nodes
-  here = (under_of tb te sb se pb pe productions nodes text w y h).0
+module _ (text : List ℕ) (w : Walk) (t : Token) (tb te sb se pb pe productions nodes : List ℕ) (y : w.ahead ≡ Ahead.Token t) (h : WalkIs text w tb te sb se pb pe productions nodes) where
+  pub here : Under text w.from w.reader (Ok t) w.desk tb te sb se pb pe productions nodes
+  here = subst (WalkAhead text w.from w.reader w.desk tb te sb se pb pe productions nodes) y h
 
-  going : w.glance.going ≡ true
-  going = (under_of tb te sb se pb pe productions nodes text w y h).1
+  pub reached : w.from + (t.at + t.long) ≤ length text
+  reached = reach text w.from w.reader t w.desk tb te sb se pb pe productions nodes here
 
-  pub reach : w.from + (w.glance.at + w.glance.long) ≤ length text
-  reach = here.high
+  pub reach_last : (last : ℕ) → LastIs t.kind t.number t.long last → w.from + t.at + last ≤ length text
+  reach_last last l = last_inside text w.from w.reader t w.desk tb te sb se pb pe productions nodes here last l
 
-  pub reach_last : (last : ℕ) → LastIs w.glance.kind w.glance.number w.glance.long last → w.from + w.glance.at + last ≤ length text
-  reach_last last l = last_inside text w.from w.reader w.glance w.desk tb te sb se pb pe productions nodes here going last l
+  module _ (tb' te' sb' se' pb' pe' productions' nodes' : List ℕ) where
+    abbrev pub BehindNext : Taken Desk → Type 0
+    BehindNext a = Advanced w.desk w.reader t.reader (part text (w.from + t.at)) t.kind t.number tb te sb se pb pe productions nodes tb' te' sb' se' pb' pe' productions' nodes' a
 
-  module _ (tb' te' sb' se' pb' pe' productions' nodes' : List ℕ) (a : Desk)
-      (f : Advanced w.desk w.reader w.glance.reader (part text (w.from + w.glance.at)) w.glance.kind w.glance.number tb te sb se pb pe productions nodes tb' te' sb' se' pb' pe' productions' nodes' a) where
-    pub strode_on : (g : Glance) → a.shelved.full ≡ false → GlanceIs (part text (w.from + w.glance.at + w.glance.long)) w.glance.reader g
-        → WalkedOn text w tb' te' sb' se' pb' pe' productions' nodes' (record { going = g.going; full = false; from = w.from + w.glance.at + w.glance.long; byte = 0; desk = a; reader = w.glance.reader; glance = g })
-    strode_on g e i = record {
-      onward = onward text w.from w.reader w.glance w.desk tb te sb se pb pe productions nodes here going;
-      inside = omega (arith, reach);
+    pub strode_on : (a : Desk) → BehindNext (Some a) → (g : Glance) (b : Ahead) → GlanceIs (part text (w.from + t.at + t.long)) t.reader g → b ≡ ahead_of g
+        → WalkedOn text w tb' te' sb' se' pb' pe' productions' nodes' (record { from = w.from + t.at + t.long; desk = a; reader = t.reader; ahead = b })
+    strode_on a f g b i x = record {
+      onward = onward text w.from w.reader t w.desk tb te sb se pb pe productions nodes here;
+      inside = omega (arith, reached);
       places = places_of a tb' te' sb' se' pb' pe' productions' nodes' f.firmly;
-      walk = stride_on text w.from w.reader w.glance w.desk tb te sb se pb pe productions nodes here going tb' te' sb' se' pb' pe' productions' nodes' a f g e i;
+      walk = stride_on text w.from w.reader t w.desk tb te sb se pb pe productions nodes here tb' te' sb' se' pb' pe' productions' nodes' a f g b i x;
     }
 
-    pub strode_stop : (last : ℕ) → a.shelved.full ≡ true → LastIs w.glance.kind w.glance.number w.glance.long last
-        → WalkedOn text w tb' te' sb' se' pb' pe' productions' nodes' (record { going = false; full = true; from = w.from + w.glance.at + w.glance.long; byte = w.from + w.glance.at + last; desk = a; reader = w.glance.reader; glance = w.glance })
-    strode_stop last e l = record {
-      onward = onward text w.from w.reader w.glance w.desk tb te sb se pb pe productions nodes here going;
-      inside = omega (arith, reach);
-      places = places_of a tb' te' sb' se' pb' pe' productions' nodes' f.firmly;
-      walk = stride_stop text w.from w.reader w.glance w.desk tb te sb se pb pe productions nodes here going tb' te' sb' se' pb' pe' productions' nodes' a f last e l;
+    pub strode_stop : Places tb' te' sb' se' pb' pe' productions' nodes' → BehindNext None → (last : ℕ) → LastIs t.kind t.number t.long last
+        → WalkedOn text w tb' te' sb' se' pb' pe' productions' nodes' (record { from = w.from + t.at + t.long; desk = w.desk; reader = t.reader; ahead = Ahead.Full (w.from + t.at + last) })
+    strode_stop p f last l = record {
+      onward = onward text w.from w.reader t w.desk tb te sb se pb pe productions nodes here;
+      inside = omega (arith, reached);
+      places = p;
+      walk = stride_stop text w.from w.reader t w.desk tb te sb se pb pe productions nodes here tb' te' sb' se' pb' pe' productions' nodes' f last l;
     }

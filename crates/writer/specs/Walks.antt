@@ -1,5 +1,5 @@
 -- Where a writer of sheets stands in a text. Assumes nothing.
-use Rattle.std.specs.Prelude.{◌≡◌, true, false, List, ℕ, suc, ◌+◌, ◌≤◌, length, drop}
+use Rattle.std.specs.Prelude.{◌≡◌, Ok, Err, false, List, ℕ, suc, ◌+◌, ◌≤◌, length, drop}
 use Rattle.notation.specs.Rules.{Rules}
 use Rattle.notation.specs.Tokens.{TextToken, token_bytes}
 use Rattle.reading.specs.Rules.{Progress}
@@ -9,12 +9,14 @@ use Rattle.ledgers.specs.Trodden.{Trodden, TokenAt, LeadsToRules}
 use Rattle.ledgers.specs.Space.{SpaceFor}
 use Rattle.rulings.specs.declared.Reader.{Reader}
 use Rattle.rulings.specs.Readers.{Holds, Firm}
-use Rattle.sights.specs.declared.Glance.{Glance}
-use Rattle.sights.specs.Glances.{GlanceIs}
+use Rattle.sights.specs.declared.Token.{Token}
+use Rattle.sights.specs.Glances.{Glance, GlanceIs}
 use Rattle.writing.specs.TooMany.{last_byte_of}
+use Rattle.writing.specs.Written.{WrittenAs}
 use Rattle.inks.specs.Held.{Trim}
 use Rattle.advance.specs.declared.Desk.{Desk}
 use Rattle.advance.specs.Advance.{Firmly, DeskHolds}
+use Rattle.writer.specs.declared.Ahead.{Ahead}
 use Rattle.writer.specs.declared.Walk.{Walk}
 
 -- memory with as many places as a sheet can have
@@ -31,7 +33,6 @@ pub record Places (tb te sb se pb pe productions nodes : List ℕ) : Type 0 wher
 -- nothing is kept yet
 pub record FreshDesk (d : Desk) : Type 0 where
   pub trim : Trim d.ink
-  pub going : d.shelved.full ≡ false
   pub no_tags : d.shelved.tags ≡ 0
   pub no_strings : d.shelved.strings ≡ 0
   pub no_programs_lem : d.shelved.programs ≡ 0
@@ -49,7 +50,7 @@ pub record LastIs (kind number long r : ℕ) : Type 0 where
 
 -- behind some tokens: the next one, or the end, is in sight
 pub record Under (text : List ℕ) (from : ℕ) (reader : Reader) (g : Glance) (d : Desk) (tb te sb se pb pe productions nodes : List ℕ) : Type 0 where
-  pub high : from + (g.at + g.long) ≤ length text
+  pub high : from ≤ length text
   pub firmly : Firmly d tb te sb se pb pe productions nodes
   pub state : Progress
   pub trodden : Trodden text from state
@@ -75,9 +76,25 @@ pub record WalkStopped (text : List ℕ) (from byte : ℕ) (reader : Reader) : T
   pub space : (r : Rules) → LeadsToRules state r → SpaceFor r (so_far state)
   pub no_space : (r : Rules) → LeadsToRules next r → SpaceFor r (so_far next) → ⊥
 
-pub data WalkIs (text : List ℕ) (w : Walk) (tb te sb se pb pe productions nodes : List ℕ) : Type 0 where
-  walks : w.full ≡ false → w.going ≡ w.glance.going → Under text w.from w.reader w.glance w.desk tb te sb se pb pe productions nodes → WalkIs text w tb te sb se pb pe productions nodes
-  stopped : w.full ≡ true → w.going ≡ false → WalkStopped text w.from w.byte w.reader → WalkIs text w tb te sb se pb pe productions nodes
+-- then 41, or 40 further on; and the lent area stays as it was
+abbrev pub LateIs : List ℕ → ℕ → ℕ → Type 0
+LateIs text number count = (area : List ℕ) → WrittenAs text area number count area
+
+-- what was found behind a gap, as what a writer has before it
+abbrev pub ahead_of : Glance → Ahead
+ahead_of (Ok t) = Ahead.Token t
+ahead_of (Err a) = Ahead.End a
+
+abbrev pub NoToken : Ahead → Type 0
+NoToken a = (t : Token) → a ≡ Ahead.Token t → ⊥
+
+abbrev pub WalkAhead : List ℕ → ℕ → Reader → Desk → List ℕ → List ℕ → List ℕ → List ℕ → List ℕ → List ℕ → List ℕ → List ℕ → Ahead → Type 0
+WalkAhead text from reader d tb te sb se pb pe productions nodes (Ahead.Token t) = Under text from reader (Ok t) d tb te sb se pb pe productions nodes
+WalkAhead text from reader d tb te sb se pb pe productions nodes (Ahead.End a) = Under text from reader (Err a) d tb te sb se pb pe productions nodes
+WalkAhead text from reader d tb te sb se pb pe productions nodes (Ahead.Full byte) = WalkStopped text from byte reader
+
+abbrev pub WalkIs : List ℕ → Walk → List ℕ → List ℕ → List ℕ → List ℕ → List ℕ → List ℕ → List ℕ → List ℕ → Type 0
+WalkIs text w tb te sb se pb pe productions nodes = WalkAhead text w.from w.reader w.desk tb te sb se pb pe productions nodes w.ahead
 
 -- one token further, and at least one byte
 pub record WalkedOn (text : List ℕ) (w : Walk) (tb te sb se pb pe productions nodes : List ℕ) (r : Walk) : Type 0 where

@@ -2,9 +2,10 @@
 
 #![tactic(auto)]
 
-ghost use Rattle.std.specs.Prelude.{◌≡◌, true, false};
+ghost use Rattle.std.specs.Prelude.{◌≡◌};
 ghost use Rattle.writing.specs.Written.{WrittenAs};
-ghost use Rattle.writer.specs.Walks.{Places, FreshDesk, LastIs, WalkIs, WalkedOn, Begun};
+ghost use Rattle.writer.specs.declared.Ahead.{Ahead};
+ghost use Rattle.writer.specs.Walks.{Places, FreshDesk, LastIs, ahead_of, NoToken, WalkStopped, LateIs, WalkIs, WalkedOn, Begun};
 
 // A number, and the count that goes with it.
 #[derive(Clone, Copy)]
@@ -13,17 +14,31 @@ pub struct Written {
     pub count: usize,
 }
 
-// Where a writer stands: whether it goes on; whether a store was full, and then the byte that goes with 41; how many bytes are read; what it keeps, its
-// reader, and what it has found behind those bytes.
+// What a writer has before it: the next token; what is told of the text, where no token goes on; or, where a store was full, the byte that goes with 41.
+#[derive(Clone, Copy)]
+enum Ahead {
+    Token(sights::Token),
+    End(sights::Ruling),
+    Full(usize),
+}
+
+// Where a writer stands: how many bytes are read; what it keeps, its reader, and what it has found behind those bytes.
 #[derive(Clone, Copy)]
 struct Walk {
-    going: bool,
-    full: bool,
     from: usize,
-    byte: usize,
     desk: advance::Desk,
     reader: rulings::Reader,
-    glance: sights::Glance,
+    ahead: Ahead,
+}
+
+// What was found behind a gap, as what a writer has before it.
+fn ahead_of(g: Result<sights::Token, sights::Ruling>) -> Ahead
+    ensures { result ≡ ahead_of g }
+{
+    match g {
+        Ok(token) => Ahead::Token(token),
+        Err(told) => Ahead::End(told),
+    }
 }
 
 // Before the first token.
@@ -45,7 +60,6 @@ fn fresh() -> advance::Desk
         nodes: 0,
     };
     let shelved = shelves::Shelved {
-        full: false,
         place: 0,
         tags: 0,
         strings: 0,
@@ -95,6 +109,7 @@ fn last_of(kind: usize, number: usize, long: usize) -> usize
 fn stride(
     text: &[u8],
     w: Walk,
+    token: sights::Token,
     tags: &mut [u8],
     tagends: &mut [usize],
     strings: &mut [u8],
@@ -104,22 +119,21 @@ fn stride(
     productions: &mut [u8],
     nodes: &mut [u8],
 ) -> Walk
-    requires { (w.going ≡ true) × WalkIs text.now w tags.old tagends.old strings.old stringends.old programs.old programends.old productions.old nodes.old }
+    requires { (w.ahead ≡ Ahead.Token token) × WalkIs text.now w tags.old tagends.old strings.old stringends.old programs.old programends.old productions.old nodes.old }
     ensures { WalkedOn text.now w tags.new tagends.new strings.new stringends.new programs.new programends.new productions.new nodes.new result }
 {
     let d = w.desk;
     let r = w.reader;
-    let g = w.glance;
-    let behind = g.reader;
-    let at = w.from + g.at;
-    let past = at + g.long;
-    let next = advance::advance(
+    let behind = token.reader;
+    let at = w.from + token.at;
+    let past = at + token.long;
+    let Some(next) = advance::advance(
         d,
         r,
         behind,
         &text[at..],
-        g.kind,
-        g.number,
+        token.kind,
+        token.number,
         tags,
         tagends,
         strings,
@@ -128,29 +142,37 @@ fn stride(
         programends,
         productions,
         nodes,
-    );
-    let s = next.shelved;
-    if s.full {
-        let last = last_of(g.kind, g.number, g.long);
+    ) else {
+        let last = last_of(token.kind, token.number, token.long);
         return Walk {
-            going: false,
-            full: true,
             from: past,
-            byte: at + last,
-            desk: next,
+            desk: d,
             reader: behind,
-            glance: g,
+            ahead: Ahead::Full(at + last),
         };
-    }
-    let ahead = sights::look(&text[past..], behind);
+    };
     Walk {
-        going: ahead.going,
-        full: false,
         from: past,
-        byte: 0,
         desk: next,
         reader: behind,
-        glance: ahead,
+        ahead: ahead_of(sights::look(&text[past..], behind)),
+    }
+}
+
+// A store was full: 41, unless the text is refused further on.
+fn late(text: &[u8], from: usize, byte: usize, reader: rulings::Reader) -> Written
+    requires { WalkStopped text.now from byte reader }
+    ensures { LateIs text.now result.number result.count }
+{
+    match sights::judge_rest(&text[from..], reader) {
+        Ok(()) => Written {
+            number: 41,
+            count: byte,
+        },
+        Err(k) => Written {
+            number: 40,
+            count: from + k,
+        },
     }
 }
 
@@ -168,55 +190,40 @@ fn settle(
     productions: &mut [u8],
     nodes: &[u8],
 ) -> Written
-    requires { (w.going ≡ false) × WalkIs text.now w tags.now tagends.now strings.now stringends.now programs.now programends.now productions.old nodes.now }
+    requires { NoToken w.ahead × WalkIs text.now w tags.now tagends.now strings.now stringends.now programs.now programends.now productions.old nodes.now }
     ensures { WrittenAs text.now area.old result.number result.count area.new }
 {
-    let r = w.reader;
-    let g = w.glance;
-    let d = w.desk;
     let from = w.from;
-    if w.full {
-        match sights::judge_rest(&text[from..], r) {
-            sights::Ruling::Rules => {
-                return Written {
-                    number: 41,
-                    count: w.byte,
-                };
+    match w.ahead {
+        Ahead::Token(_) => unreachable!(),
+        Ahead::End(told) => match told {
+            Ok(()) => {
+                let d = w.desk;
+                let o = closings::finish(
+                    area,
+                    d.slip,
+                    d.shelved,
+                    d.past,
+                    tags,
+                    tagends,
+                    productions,
+                    nodes,
+                    strings,
+                    stringends,
+                    programs,
+                    programends,
+                );
+                Written {
+                    number: o.number,
+                    count: o.count,
+                }
             }
-            sights::Ruling::Refused(k) => {
-                return Written {
-                    number: 40,
-                    count: from + k,
-                };
-            }
-        }
-    }
-    if g.written {
-        let slip = d.slip;
-        let counts = d.shelved;
-        let past = d.past;
-        let o = closings::finish(
-            area,
-            slip,
-            counts,
-            past,
-            tags,
-            tagends,
-            productions,
-            nodes,
-            strings,
-            stringends,
-            programs,
-            programends,
-        );
-        return Written {
-            number: o.number,
-            count: o.count,
-        };
-    }
-    Written {
-        number: 40,
-        count: from + g.at,
+            Err(k) => Written {
+                number: 40,
+                count: from + k,
+            },
+        },
+        Ahead::Full(byte) => late(text, from, byte, w.reader),
     }
 }
 
@@ -225,16 +232,11 @@ fn begin(text: &[u8]) -> Walk
     ensures { Begun text.now result }
 {
     let first = rulings::start();
-    let d = fresh();
-    let g = sights::look(text, first);
     Walk {
-        going: g.going,
-        full: false,
         from: 0,
-        byte: 0,
-        desk: d,
+        desk: fresh(),
         reader: first,
-        glance: g,
+        ahead: ahead_of(sights::look(text, first)),
     }
 }
 
@@ -252,10 +254,11 @@ pub fn write(text: &[u8], sheet: &mut [u8]) -> Written
     let mut nodes = [0; 1536];
     let mut w = begin(text);
     // A while: each stride says whether it goes on, by the token that it read, which no range gives.
-    while w.going {
+    while let Ahead::Token(token) = w.ahead {
         w = stride(
             text,
             w,
+            token,
             &mut tags,
             &mut tagends,
             &mut strings,

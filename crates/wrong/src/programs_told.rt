@@ -1,40 +1,8 @@
 // The first wrong program, or else the first field that names none.
-ghost use Rattle.std.specs.Prelude.{◌≤◌, ◌<◌};
+ghost use Rattle.std.specs.Prelude.{◌<◌, IfSome};
 
 use crate::{field_of, say_record, say_then, word};
-use programs::Parsed;
 use words::say;
-
-// A field that names no program.
-const NONE: usize = 65535;
-
-// Where the programs that are right by themselves end, at the latest at `stop`; and whether that one is right, and for which visits.
-#[derive(Clone, Copy)]
-struct Walked {
-    at: usize,
-    good: bool,
-    first: bool,
-    second: bool,
-}
-
-// The program at a byte of the section: where the next one is, and for which visits it may stand.
-fn step(section: &[u8], tags: usize, strings: &[u8], at: usize) -> Walked {
-    let p = programs::program(section, at, tags, strings);
-    match p {
-        Parsed::Whole(next, first, second) => Walked {
-            at: next,
-            good: true,
-            first: first,
-            second: second,
-        },
-        Parsed::Bad => Walked {
-            at: at,
-            good: false,
-            first: false,
-            second: false,
-        },
-    }
-}
 
 // The most bytes that programs have.
 const PROGRAMS: usize = 16384;
@@ -46,25 +14,26 @@ fn start_from(section: &[u8], tags: usize, strings: &[u8], stop: usize) -> usize
         if at >= stop {
             return at;
         }
-        let w = step(section, tags, strings, at);
-        if !w.good {
+        let Some(read) = programs::program(section, at, tags, strings) else {
             return at;
-        }
-        at = w.at;
+        };
+        at = read.next;
     }
     at
 }
 
 // Whether a field names no program, or the start of one that its visit may hold.
 fn field_fits(section: &[u8], tags: usize, strings: &[u8], field: usize, second: bool) -> bool {
-    if field == NONE {
+    let Some(start) = programs::start_named(field) else {
         return true;
-    }
-    if start_from(section, tags, strings, field) != field {
+    };
+    if start_from(section, tags, strings, start) != start {
         return false;
     }
-    let w = step(section, tags, strings, field);
-    if second { w.second } else { w.first }
+    let Some(read) = programs::program(section, start, tags, strings) else {
+        return false;
+    };
+    if second { read.second } else { read.first }
 }
 
 // The first byte of node k's record, or of production k's.
@@ -98,30 +67,32 @@ fn fields_fit(s: &[u8], section: &[u8], strings: &[u8], of_node: bool, k: usize)
     one & two
 }
 
-// The first of so many nodes, or productions, whose fields do not; behind the last where there is none.
-fn first_unfit(s: &[u8], section: &[u8], strings: &[u8], of_node: bool, count: usize) -> usize
+// The first of so many nodes, or productions, whose fields do not.
+fn first_unfit(
+    s: &[u8],
+    section: &[u8],
+    strings: &[u8],
+    of_node: bool,
+    count: usize,
+) -> Option<usize>
     requires { count < 65536 }
-    ensures { result ≤ count }
+    ensures { IfSome result (λ k. k < count) }
 {
     for k in 0..count {
         if !fields_fit(s, section, strings, of_node, k) {
-            return k;
+            return Some(k);
         }
     }
-    count
+    None
 }
 
 // Every program is right: the first production, or else the first node, whose fields are not.
 fn say_field(s: &[u8], section: &[u8], strings: &[u8]) {
-    let productions = field_of(s, 3);
-    let q = first_unfit(s, section, strings, false, productions);
-    if q < productions {
+    if let Some(q) = first_unfit(s, section, strings, false, field_of(s, 3)) {
         say_record(b"a program field of production", q, record_at(s, false, q));
         return;
     }
-    let nodes = field_of(s, 5);
-    let i = first_unfit(s, section, strings, true, nodes);
-    if i < nodes {
+    if let Some(i) = first_unfit(s, section, strings, true, field_of(s, 5)) {
         say_record(b"a program field of node", i, record_at(s, true, i));
     }
 }

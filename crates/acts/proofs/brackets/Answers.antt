@@ -1,6 +1,5 @@
 use borrow.Author.Rules.{rules}
 use native.Mathlib.Omega.{arith}
-use mathlib.Core.Bool.{true}
 use mathlib.Core.List.{[]}
 use mathlib.Core.Path.{◌≡◌, refl, sym, ap, ◌∙◌, subst}
 use Prim.Native.Nat.{ℕ, ◌<◌}
@@ -12,10 +11,10 @@ use Rattle.state.proofs.Sizes.{frame_sized}
 use Rattle.live.specs.Live.{full}
 use Rattle.live.specs.declared.Live.{Live}
 use Rattle.acts.specs.declared.Acted.{Acted}
-use Rattle.acts.specs.Seen.{seen}
+use Rattle.std.specs.Prelude.{Option as Taken, Some}
+use Rattle.acts.specs.Seen.{seen_if}
 use Rattle.acts.specs.Acted.{BracketsAs}
 use Rattle.acts.specs.Standing.{standing_at}
-use Rattle.visits.proofs.Running.{on, off}
 use Rattle.acts.proofs.Bracketing.{LeftIn, all_left, none_left}
 use Rattle.acts.proofs.Places.{begins, no_slot, even_goes, odd_goes, rejects}
 use Rattle.acts.proofs.brackets.Goals as goal
@@ -35,22 +34,20 @@ pub returns-then-j-ge-SETS : goal.returns-then-j-ge-SETS
 returns-then-j-ge-SETS c =
     let l = c.loop-c in
     let j = c.slot-j in
-    λ b. subst (λ (x : Acted). BracketsAs c.args.s.now c.args.q c.args.line.now (full c.args.z b) (record { write = c.args.write; lent = c.args.out.now; at = c.args.at }) (seen x b) l.out) (sym c.rejected.ensures)
-    (no_slot c.args.s.now c.args.q c.args.line.now c.args.z (record { write = c.args.write; lent = c.args.out.now; at = c.args.at }) l.c-index l.env l.n l.sets l.to l.out b (l.invariant.1.1 b) (omega arith) j.result j.ensures c.if-j-ge-SETS.true c.requires.line_len_bound)
+    λ b. no_slot c.args.s.now c.args.q c.args.line.now c.args.z (record { write = c.args.write; lent = c.args.out.now; at = c.args.at }) l.c-index l.env l.n l.sets l.to l.out b (l.invariant.1.1 b) (omega arith) j.result j.ensures c.if-j-ge-SETS.true
 
-pub perform-done-requires : goal.perform-done-requires
-perform-done-requires c =
+pub perform-requires : goal.perform-requires
+perform-requires c =
     let left = c.loop-c.invariant.1.1 [] in
     record { laid_out = c.requires.laid_out; q_lt_productions = c.requires.q_lt_productions; at_bound = omega (arith, c.requires.line_len_bound, c.requires.at_bound, left.few, left.reach); well_formed = c.requires.well_formed }
 
-pub returns-then-not-done : goal.returns-then-not-done
-returns-then-not-done c =
+pub returns-in_err-done : goal.returns-in_err-done
+returns-in_err-done c =
     let l = c.loop-c in
     let j = c.slot-j in
     let few : j.result < most_sets = omega (arith, c.if-j-ge-SETS.false) in
-    let r = c.perform-done in
-    λ b. subst (λ (x : Acted). BracketsAs c.args.s.now c.args.q c.args.line.now (full c.args.z b) (record { write = c.args.write; lent = c.args.out.now; at = c.args.at }) (seen x b) r.new.out) (sym c.rejected-then-not-done.ensures)
-    (rejects c.args.s.now c.args.q c.args.line.now c.args.z (record { write = c.args.write; lent = c.args.out.now; at = c.args.at }) l.c-index l.env l.n l.sets l.to l.out b (l.invariant.1.1 b) (omega arith) j.result j.ensures (get_or l.sets j.result _) r.result _ r.ensures few l.invariant.1.0 (get_d_any l.sets j.result _ bare_saved (omega (arith, few, l.invariant.1.0))) (off _ c.if-not-done.true) c.requires.line_len_bound)
+    λ b. subst (λ (x : Taken Acted). BracketsAs c.args.s.now c.args.q c.args.line.now (full c.args.z b) (record { write = c.args.write; lent = c.args.out.now; at = c.args.at }) (seen_if x b) c.perform.new.out) (sym c.from_residual.ensures)
+    (rejects c.args.s.now c.args.q c.args.line.now c.args.z (record { write = c.args.write; lent = c.args.out.now; at = c.args.at }) l.c-index l.env l.n l.sets l.to l.out b (l.invariant.1.1 b) (omega arith) j.result j.ensures (get_or l.sets j.result _) _ few l.invariant.1.0 (get_d_any l.sets j.result _ bare_saved (omega (arith, few, l.invariant.1.0))) c.in_err-done.ensures)
 
 pub overflow_add-n : goal.overflow_add-n
 overflow_add-n c =
@@ -68,15 +65,14 @@ pub loop-c-preserved : goal.loop-c-preserved
 loop-c-preserved c =
     let l = c.loop-c in
     let j = c.slot-j in
-    let r = c.perform-done in
-    let few : j.result < most_sets = omega (arith, c.if-j-ge-SETS.false) in
-    let done : r.result.ok ≡ true = on _ c.if-not-done.false in (
-      search (c.perform-done.auto.out, l.invariant.0, rules),
+    let r = c.in_ok-done in
+    let few : j.result < most_sets = omega (arith, c.if-j-ge-SETS.false) in (
+      search (c.perform.auto.out, l.invariant.0, rules),
       (
         elim c.if-c-eq0.branch [ then-c-eq0 w ↦ ap length w.sets-is ∙ length-set l.sets j.result _ ∙ l.invariant.1.0 | else-c-eq0 w ↦ ap length w.sets-is ∙ l.invariant.1.0 ],
         λ b. elim c.if-c-eq0.branch [
-          | then-c-eq0 w ↦ even_goes c.args.s.now c.args.q c.args.line.now c.args.z (record { write = c.args.write; lent = c.args.out.now; at = c.args.at }) l.c-index l.env l.n l.sets l.to l.out b (l.invariant.1.1 b) (omega arith) j.result j.ensures (get_or l.sets j.result _) r.result _ r.ensures few w.if-c-eq0.true done _ _ _ w.n-is w.sets-is w.env-is
-          | else-c-eq0 w ↦ odd_goes c.args.s.now c.args.q c.args.line.now c.args.z (record { write = c.args.write; lent = c.args.out.now; at = c.args.at }) l.c-index l.env l.n l.sets l.to l.out b (l.invariant.1.1 b) (omega arith) j.result j.ensures (get_or l.sets j.result _) r.result _ r.ensures few l.invariant.1.0 (get_d_any l.sets j.result _ bare_saved (omega (arith, few, l.invariant.1.0))) w.if-c-eq0.false done _ _ _ w.n-is w.sets-is w.env-is
+          | then-c-eq0 w ↦ even_goes c.args.s.now c.args.q c.args.line.now c.args.z (record { write = c.args.write; lent = c.args.out.now; at = c.args.at }) l.c-index l.env l.n l.sets l.to l.out b (l.invariant.1.1 b) (omega arith) j.result j.ensures (get_or l.sets j.result _) _ few _ r.ensures w.if-c-eq0.true _ _ _ w.n-is w.sets-is w.env-is
+          | else-c-eq0 w ↦ odd_goes c.args.s.now c.args.q c.args.line.now c.args.z (record { write = c.args.write; lent = c.args.out.now; at = c.args.at }) l.c-index l.env l.n l.sets l.to l.out b (l.invariant.1.1 b) (omega arith) j.result j.ensures (get_or l.sets j.result _) _ few l.invariant.1.0 (get_d_any l.sets j.result _ bare_saved (omega (arith, few, l.invariant.1.0))) _ r.ensures w.if-c-eq0.false _ _ _ w.n-is w.sets-is w.env-is
         ],
       ),
     )
@@ -89,7 +85,7 @@ pub returns : goal.returns
 returns c =
     let l = c.loop-c in
     let e : l.c-index ≡ length c.args.line.now = omega arith in
-    λ b. subst (λ (h : Live). BracketsAs c.args.s.now c.args.q c.args.line.now (full c.args.z b) (record { write = c.args.write; lent = c.args.out.now; at = c.args.at }) (record { ok = true; at = l.to; state = full h b }) l.out)
+    λ b. subst (λ (h : Live). BracketsAs c.args.s.now c.args.q c.args.line.now (full c.args.z b) (record { write = c.args.write; lent = c.args.out.now; at = c.args.at }) (Some (record { at = l.to; state = full h b })) l.out)
     (ap (λ (n : ℕ). standing_at c.args.z n l.env l.n l.sets) e ∙ sym c.standing.ensures)
     (none_left c.args.s.now c.args.q c.args.line.now (full c.args.z b) (record { write = c.args.write; lent = c.args.out.now; at = c.args.at }) l.c-index (full (standing_at c.args.z l.c-index l.env l.n l.sets) b) l.to l.out (l.invariant.1.1 b) c.requires.line_len_bound (omega arith))
 

@@ -29,26 +29,26 @@ returns-then-passes c =
     passes_blanks c.args.s.now c.args.part.now (full c.args.run.live c.args.stack.now) c.args.out.now c.args.from c.args.run.at c.requires.from_in_bounds c.requires.at_in_bounds c.requires.count_le_most_visits
     (subst (λ (x : Bool). PassesAs c.args.s.now (full c.args.run.live c.args.stack.now) x) c.if-passes.true c.passes.ensures) _ c.blanks.ensures
 
-pub probe-tried-requires : goal.probe-tried-requires
-probe-tried-requires c =
+pub probe-requires : goal.probe-requires
+probe-requires c =
     record { laid_out = c.requires.laid_out; ready_at = c.requires.ready_at; count_le_most_visits = c.requires.count_le_most_visits }
 
-pub shape_of-out-then-not-tried : goal.shape_of-out-then-not-tried
-shape_of-out-then-not-tried c = ap length c.probe-tried.ensures.out_unchanged
+pub shape_of-out-in_default : goal.shape_of-out-in_default
+shape_of-out-in_default c = ap length c.probe.ensures.out_unchanged
 
-pub returns-then-not-tried : goal.returns-then-not-tried
-returns-then-not-tried c =
-    stays_after c.args.s.now c.args.part.now (full c.args.run.live c.args.stack.now) c.args.out.now c.args.from c.args.run.at c.requires.from_in_bounds c.requires.at_in_bounds c.requires.count_le_most_visits _ c.probe-tried.ensures.out_unchanged
+pub returns-in_default : goal.returns-in_default
+returns-in_default c =
+    stays_after c.args.s.now c.args.part.now (full c.args.run.live c.args.stack.now) c.args.out.now c.args.from c.args.run.at c.requires.from_in_bounds c.requires.at_in_bounds c.requires.count_le_most_visits _ c.probe.ensures.out_unchanged
 
 pub characters-requires : goal.characters-requires
 characters-requires c =
-    record { from_in_bounds = c.requires.from_in_bounds; put_in_bounds = omega (arith, c.requires.at_in_bounds, ap length c.probe-tried.ensures.out_unchanged); k_le_most_visits = c.probe-tried.ensures.probed_as.few; n_le_most_visits = c.requires.count_le_most_visits }
+    record { from_in_bounds = c.requires.from_in_bounds; put_in_bounds = omega (arith, c.requires.at_in_bounds, ap length c.probe.ensures.out_unchanged); k_le_most_visits = (rw c.in-Some.is at c.probe.ensures.probed_as).few; n_le_most_visits = c.requires.count_le_most_visits }
 
 pub shape_of-out : goal.shape_of-out
-shape_of-out c = c.characters.ensures.long ∙ ap length c.probe-tried.ensures.out_unchanged
+shape_of-out c = c.characters.ensures.long ∙ ap length c.probe.ensures.out_unchanged
 
 pub returns : goal.returns
 returns c =
     takes_after c.args.s.now c.args.part.now (full c.args.run.live c.args.stack.now) c.args.out.now c.args.from c.args.run.at c.requires.from_in_bounds c.requires.at_in_bounds c.requires.count_le_most_visits
-    (subst (λ (x : Bool). PassesAs c.args.s.now (full c.args.run.live c.args.stack.now) x) c.if-passes.false c.passes.ensures) c.probe-tried.result.visits
-    (c.probe-tried.ensures.probed_as.right (not-false _ c.if-not-tried.false)) _ c.probe-tried.ensures.out_unchanged _ _ c.characters.ensures
+    (subst (λ (x : Bool). PassesAs c.args.s.now (full c.args.run.live c.args.stack.now) x) c.if-passes.false c.passes.ensures) c.in-Some.visits
+    (rw c.in-Some.is at c.probe.ensures.probed_as).right _ c.probe.ensures.out_unchanged _ _ c.characters.ensures

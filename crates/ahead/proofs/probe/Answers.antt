@@ -11,19 +11,19 @@ character-tried-requires c =
 
 pub returns-then-tried-ne0 : goal.returns-then-tried-ne0
 returns-then-tried-ne0 c =
-    record { probed_as = not_probed c.args.s.now (full c.args.z c.args.stack.now) _ c.not_steady-then-tried-ne0.ensures; out_unchanged = c.character-tried.ensures.dry refl }
+    record { probed_as = not_probed c.args.s.now (full c.args.z c.args.stack.now); out_unchanged = c.character-tried.ensures.dry refl }
 
 pub returns-then-tried-width : goal.returns-then-tried-width
 returns-then-tried-width c =
-    record { probed_as = not_probed c.args.s.now (full c.args.z c.args.stack.now) _ c.not_steady-then-tried-width.ensures; out_unchanged = c.character-tried.ensures.dry refl }
+    record { probed_as = not_probed c.args.s.now (full c.args.z c.args.stack.now); out_unchanged = c.character-tried.ensures.dry refl }
 
 pub returns-then-y-z : goal.returns-then-y-z
 returns-then-y-z c =
-    record { probed_as = not_probed c.args.s.now (full c.args.z c.args.stack.now) _ c.not_steady-then-y-z.ensures; out_unchanged = c.character-tried.ensures.dry refl }
+    record { probed_as = not_probed c.args.s.now (full c.args.z c.args.stack.now); out_unchanged = c.character-tried.ensures.dry refl }
 
 pub returns-then-not-same_state : goal.returns-then-not-same_state
 returns-then-not-same_state c =
-    record { probed_as = not_probed c.args.s.now (full c.args.z c.args.stack.now) _ c.not_steady-then-not-same_state.ensures; out_unchanged = c.character-tried.ensures.dry refl }
+    record { probed_as = not_probed c.args.s.now (full c.args.z c.args.stack.now); out_unchanged = c.character-tried.ensures.dry refl }
 
 pub returns : goal.returns
 returns c =
@@ -31,4 +31,4 @@ returns c =
 
 pub returns-then-f-eq0 : goal.returns-then-f-eq0
 returns-then-f-eq0 c =
-    record { probed_as = not_probed c.args.s.now (full c.args.z c.args.stack.now) _ c.not_steady.ensures; out_unchanged = refl }
+    record { probed_as = not_probed c.args.s.now (full c.args.z c.args.stack.now); out_unchanged = refl }

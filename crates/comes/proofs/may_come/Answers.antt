@@ -7,30 +7,18 @@ use borrow.Author.Rules.{rules}
 use Rattle.comes.proofs.may_come.Goals as goal
 
 -- src/lib.rt:43:21
-pub slice_bounds-all_alike-end : goal.slice_bounds-all_alike-end
-slice_bounds-all_alike-end c = search rules
-
 -- src/lib.rt:43:5
 pub all_alike-requires : goal.all_alike-requires
 all_alike-requires c = record { laid_out = c.requires.laid_out; known_len = search rules; zeros = zeros 4096 }
 
 -- src/lib.rt:44:32
-pub slice_bounds-count_from-end : goal.slice_bounds-count_from-end
-slice_bounds-count_from-end c = search rules
-
 -- src/lib.rt:44:9
 pub count_from-end-requires : goal.count_from-end-requires
 count_from-end-requires c =
     record { laid_out = c.requires.laid_out; runs_inside = runs_inside _ c.requires.well_formed.productions; trees = c.requires.well_formed.trees; all_alike = c.all_alike.ensures; sums_len = c.requires.sums_len; q_lt_productions = c.requires.q_lt_productions }
 
 -- src/lib.rt:45:5
-pub is_some-requires : goal.is_some-requires
-is_some-requires c = search rules
-
 -- src/lib.rt:34:1
-pub shape_of-sums : goal.shape_of-sums
-shape_of-sums c = search rules
-
 -- src/lib.rt:34:1
 pub returns : goal.returns
 returns c =

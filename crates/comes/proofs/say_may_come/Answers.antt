@@ -6,13 +6,7 @@ use Rattle.comes.proofs.say_may_come.Goals as goal
 
 -- Without a defect the sheet is laid out and well-formed.
 -- src/lib.rt:113:8
-pub defect-requires : goal.defect-requires
-defect-requires c = search rules
-
 -- src/lib.rt:114:9
-pub returns-then-defect-gt0 : goal.returns-then-defect-gt0
-returns-then-defect-gt0 c = search rules
-
 -- src/lib.rt:116:9
 pub layout_of-l-requires : goal.layout_of-l-requires
 layout_of-l-requires c = (no_defect c.defect.ensures (omega arith)).size.least
@@ -24,5 +18,3 @@ say_there-requires c =
     record { laid_out = laid_out c.layout_of-l.ensures w.size w.sections; well_formed = w }
 
 -- src/lib.rt:112:1
-pub returns : goal.returns
-returns c = search rules

@@ -2,8 +2,5 @@ use borrow.Author.Rules.{rules}
 use Rattle.drafts.proofs.Stays.{unbraced_is}
 use Rattle.drafts.proofs.unbrace.Goals as goal
 
-pub place_of-w-requires : goal.place_of-w-requires
-place_of-w-requires c = search rules
-
 pub returns : goal.returns
 returns c = search (unbraced_is, rules)

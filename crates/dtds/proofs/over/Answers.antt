@@ -11,31 +11,31 @@ loop-at-init c =
 pub stride-s-requires : goal.stride-s-requires
 stride-s-requires c = record { at_in_bounds = omega arith; read_up_to = c.loop-at.invariant }
 
-pub shape_of-names-then-s-ne0 : goal.shape_of-names-then-s-ne0
-shape_of-names-then-s-ne0 c = c.stride-s.ensures.rooms.name_room.room ∙ sym c.requires.name_room.room
+pub shape_of-names-in-Some : goal.shape_of-names-in-Some
+shape_of-names-in-Some c = c.stride-s.ensures.rooms.name_room.room ∙ sym c.requires.name_room.room
 
-pub shape_of-nameends-then-s-ne0 : goal.shape_of-nameends-then-s-ne0
-shape_of-nameends-then-s-ne0 c = c.stride-s.ensures.rooms.name_room.places ∙ sym c.requires.name_room.places
+pub shape_of-nameends-in-Some : goal.shape_of-nameends-in-Some
+shape_of-nameends-in-Some c = c.stride-s.ensures.rooms.name_room.places ∙ sym c.requires.name_room.places
 
-pub shape_of-tags-then-s-ne0 : goal.shape_of-tags-then-s-ne0
-shape_of-tags-then-s-ne0 c = c.stride-s.ensures.rooms.tag_room.room ∙ sym c.requires.tag_room.room
+pub shape_of-tags-in-Some : goal.shape_of-tags-in-Some
+shape_of-tags-in-Some c = c.stride-s.ensures.rooms.tag_room.room ∙ sym c.requires.tag_room.room
 
-pub shape_of-tagends-then-s-ne0 : goal.shape_of-tagends-then-s-ne0
-shape_of-tagends-then-s-ne0 c = c.stride-s.ensures.rooms.tag_room.places ∙ sym c.requires.tag_room.places
+pub shape_of-tagends-in-Some : goal.shape_of-tagends-in-Some
+shape_of-tagends-in-Some c = c.stride-s.ensures.rooms.tag_room.places ∙ sym c.requires.tag_room.places
 
-pub shape_of-productions-then-s-ne0 : goal.shape_of-productions-then-s-ne0
-shape_of-productions-then-s-ne0 c = c.stride-s.ensures.rooms.section_room.production_room ∙ sym c.requires.section_room.production_room
+pub shape_of-productions-in-Some : goal.shape_of-productions-in-Some
+shape_of-productions-in-Some c = c.stride-s.ensures.rooms.section_room.production_room ∙ sym c.requires.section_room.production_room
 
-pub shape_of-nodes-then-s-ne0 : goal.shape_of-nodes-then-s-ne0
-shape_of-nodes-then-s-ne0 c = c.stride-s.ensures.rooms.section_room.node_room ∙ sym c.requires.section_room.node_room
+pub shape_of-nodes-in-Some : goal.shape_of-nodes-in-Some
+shape_of-nodes-in-Some c = c.stride-s.ensures.rooms.section_room.node_room ∙ sym c.requires.section_room.node_room
 
-pub returns-then-s-ne0 : goal.returns-then-s-ne0
-returns-then-s-ne0 c =
-    byte_halted c.args.text.now c.loop-at.at c.stride-s.result _ _ _ _ _ _ c.args.area.now c.stride-s.ensures c.if-s-ne0.true
+pub returns-in-Some : goal.returns-in-Some
+returns-in-Some c =
+    byte_halted c.args.text.now c.loop-at.at c.stride-s.result _ _ _ _ _ _ c.args.area.now c.stride-s.ensures _ c.in-Some.is
 
 pub loop-at-preserved : goal.loop-at-preserved
 loop-at-preserved c =
-    byte_onward c.args.text.now c.loop-at.at c.stride-s.result _ _ _ _ _ _ c.stride-s.ensures c.if-s-ne0.false
+    byte_onward c.args.text.now c.loop-at.at c.stride-s.result _ _ _ _ _ _ c.stride-s.ensures c.in_default.is
 
 pub settle-requires : goal.settle-requires
 settle-requires c =

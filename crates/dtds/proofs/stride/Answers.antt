@@ -1,5 +1,4 @@
 use Rattle.dtds.proofs.Strides.{next_byte, between_byte}
-use borrow.Author.Rules.{rules}
 use Rattle.dtds.proofs.stride.Goals as goal
 
 pub returns-then-s : goal.returns-then-s

@@ -14,9 +14,6 @@ pub bounds-x-i : goal.bounds-x-i
 bounds-x-i c = omega arith
 
 -- src/lib.rt:47:12
-pub blank-requires : goal.blank-requires
-blank-requires c = search rules
-
 -- src/lib.rt:48:13
 pub overflow_add-i : goal.overflow_add-i
 overflow_add-i c = omega arith

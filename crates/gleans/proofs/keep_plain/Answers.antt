@@ -1,5 +1,3 @@
-use borrow.Author.Rules.{rules}
-use native.Mathlib.Omega.{arith}
 use Rattle.gleans.proofs.Laws.{no_print, print_cut, print_kept}
 use Rattle.gleans.proofs.keep_plain.Goals as goal
 

@@ -1,4 +1,3 @@
-use borrow.Author.Rules.{rules}
 use native.Mathlib.Omega.{arith}
 use Rattle.stores.specs.declared.Filed.{Filed}
 use Rattle.gleans.proofs.Laws.{no_string, string_kept, one_more_end}

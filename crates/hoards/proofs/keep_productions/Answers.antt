@@ -1,7 +1,7 @@
 use native.Mathlib.Omega.{arith}
 use Rattle.layout.specs.Layout.{production_count}
 use Rattle.layout.specs.Records.{first_program_of, second_program_of}
-use Rattle.hoards.proofs.Laws.{each_left, one_less, one_full, none_left, kept, not_kept}
+use Rattle.hoards.proofs.Laws.{each_left, one_less, one_full, none_left}
 use Rattle.hoards.proofs.keep_productions.Goals as goal
 
 pub loop-q-init : goal.loop-q-init
@@ -13,24 +13,18 @@ first_program_of-first-requires c = record { laid_out = c.requires.laid_out; q_l
 pub second_program_of-second-requires : goal.second_program_of-second-requires
 second_program_of-second-requires c = record { laid_out = c.requires.laid_out; q_lt_productions = omega arith }
 
-pub keep_both-kept-requires : goal.keep_both-kept-requires
-keep_both-kept-requires c = record { laid_out = c.requires.laid_out; has_rows = c.loop-q.invariant.rows }
+pub keep_both-requires : goal.keep_both-requires
+keep_both-requires c = record { laid_out = c.requires.laid_out; has_rows = c.loop-q.invariant.rows }
 
-pub shape_of-bytes-then-not-kept : goal.shape_of-bytes-then-not-kept
-shape_of-bytes-then-not-kept c = omega (arith, c.keep_both-kept.ensures.same_bytes, c.loop-q.invariant.as_many_bytes)
-
-pub shape_of-ends-then-not-kept : goal.shape_of-ends-then-not-kept
-shape_of-ends-then-not-kept c = omega (arith, c.keep_both-kept.ensures.same_ends, c.loop-q.invariant.as_many_ends)
-
-pub returns-then-not-kept : goal.returns-then-not-kept
-returns-then-not-kept c =
+pub returns-in_err-n : goal.returns-in_err-n
+returns-in_err-n c =
     let l = c.loop-q in
-    one_full c.args.s.now (first_program_of c.args.s.now) (second_program_of c.args.s.now) (production_count c.args.s.now) c.args.bytes.now c.args.ends.now c.args.count l.q l.n l.bytes l.ends (omega (arith, c.requires.laid_out.layout_is.productions_is.is)) l.invariant _ _ c.first_program_of-first.ensures.is c.second_program_of-second.ensures.is _ _ _ c.keep_both-kept.ensures (not_kept _ c.if-not-kept.true)
+    one_full c.args.s.now (first_program_of c.args.s.now) (second_program_of c.args.s.now) (production_count c.args.s.now) c.args.bytes.now c.args.ends.now c.args.count l.q l.n l.bytes l.ends (omega (arith, c.requires.laid_out.layout_is.productions_is.is)) l.invariant _ _ c.first_program_of-first.ensures.is c.second_program_of-second.ensures.is _ _ _ c.from_residual.ensures c.in_err-n.ensures
 
 pub loop-q-preserved : goal.loop-q-preserved
 loop-q-preserved c =
     let l = c.loop-q in
-    one_less c.args.s.now (first_program_of c.args.s.now) (second_program_of c.args.s.now) (production_count c.args.s.now) c.args.bytes.now c.args.ends.now c.args.count l.q l.n l.bytes l.ends (omega (arith, c.requires.laid_out.layout_is.productions_is.is)) l.invariant _ _ c.first_program_of-first.ensures.is c.second_program_of-second.ensures.is _ _ _ c.keep_both-kept.ensures (kept _ c.if-not-kept.false)
+    one_less c.args.s.now (first_program_of c.args.s.now) (second_program_of c.args.s.now) (production_count c.args.s.now) c.args.bytes.now c.args.ends.now c.args.count l.q l.n l.bytes l.ends (omega (arith, c.requires.laid_out.layout_is.productions_is.is)) l.invariant _ _ c.first_program_of-first.ensures.is c.second_program_of-second.ensures.is _ _ _ c.in_ok-n.ensures
 
 pub shape_of-bytes : goal.shape_of-bytes
 shape_of-bytes c = c.loop-q.invariant.as_many_bytes

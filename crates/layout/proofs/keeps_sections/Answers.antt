@@ -1,5 +1,4 @@
 use native.Mathlib.Omega.{arith}
-use borrow.Author.Rules.{rules}
 use Rattle.layout.proofs.Laws.{sections_told}
 use Rattle.layout.proofs.keeps_sections.Goals as goal
 

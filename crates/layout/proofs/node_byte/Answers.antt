@@ -1,4 +1,3 @@
-use borrow.Author.Rules.{rules}
 use Rattle.layout.proofs.node_byte.Goals as goal
 
 -- The byte that was read lies at the node's own place, as the layout has the section's offset.

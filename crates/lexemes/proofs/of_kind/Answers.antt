@@ -23,9 +23,6 @@ sign-requires c = (omega arith, c.if-k-lt34.true)
 pub returns-then-k-lt34 : goal.returns-then-k-lt34
 returns-then-k-lt34 c = only_read c.args.may c.args.k c.args.x.now c.sign.result c.if-may.true c.sign.ensures
 
-pub plain-requires : goal.plain-requires
-plain-requires c = search rules
-
 pub returns-then-may : goal.returns-then-may
 returns-then-may c = only_read c.args.may c.args.k c.args.x.now c.plain.result c.if-may.true (word_read EMPTY c.args.k c.args.x.now c.plain.result (omega (arith, c.requires)) c.plain.ensures)
 

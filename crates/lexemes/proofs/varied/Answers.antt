@@ -27,9 +27,6 @@ pub numbered-requires-in-4 : goal.numbered-requires-in-4
 numbered-requires-in-4 c = omega arith
 
 -- src/lib.rt:16:14
-pub name-requires : goal.name-requires
-name-requires c = search rules
-
 -- src/lib.rt:17:14
 pub tag-requires : goal.tag-requires
 tag-requires c = (omega arith, refl)
@@ -43,9 +40,6 @@ pub tag-requires-in-8 : goal.tag-requires-in-8
 tag-requires-in-8 c = (omega arith, refl)
 
 -- src/lib.rt:20:14
-pub string-requires : goal.string-requires
-string-requires c = search rules
-
 -- src/lib.rt:6:1
 pub returns-in-0 : goal.returns-in-0
 returns-in-0 c = nonterminal_read c.args.k c.args.x.now c.numbered.result c.in-0.is c.numbered.ensures

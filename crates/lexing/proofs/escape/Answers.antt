@@ -18,9 +18,6 @@ pub bounds-y-1 : goal.bounds-y-1
 bounds-y-1 c = omega (arith, c.requires)
 
 -- src/lib.rt:222:8
-pub is_escape-requires : goal.is_escape-requires
-is_escape-requires c = search rules
-
 -- src/lib.rt:223:9
 pub returns-then-is_escape : goal.returns-then-is_escape
 returns-then-is_escape c = escape_found c.args.room c.args.y.now (omega arith) (omega (arith, c.requires.0)) c.requires.1 (sym c.is_escape.ensures ∙ c.if-is_escape.true)

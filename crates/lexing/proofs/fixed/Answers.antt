@@ -7,45 +7,21 @@ use Rattle.lexing.proofs.fixed.Goals as goal
 
 -- Each answer is a law of spellings.
 -- src/lib.rt:45:9
-pub common-k-requires : goal.common-k-requires
-common-k-requires c = search rules
-
 -- src/lib.rt:47:9
 pub returns-then-k-a : goal.returns-then-k-a
 returns-then-k-a c = let a = c.args in fixed_first a.x.now a.a.now a.b.now a.n c.common-k.result (stops_at a.joins) c.common-k.ensures c.if-k-a.true
 
 -- src/lib.rt:49:20
-pub slice_bounds-common-count : goal.slice_bounds-common-count
-slice_bounds-common-count c = search rules
-
 -- src/lib.rt:49:20
-pub slice_bounds-common-start : goal.slice_bounds-common-start
-slice_bounds-common-start c = search rules
-
 -- src/lib.rt:49:20
-pub slice_bounds-common-end : goal.slice_bounds-common-end
-slice_bounds-common-end c = search rules
-
 -- src/lib.rt:49:9
-pub common-m-requires : goal.common-m-requires
-common-m-requires c = search rules
-
 -- src/lib.rt:50:14
-pub overflow_add-to : goal.overflow_add-to
-overflow_add-to c = search rules
-
 -- src/lib.rt:52:9
 pub returns-then-m-b : goal.returns-then-m-b
 returns-then-m-b c = let a = c.args in fixed_second a.x.now a.a.now a.b.now a.n c.common-k.result c.common-m.result c.common-k.ensures (omega arith) c.common-m.ensures (stops_at a.joins) c.if-m-b.true
 
 -- src/lib.rt:56:26
-pub bounds-x-to : goal.bounds-x-to
-bounds-x-to c = search rules
-
 -- src/lib.rt:56:16
-pub word_byte-requires : goal.word_byte-requires
-word_byte-requires c = search rules
-
 -- src/lib.rt:57:17
 pub returns-then-word_byte : goal.returns-then-word_byte
 returns-then-word_byte c = let a = c.args in fixed_joined a.x.now a.a.now a.b.now a.n c.common-k.result c.common-m.result c.common-k.ensures (omega arith) c.common-m.ensures (omega arith) a.joins c.if-joins.true (omega arith) (sym c.word_byte.ensures ∙ c.if-word_byte.true)

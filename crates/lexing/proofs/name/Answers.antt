@@ -7,21 +7,12 @@ use Rattle.lexing.proofs.name.Goals as goal
 
 -- Each answer is a law of names.
 -- src/lib.rt:137:9
-pub name_run-n-requires : goal.name_run-n-requires
-name_run-n-requires c = search rules
-
 -- src/lib.rt:139:9
 pub returns-then-n-eq0 : goal.returns-then-n-eq0
 returns-then-n-eq0 c = let a = c.args in no_name a.x.now (subst (NameRun a.x.now) c.if-n-eq0.true c.name_run-n.ensures)
 
 -- src/lib.rt:142:28
-pub bounds-x-n : goal.bounds-x-n
-bounds-x-n c = search rules
-
 -- src/lib.rt:142:12
-pub name_byte-requires : goal.name_byte-requires
-name_byte-requires c = search rules
-
 -- src/lib.rt:143:13
 pub returns-then-name_byte : goal.returns-then-name_byte
 returns-then-name_byte c = let a = c.args in name_long a.x.now c.name_run-n.result (omega arith) c.name_run-n.ensures c.if-n-x.true (sym c.name_byte.ensures ∙ c.if-name_byte.true)

@@ -9,49 +9,19 @@ use Rattle.lexing.proofs.one_number.Goals as goal
 
 -- The digits are those of `decimal`.
 -- src/lib.rt:85:19
-pub overflow_add-w : goal.overflow_add-w
-overflow_add-w c = search rules
-
 -- src/lib.rt:85:18
-pub overflow_cast-w : goal.overflow_cast-w
-overflow_cast-w c = search rules
-
 -- src/lib.rt:86:28
-pub slice_bounds-fixed-end : goal.slice_bounds-fixed-end
-slice_bounds-fixed-end c = search rules
-
 -- src/lib.rt:86:9
-pub fixed-requires : goal.fixed-requires
-fixed-requires c = search rules
-
 -- src/lib.rt:86:9
 pub returns-then-n-lt10 : goal.returns-then-n-lt10
 returns-then-n-lt10 c = let a = c.args in subst (λ z. ReadIs (OneSpelling (a.a.now ++ z) a.n) (stops_at true) a.x.now c.fixed.result) (sym (one_digit a.n c.if-n-lt10.true)) c.fixed.ensures
 
 -- src/lib.rt:88:15
-pub overflow_add-w-2 : goal.overflow_add-w-2
-overflow_add-w-2 c = search rules
-
 -- src/lib.rt:88:14
-pub overflow_cast-w-2 : goal.overflow_cast-w-2
-overflow_cast-w-2 c = search rules
-
 -- src/lib.rt:88:36
-pub overflow_add-w-3 : goal.overflow_add-w-3
-overflow_add-w-3 c = search rules
-
 -- src/lib.rt:88:35
-pub overflow_cast-w-3 : goal.overflow_cast-w-3
-overflow_cast-w-3 c = search rules
-
 -- src/lib.rt:89:17
-pub slice_bounds-fixed-end-2 : goal.slice_bounds-fixed-end-2
-slice_bounds-fixed-end-2 c = search rules
-
 -- src/lib.rt:89:5
-pub fixed-requires-2 : goal.fixed-requires-2
-fixed-requires-2 c = search rules
-
 -- src/lib.rt:80:1
 pub returns : goal.returns
 returns c = let a = c.args in subst (λ z. ReadIs (OneSpelling (a.a.now ++ z) a.n) (stops_at true) a.x.now c.fixed-2.result) (sym (two_digits a.n (omega arith))) c.fixed-2.ensures

@@ -20,9 +20,6 @@ pub escape-requires : goal.escape-requires
 escape-requires c = (omega arith, c.if-a-eq92.true)
 
 -- src/lib.rt:238:9
-pub returns-then-a-eq92 : goal.returns-then-a-eq92
-returns-then-a-eq92 c = search rules
-
 -- src/lib.rt:241:9
 pub returns-then-a-eq34 : goal.returns-then-a-eq34
 returns-then-a-eq34 c = no_piece c.args.room c.args.y.now (omega arith) c.if-a-eq92.false (inl c.if-a-eq34.true)
@@ -32,17 +29,11 @@ pub returns-then-a-lt32 : goal.returns-then-a-lt32
 returns-then-a-lt32 c = no_piece c.args.room c.args.y.now (omega arith) c.if-a-eq92.false (inr (inl c.if-a-lt32.true))
 
 -- src/lib.rt:246:15
-pub width-requires : goal.width-requires
-width-requires c = search rules
-
 -- src/lib.rt:247:9
 pub returns-then-room-width : goal.returns-then-room-width
 returns-then-room-width c = no_piece c.args.room c.args.y.now (omega arith) c.if-a-eq92.false (inr (inr (subst (λ z. c.args.room < z) c.width.ensures c.if-room-width.true)))
 
 -- src/lib.rt:249:5
-pub one_character-requires : goal.one_character-requires
-one_character-requires c = search rules
-
 -- src/lib.rt:230:1
 pub returns : goal.returns
 returns c = piece_itself c.args.room c.args.y.now c.one_character.result (omega arith) c.if-a-eq92.false c.if-a-eq34.false (omega arith) (subst (λ z. z ≤ c.args.room) c.width.ensures (omega arith)) c.one_character.ensures

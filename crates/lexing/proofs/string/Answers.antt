@@ -53,13 +53,7 @@ pub overflow_sub-n : goal.overflow_sub-n
 overflow_sub-n c = omega arith
 
 -- src/lib.rt:268:15
-pub piece-requires : goal.piece-requires
-piece-requires c = search rules
-
 -- src/lib.rt:269:26
-pub enum_known-m : goal.enum_known-m
-enum_known-m c = search rules
-
 -- src/lib.rt:270:17
 pub overflow_add-n : goal.overflow_add-n
 overflow_add-n c = let l = c.loop-i in let x = c.args.x.now in let m = string_more x l.i l.n l.invariant.0 l.invariant.1 l.invariant.2 _ _ (read_as (PieceSpelling (255 - l.n)) nothing (part x l.i) c.piece.result (Tried.Whole _ _) c.in-Whole.is c.piece.ensures) in omega (arith, m.1)
@@ -77,9 +71,6 @@ pub loop-i-preserved : goal.loop-i-preserved
 loop-i-preserved c = let l = c.loop-i in let x = c.args.x.now in let m = string_more x l.i l.n l.invariant.0 l.invariant.1 l.invariant.2 _ _ (read_as (PieceSpelling (255 - l.n)) nothing (part x l.i) c.piece.result (Tried.Whole _ _) c.in-Whole.is c.piece.ensures) in (m.3, omega (arith, m.1), m.0)
 
 -- src/lib.rt:273:26
-pub enum_known-k : goal.enum_known-k
-enum_known-k c = search rules
-
 -- src/lib.rt:273:52
 pub overflow_add-result-in-Stuck : goal.overflow_add-result-in-Stuck
 overflow_add-result-in-Stuck c = let l = c.loop-i in let x = c.args.x.now in omega (arith, stuck_reached x l.i (255 - l.n) _ (read_as (PieceSpelling (255 - l.n)) nothing (part x l.i) c.piece.result (Tried.Stuck _) c.in-Stuck.is c.piece.ensures))

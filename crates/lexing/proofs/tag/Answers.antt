@@ -9,29 +9,14 @@ use Rattle.lexing.proofs.tag.Goals as goal
 
 -- Each answer is a law of tags.
 -- src/lib.rt:155:9
-pub common-k-requires : goal.common-k-requires
-common-k-requires c = search rules
-
 -- src/lib.rt:157:9
 pub returns-then-k-a : goal.returns-then-k-a
 returns-then-k-a c = let a = c.args in tag_differs a.x.now a.a.now a.b.now c.common-k.result c.common-k.ensures c.if-k-a.true
 
 -- src/lib.rt:159:22
-pub slice_bounds-name_run-count : goal.slice_bounds-name_run-count
-slice_bounds-name_run-count c = search rules
-
 -- src/lib.rt:159:22
-pub slice_bounds-name_run-start : goal.slice_bounds-name_run-start
-slice_bounds-name_run-start c = search rules
-
 -- src/lib.rt:159:22
-pub slice_bounds-name_run-end : goal.slice_bounds-name_run-end
-slice_bounds-name_run-end c = search rules
-
 -- src/lib.rt:159:9
-pub name_run-n-requires : goal.name_run-n-requires
-name_run-n-requires c = search rules
-
 -- src/lib.rt:161:9
 pub returns-then-n-eq0 : goal.returns-then-n-eq0
 returns-then-n-eq0 c =
@@ -40,29 +25,11 @@ returns-then-n-eq0 c =
     tag_no_name a.x.now a.a.now a.b.now k c.common-k.ensures (omega arith) (subst (λ z. NameRun z 0) (part_is a.x.now k) (subst (NameRun _) c.if-n-eq0.true c.name_run-n.ensures))
 
 -- src/lib.rt:163:14
-pub overflow_add-to : goal.overflow_add-to
-overflow_add-to c = search rules
-
 -- src/lib.rt:164:20
-pub slice_bounds-common-count : goal.slice_bounds-common-count
-slice_bounds-common-count c = search rules
-
 -- src/lib.rt:164:20
-pub slice_bounds-common-start : goal.slice_bounds-common-start
-slice_bounds-common-start c = search rules
-
 -- src/lib.rt:164:20
-pub slice_bounds-common-end : goal.slice_bounds-common-end
-slice_bounds-common-end c = search rules
-
 -- src/lib.rt:164:9
-pub common-m-requires : goal.common-m-requires
-common-m-requires c = search rules
-
 -- src/lib.rt:165:15
-pub overflow_add-end : goal.overflow_add-end
-overflow_add-end c = search rules
-
 -- src/lib.rt:167:9
 pub returns-then-m-b : goal.returns-then-m-b
 returns-then-m-b c =

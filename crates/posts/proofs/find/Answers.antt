@@ -1,29 +1,40 @@
-use Prim.Native.Nat.{◌-◌}
 use native.Mathlib.Omega.{arith}
-use Rattle.posts.proofs.Walking.{onward_first, past_it, onward_next, onward_found, onward_ended}
+use Rattle.posts.proofs.Walking.{onward_first, token_reach, onward_next, onward_found, onward_ended}
 use borrow.Author.Rules.{rules}
 use Rattle.posts.proofs.find.Goals as goal
 
-pub loop-g-init : goal.loop-g-init
-loop-g-init c = search (onward_first, rules)
+pub loop-token-init : goal.loop-token-init
+loop-token-init c = search (onward_first, rules)
 
 pub returns-then-meets : goal.returns-then-meets
-returns-then-meets c = search (onward_found, rules)
+returns-then-meets c =
+    let l = c.loop-token in
+    onward_found c.args.text.now c.args.wanted l.from l.m l.reader l.invariant c.look.result c.look.ensures c.in-Ok.token c.in-Ok.is c.meets.result c.meets.ensures c.if-meets.true
 
-pub pass-m-requires : goal.pass-m-requires
-pass-m-requires c =
-    let l = c.loop-g in
-    let y = past_it _ _ l.from l.m l.g l.invariant c.loop-g-test.true in
-    search (y, rules)
+pub pass-m-requires-clause-productions_lt_behind : goal.pass-m-requires-clause-productions_lt_behind
+pass-m-requires-clause-productions_lt_behind c =
+    let l = c.loop-token in
+    let z = token_reach c.args.text.now c.args.wanted l.from l.m l.reader l.invariant c.look.result c.look.ensures c.in-Ok.token c.in-Ok.is in
+    omega (arith, z.0, l.invariant.few_productions)
 
-pub loop-g-smaller : goal.loop-g-smaller
-loop-g-smaller c =
-    let l = c.loop-g in
-    let y = past_it _ _ l.from l.m l.g l.invariant c.loop-g-test.true in
-    omega (arith, y, l.invariant.high)
+pub pass-m-requires-clause-posts_lt_behind : goal.pass-m-requires-clause-posts_lt_behind
+pass-m-requires-clause-posts_lt_behind c =
+    let l = c.loop-token in
+    let z = token_reach c.args.text.now c.args.wanted l.from l.m l.reader l.invariant c.look.result c.look.ensures c.in-Ok.token c.in-Ok.is in
+    omega (arith, z.0, l.invariant.few_posts)
 
-pub loop-g-preserved : goal.loop-g-preserved
-loop-g-preserved c = search (onward_next, rules)
+pub loop-token-smaller : goal.loop-token-smaller
+loop-token-smaller c =
+    let l = c.loop-token in
+    let z = token_reach c.args.text.now c.args.wanted l.from l.m l.reader l.invariant c.look.result c.look.ensures c.in-Ok.token c.in-Ok.is in
+    omega (arith, z.0, z.1)
+
+pub loop-token-preserved : goal.loop-token-preserved
+loop-token-preserved c =
+    let l = c.loop-token in
+    onward_next c.args.text.now c.args.wanted l.from l.m l.reader l.invariant c.look.result c.look.ensures c.in-Ok.token c.in-Ok.is c.meets.result c.meets.ensures c.if-meets.false c.pass-m.result c.pass-m.ensures
 
 pub returns : goal.returns
-returns c = search (onward_ended, rules)
+returns c =
+    let l = c.loop-token in
+    onward_ended c.args.text.now c.args.wanted l.from l.m l.reader l.invariant c.look.result c.look.ensures c.in_default.field-0 c.in_default.is

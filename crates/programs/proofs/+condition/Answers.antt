@@ -1,9 +1,8 @@
-use mathlib.Core.Path.{refl}
 use Prim.Native.Nat.{◌-◌}
 use native.Mathlib.Omega.{arith}
 use mathlib.Core.Logic.{inl, inr}
 use Rattle.programs.proofs.Agree.{condition_agree, condition_some}
-use Rattle.programs.proofs.Reading.{past_end, ends, no_second, in_turn_lem}
+use Rattle.programs.proofs.Reading.{past_end, ends, unread, no_second, in_turn_lem}
 use Rattle.programs.proofs.Forms.{conditions, no_condition, no_inside, negated_at, double_at}
 use Rattle.programs.proofs.+condition.Goals as goal
 
@@ -20,27 +19,29 @@ returns-then-room-eq0 t c =
     let a = c.args in
     no_condition a.s.now a.i (omega (arith, c.if-s-i.false)) a.room c.if-k-eq0.false (inl c.if-room-eq0.true)
 
-pub returns-in_default : goal.returns-in_default
-returns-in_default t c =
+pub returns-in_err-one : goal.returns-in_err-one
+returns-in_err-one t c =
     let a = c.args in
-    no_inside a.s.now a.i (omega (arith, c.if-s-i.false)) a.room c.if-k-eq0.false c.if-room-eq0.false (omega (arith, c.if-k-gt3.false)) (rw c.in_default.is at c.condition.ensures)
+    unread (conditions a.room) c.from_residual.ensures
+    (no_inside a.s.now a.i (omega (arith, c.if-s-i.false)) a.room c.if-k-eq0.false c.if-room-eq0.false (omega (arith, c.if-k-gt3.false)) c.in_err-one.ensures)
 
 pub returns-then-k-eq1 : goal.returns-then-k-eq1
 returns-then-k-eq1 t c =
     let a = c.args in
-    negated_at a.s.now a.i (omega (arith, c.if-s-i.false)) a.room c.if-k-eq0.false c.if-room-eq0.false c.if-k-eq1.true (rw c.in-Whole.is at c.condition.ensures)
+    negated_at a.s.now a.i (omega (arith, c.if-s-i.false)) a.room c.if-k-eq0.false c.if-room-eq0.false c.if-k-eq1.true c.in_ok-one.ensures
 
 pub condition-requires-2 : goal.condition-requires-2
 condition-requires-2 t c =
     let a = c.args in
-    omega (arith, ends (conditions (a.room - 1)) condition_some (rw c.in-Whole.is at c.condition.ensures))
+    omega (arith, ends (conditions (a.room - 1)) condition_some c.in_ok-one.ensures)
 
-pub returns-in_default-condition : goal.returns-in_default-condition
-returns-in_default-condition t c =
+pub returns-in_err-two : goal.returns-in_err-two
+returns-in_err-two t c =
     let a = c.args in
-    double_at a.s.now a.i (omega (arith, c.if-s-i.false)) a.room c.if-k-eq0.false c.if-room-eq0.false c.if-k-eq1.false (omega (arith, c.if-k-gt3.false)) (no_second (conditions (a.room - 1)) (conditions (a.room - 1)) condition_agree (rw c.in-Whole.is at c.condition.ensures) (rw c.in_default-condition.is at c.condition-2.ensures))
+    unread (conditions a.room) c.from_residual-in_err-two.ensures
+    (double_at a.s.now a.i (omega (arith, c.if-s-i.false)) a.room c.if-k-eq0.false c.if-room-eq0.false c.if-k-eq1.false (omega (arith, c.if-k-gt3.false)) (no_second (conditions (a.room - 1)) (conditions (a.room - 1)) condition_agree c.in_ok-one.ensures c.in_err-two.ensures))
 
 pub returns : goal.returns
 returns t c =
     let a = c.args in
-    double_at a.s.now a.i (omega (arith, c.if-s-i.false)) a.room c.if-k-eq0.false c.if-room-eq0.false c.if-k-eq1.false (omega (arith, c.if-k-gt3.false)) (in_turn_lem (conditions (a.room - 1)) (conditions (a.room - 1)) (rw c.in-Whole.is at c.condition.ensures) (rw c.in-Whole-condition.is at c.condition-2.ensures) refl refl)
+    double_at a.s.now a.i (omega (arith, c.if-s-i.false)) a.room c.if-k-eq0.false c.if-room-eq0.false c.if-k-eq1.false (omega (arith, c.if-k-gt3.false)) (in_turn_lem (conditions (a.room - 1)) (conditions (a.room - 1)) c.in_ok-one.ensures c.in_ok-two.ensures c.in_turn.ensures)

@@ -13,7 +13,7 @@ use Rattle.programs.proofs.assignment.Goals as goal
 pub returns-then-two_numbers : goal.returns-then-two_numbers
 returns-then-two_numbers c =
     let w = told c.two_numbers.ensures c.if-two_numbers.true in
-    two_whole c.args.s.now c.args.i c.requires.0 c.args.tags c.args.strings.now 1 (become (get_or c.args.s.now (c.args.i + 1) 0) (get_or c.args.s.now (c.args.i + 2) 0)) w.0 c.in-1.is refl (w.1, w.2) refl refl refl
+    two_whole c.args.s.now c.args.i c.requires.0 c.args.tags c.args.strings.now 1 (become (get_or c.args.s.now (c.args.i + 1) 0) (get_or c.args.s.now (c.args.i + 2) 0)) w.0 c.in-1.is refl (w.1, w.2) refl c.for_both.ensures.next_is c.for_both.ensures.first_is c.for_both.ensures.second_is
 
 pub returns-else-two_numbers : goal.returns-else-two_numbers
 returns-else-two_numbers c =
@@ -22,7 +22,7 @@ returns-else-two_numbers c =
 pub returns-then-two_numbers-2 : goal.returns-then-two_numbers-2
 returns-then-two_numbers-2 c =
     let w = told c.two_numbers-in-2.ensures c.if-two_numbers-2.true in
-    two_whole c.args.s.now c.args.i c.requires.0 c.args.tags c.args.strings.now 2 (copy (get_or c.args.s.now (c.args.i + 1) 0) (get_or c.args.s.now (c.args.i + 2) 0)) w.0 c.in-2.is refl (w.1, w.2) refl refl refl
+    two_whole c.args.s.now c.args.i c.requires.0 c.args.tags c.args.strings.now 2 (copy (get_or c.args.s.now (c.args.i + 1) 0) (get_or c.args.s.now (c.args.i + 2) 0)) w.0 c.in-2.is refl (w.1, w.2) refl c.for_both-then-two_numbers-2.ensures.next_is c.for_both-then-two_numbers-2.ensures.first_is c.for_both-then-two_numbers-2.ensures.second_is
 
 pub returns-else-two_numbers-2 : goal.returns-else-two_numbers-2
 returns-else-two_numbers-2 c =
@@ -31,7 +31,7 @@ returns-else-two_numbers-2 c =
 pub returns-then-two_numbers-3 : goal.returns-then-two_numbers-3
 returns-then-two_numbers-3 c =
     let w = told c.two_numbers-in-3.ensures c.if-two_numbers-3.true in
-    two_whole c.args.s.now c.args.i c.requires.0 c.args.tags c.args.strings.now 3 (recall (get_or c.args.s.now (c.args.i + 1) 0) (get_or c.args.s.now (c.args.i + 2) 0)) w.0 c.in-3.is refl (w.1, w.2) refl refl refl
+    two_whole c.args.s.now c.args.i c.requires.0 c.args.tags c.args.strings.now 3 (recall (get_or c.args.s.now (c.args.i + 1) 0) (get_or c.args.s.now (c.args.i + 2) 0)) w.0 c.in-3.is refl (w.1, w.2) refl refl refl refl
 
 pub returns-else-two_numbers-3 : goal.returns-else-two_numbers-3
 returns-else-two_numbers-3 c =

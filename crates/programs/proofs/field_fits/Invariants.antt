@@ -11,4 +11,4 @@ abbrev pub invariant-loop-i : goal.invariant-loop-i
 invariant-loop-i l = (ps : List Program) → Fill l.tags l.strings l.section ps → Walked l.tags l.strings l.section ps l.field l.i
 
 abbrev pub decreases-loop-i : goal.decreases-loop-i
-decreases-loop-i l = l.field - l.i
+decreases-loop-i l = l.start - l.i

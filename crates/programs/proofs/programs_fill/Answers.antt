@@ -17,12 +17,12 @@ returns-in_default c =
 pub loop-i-smaller : goal.loop-i-smaller
 loop-i-smaller c =
     let a = c.args in
-    omega (arith, ends (programs a.tags a.strings.now) program_some (rw c.in-Whole.is at c.program.ensures))
+    omega (arith, ends (programs a.tags a.strings.now) program_some (rw c.in-Some.is at c.program.ensures))
 
 pub loop-i-preserved : goal.loop-i-preserved
 loop-i-preserved c =
     let a = c.args in
-    let r = rw c.in-Whole.is at c.program.ensures in
+    let r = rw c.in-Some.is at c.program.ensures in
     let w = past_program a.tags a.strings.now a.section.now c.loop-i.i r in
     (omega (arith, ends (programs a.tags a.strings.now) program_some r), λ x. c.loop-i.invariant.1 (w.0 x), λ x. w.1 (c.loop-i.invariant.2 x))
 

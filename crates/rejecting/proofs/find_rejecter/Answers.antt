@@ -2,14 +2,12 @@ use mathlib.Core.Path.{refl, ap, ◌∙◌}
 use mathlib.Core.Bool.{false}
 use mathlib.Core.List.{List}
 use Prim.Native.Nat.{ℕ}
-use native.Mathlib.Omega.{arith}
 use lib.ListN.{length}
 use Rattle.layout.proofs.Laws.{laid_out}
 use Rattle.state.specs.Bytes.{state_from}
 use Rattle.converter.proofs.Going.{event_in, bound}
 use Rattle.converter.proofs.Entering.{passed_sheet, all_put_in}
 use Rattle.rejecting.proofs.Entering.{failing_none, unfit_none, no_token_none, shaped_here, ready_here, count_here, answered_here}
-use borrow.Author.Rules.{rules}
 use mathlib.Core.Bool.{not}
 use Rattle.rejecting.proofs.find_rejecter.Goals as goal
 

@@ -1,6 +1,6 @@
 use borrow.Author.Tests.{not-true, not-false}
-use mathlib.Core.Path.{◌≡◌, sym, ap, subst}
-use Prim.Native.Nat.{ℕ, ◌+◌, ◌-◌}
+use mathlib.Core.Path.{◌≡◌, sym, subst}
+use Prim.Native.Nat.{ℕ, ◌+◌}
 use native.Mathlib.Omega.{arith}
 use native.Mathlib.Numerals.{add-one}
 use lib.ListN.{length, length-take}
@@ -27,22 +27,22 @@ slice_bounds-brackets-end c =
 pub slice_bounds-brackets-end-in-loop-i : goal.slice_bounds-brackets-end-in-loop-i
 slice_bounds-brackets-end-in-loop-i c = search rules
 
-pub brackets-done-requires : goal.brackets-done-requires
-brackets-done-requires c =
+pub brackets-requires : goal.brackets-requires
+brackets-requires c =
     let n = c.loop-i.i in
     record { laid_out = c.requires.laid_out; q_lt_productions = c.requires.q_lt_productions; line_len_bound = omega (arith, c.requires.line_len_bound, length-take (n + 1) c.args.line.now); at_bound = omega arith; count_bound = omega (arith, c.requires.count_bound); well_formed = c.requires.well_formed }
 
-pub returns-then-not-done : goal.returns-then-not-done
-returns-then-not-done c =
+pub returns-in_default : goal.returns-in_default
+returns-in_default c =
     let a = c.args in
     let l = c.loop-i in
-    λ b. rejects_here a.s.now a.q a.line.now (full a.z b) l.i (l.i + 1) (add-one l.i) (omega arith) (l.invariant b) (c.brackets-done.ensures b) (not-true _ c.if-not-done.true)
+    λ b. rejects_here a.s.now a.q a.line.now (full a.z b) l.i (l.i + 1) (add-one l.i) (omega arith) (l.invariant b) (rw c.in_default.is at (c.brackets.ensures b))
 
 pub loop-i-preserved : goal.loop-i-preserved
 loop-i-preserved c =
     let a = c.args in
     let l = c.loop-i in
-    λ b. one_more a.s.now a.q a.line.now (full a.z b) (l.i + 1) (c.brackets-done.ensures b) (not-false _ c.if-not-done.false)
+    λ b. one_more a.s.now a.q a.line.now (full a.z b) (l.i + 1) (rw c.in-Some.is at (c.brackets.ensures b))
 
 pub returns : goal.returns
 returns c =

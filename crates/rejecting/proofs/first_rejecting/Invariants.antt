@@ -1,10 +1,7 @@
 use mathlib.Core.List.{List}
-use Prim.Native.Nat.{ℕ, ◌-◌, ◌≤◌}
-use native.Mathlib.Omega.{arith}
-use lib.ListN.{length}
+use Prim.Native.Nat.{ℕ}
 use Rattle.live.specs.Live.{full}
 use Rattle.rejecting.proofs.Rows.{PassedTo}
-use borrow.Author.Rules.{rules}
 use Rattle.rejecting.proofs.first_rejecting.Given as goal
 
 -- The loop keeps that the brackets so far pass.

@@ -1,4 +1,5 @@
-use mathlib.Core.Path.{refl}
+use mathlib.Core.Path.{refl, sym, ap}
+use Rattle.rejecting.specs.Told.{starting}
 use borrow.Author.Rules.{rules}
 use Rattle.rejecting.proofs.last_of.Goals as goal
 
@@ -7,8 +8,8 @@ pub enum_known-x : goal.enum_known-x
 enum_known-x c = search rules
 
 -- src/lib.rt:86:17
-pub production_for-p-requires : goal.production_for-p-requires
-production_for-p-requires c = search rules
+pub production_for-requires : goal.production_for-requires
+production_for-requires c = search rules
 
 -- src/lib.rt:92:30
 pub enum_told-1 : goal.enum_told-1
@@ -18,10 +19,13 @@ enum_told-1 c = search rules
 pub enum_told-in-End : goal.enum_told-in-End
 enum_told-in-End c = search rules
 
--- src/lib.rt:80:1
-pub returns-in-Tag : goal.returns-in-Tag
-returns-in-Tag c =
-    rw c.in-Tag.is (c.production_for-p.result, c.production_for-p.ensures, refl)
+pub returns-in-Some : goal.returns-in-Some
+returns-in-Some c =
+    rw c.in-Tag.is (c.production_for.result, c.production_for.ensures, ap starting (sym c.in-Some.is))
+
+pub returns-in-None : goal.returns-in-None
+returns-in-None c =
+    rw c.in-Tag.is (c.production_for.result, c.production_for.ensures, ap starting (sym c.in-None.is))
 
 -- src/lib.rt:80:1
 pub returns-in-Character : goal.returns-in-Character

@@ -1,6 +1,5 @@
 use Rattle.steps.proofs.Places.{some_open}
 use Rattle.rejecting.proofs.Events.{root_told}
-use borrow.Author.Rules.{rules}
 use Rattle.rejecting.proofs.of_event.Goals as goal
 
 -- Outside, the root's start tag alone asks for an act.

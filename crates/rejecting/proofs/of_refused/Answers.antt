@@ -5,7 +5,6 @@ use Rattle.state.specs.declared.State.{State}
 use Rattle.steps.proofs.Takings.{ready_still}
 use Rattle.rejecting.specs.Told.{TokenTold}
 use Rattle.rejecting.proofs.Tokens.{not_rejected, is_rejected}
-use borrow.Author.Rules.{rules}
 use Rattle.rejecting.proofs.of_refused.Goals as goal
 
 -- The token is taken into no room first. What the state reads of the stack is then as it was.

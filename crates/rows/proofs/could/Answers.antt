@@ -3,51 +3,6 @@ use borrow.Author.Rules.{rules}
 use Rattle.rows.proofs.could.Goals as goal
 
 -- Each stage has its kinds.
-pub enum_told-1 : goal.enum_told-1
-enum_told-1 c = search rules
-
-pub could_start-requires : goal.could_start-requires
-could_start-requires c = search rules
-
-pub enum_told-in-Assign : goal.enum_told-in-Assign
-enum_told-in-Assign c = search rules
-
-pub enum_told-in-Operand : goal.enum_told-in-Operand
-enum_told-in-Operand c = search rules
-
-pub could_be_operand-requires : goal.could_be_operand-requires
-could_be_operand-requires c = search rules
-
-pub enum_told-in-Item : goal.enum_told-in-Item
-enum_told-in-Item c = search rules
-
-pub could_be_item-requires : goal.could_be_item-requires
-could_be_item-requires c = search rules
-
-pub enum_told-in-Single : goal.enum_told-in-Single
-enum_told-in-Single c = search rules
-
-pub could_be_operand-requires-in-Single : goal.could_be_operand-requires-in-Single
-could_be_operand-requires-in-Single c = search rules
-
-pub enum_told-in-Equals : goal.enum_told-in-Equals
-enum_told-in-Equals c = search rules
-
-pub enum_told-in-Other : goal.enum_told-in-Other
-enum_told-in-Other c = search rules
-
-pub could_be_operand-requires-in-Other : goal.could_be_operand-requires-in-Other
-could_be_operand-requires-in-Other c = search rules
-
-pub enum_told-in-Behind : goal.enum_told-in-Behind
-enum_told-in-Behind c = search rules
-
-pub enum_told-in-Past : goal.enum_told-in-Past
-enum_told-in-Past c = search rules
-
-pub could_be_item-requires-in-Past : goal.could_be_item-requires-in-Past
-could_be_item-requires-in-Past c = search rules
-
 pub returns-in-At : goal.returns-in-At
 returns-in-At c = search (could_as, rules)
 

@@ -10,15 +10,6 @@ use Rattle.rows.proofs.in_program.Goals as goal
 pub loop-k-init : goal.loop-k-init
 loop-k-init c = (c.requires, nothing_filled _ _ refl)
 
-pub could-requires : goal.could-requires
-could-requires c = search rules
-
-pub step-requires : goal.step-requires
-step-requires c = search rules
-
-pub bounds-may-k : goal.bounds-may-k
-bounds-may-k c = search rules
-
 pub loop-k-preserved : goal.loop-k-preserved
 loop-k-preserved c = (
   c.loop-k.invariant.0,
@@ -28,9 +19,6 @@ loop-k-preserved c = (
         | else-could w ↦ subst (Marked (which_visit c.args.second) c.args.s c.loop-k.k) (sym w.ok-is) (untried (which_visit c.args.second) c.args.s c.loop-k.k c.could.result c.could.ensures w.if-could.false)
       ]),
 )
-
-pub ends-requires : goal.ends-requires
-ends-requires c = search rules
 
 pub bounds-may-28 : goal.bounds-may-28
 bounds-may-28 c = search rules

@@ -14,9 +14,6 @@ goes-requires c = (omega (arith, c.loop-k-test.true), c.loop-k.invariant.0.small
 pub step-requires : goal.step-requires
 step-requires c = (omega (arith, c.loop-k-test.true), c.loop-k.invariant.0)
 
-pub bounds-may-k : goal.bounds-may-k
-bounds-may-k c = search rules
-
 pub loop-k-preserved : goal.loop-k-preserved
 loop-k-preserved c = (
   c.loop-k.invariant.0,

@@ -2,8 +2,5 @@ use borrow.Author.Rules.{rules}
 use Rattle.rulings.proofs.Rows.{end_told}
 use Rattle.rulings.proofs.may_end.Goals as goal
 
-pub place_of-w-requires : goal.place_of-w-requires
-place_of-w-requires c = search rules
-
 pub returns : goal.returns
 returns c = search (end_told, rules)

@@ -2,14 +2,8 @@ use borrow.Author.Rules.{rules}
 use Rattle.rulings.proofs.Rows.{row_in_text, row_in_program}
 use Rattle.rulings.proofs.row.Goals as goal
 
-pub in_program-requires : goal.in_program-requires
-in_program-requires c = search rules
-
 pub returns-then-w : goal.returns-then-w
 returns-then-w c = search (row_in_program, rules)
-
-pub in_text-requires : goal.in_text-requires
-in_text-requires c = search rules
 
 pub returns : goal.returns
 returns c = search (row_in_text, rules)

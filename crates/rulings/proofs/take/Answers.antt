@@ -2,9 +2,6 @@ use borrow.Author.Rules.{rules}
 use Rattle.rulings.proofs.Answers.{asks_unbraced, asks_within, asks_outside, as_unbraced}
 use Rattle.rulings.proofs.take.Goals as goal
 
-pub place_of-w-requires : goal.place_of-w-requires
-place_of-w-requires c = search rules
-
 pub unbraced-requires : goal.unbraced-requires
 unbraced-requires c = asks_unbraced _ _ c.place_of-w.result c.requires c.place_of-w.ensures c.if-w.true
 

@@ -2,12 +2,6 @@ use borrow.Author.Rules.{rules}
 use Rattle.rulings.proofs.Answers.{unbraced_takes, unbraced_refuses}
 use Rattle.rulings.proofs.unbraced.Goals as goal
 
-pub ends-requires : goal.ends-requires
-ends-requires c = search rules
-
-pub unbrace-requires : goal.unbrace-requires
-unbrace-requires c = search rules
-
 pub returns-then-ends : goal.returns-then-ends
 returns-then-ends c = search (unbraced_takes, rules)
 

@@ -1,5 +1,3 @@
-use Rattle.shapes.specs.declared.Shape.{Shape}
-use Rattle.shapes.specs.declared.Shape.TheVariants.{Records, Other}
 use borrow.Author.Rules.{rules}
 use Rattle.layout.proofs.Laws.{laid_out}
 use Rattle.sheet.proofs.DefectLaws.{runs_inside}
@@ -18,24 +16,20 @@ returns-then-number-ne0 c = fails_first c.args.state.now c.args.area.now c.args.
 pub layout_of-l-requires : goal.layout_of-l-requires
 layout_of-l-requires c = let w = (passed_sheet c.verdict-number.ensures c.if-number-ne0.false).is_sheet.well_formed_lem in w.size.least
 
-pub shape_of-shape-requires : goal.shape_of-shape-requires
-shape_of-shape-requires c = let w = (passed_sheet c.verdict-number.ensures c.if-number-ne0.false).is_sheet.well_formed_lem in record { laid_out = laid_out c.layout_of-l.ensures w.size w.sections; runs_inside = runs_inside _ w.productions }
-
-only_other : (x : Shape) → ((r q : ℕ) → x ≡ Records r q → ⊥) → x ≡ Other
-only_other (Records r q) h = absurd (h r q refl)
-only_other Other h = refl
+pub shape_of-requires : goal.shape_of-requires
+shape_of-requires c = let w = (passed_sheet c.verdict-number.ensures c.if-number-ne0.false).is_sheet.well_formed_lem in record { laid_out = laid_out c.layout_of-l.ensures w.size w.sections; runs_inside = runs_inside _ w.productions }
 
 pub returns-in_default : goal.returns-in_default
-returns-in_default c = other_shape c.args.state.now c.args.area.now c.args.part.now c.verdict-number.ensures c.if-number-ne0.false c.shape_of-shape.ensures (only_other _ c.in_default.not-Records)
+returns-in_default c = other_shape c.args.state.now c.args.area.now c.args.part.now c.verdict-number.ensures c.if-number-ne0.false c.shape_of.ensures c.in_default.is
 
 pub salvage_fits-requires : goal.salvage_fits-requires
 salvage_fits-requires c = let w = (passed_sheet c.verdict-number.ensures c.if-number-ne0.false).is_sheet.well_formed_lem in record { laid_out = laid_out c.layout_of-l.ensures w.size w.sections; well_formed = w }
 
 pub returns-then-not-salvage_fits : goal.returns-then-not-salvage_fits
-returns-then-not-salvage_fits c = is_unfit c.args.state.now c.args.area.now c.args.part.now c.verdict-number.ensures c.if-number-ne0.false c.shape_of-shape.ensures c.in-Records.root c.in-Records.record c.in-Records.is c.salvage_fits.ensures (ap not c.if-not-salvage_fits.true)
+returns-then-not-salvage_fits c = is_unfit c.args.state.now c.args.area.now c.args.part.now c.verdict-number.ensures c.if-number-ne0.false c.shape_of.ensures _ c.in-Some.is c.salvage_fits.ensures (ap not c.if-not-salvage_fits.true)
 
 pub returns-then-closed : goal.returns-then-closed
-returns-then-closed c = is_closed c.args.state.now c.args.area.now c.args.part.now c.verdict-number.ensures c.if-number-ne0.false c.shape_of-shape.ensures c.in-Records.root c.in-Records.record c.in-Records.is c.salvage_fits.ensures (ap not c.if-not-salvage_fits.false) _ _ (closed_in c.args.state.now c.heading_at-h.result c.heading_at-h.ensures) c.if-closed.true c.repeated.ensures
+returns-then-closed c = is_closed c.args.state.now c.args.area.now c.args.part.now c.verdict-number.ensures c.if-number-ne0.false c.shape_of.ensures _ c.in-Some.is c.salvage_fits.ensures (ap not c.if-not-salvage_fits.false) _ _ (closed_in c.args.state.now c.heading_at-h.result c.heading_at-h.ensures) c.if-closed.true c.repeated.ensures
 
 pub returns : goal.returns
-returns c = runs c.args.state.now c.args.area.now c.args.part.now c.verdict-number.ensures c.if-number-ne0.false c.shape_of-shape.ensures c.in-Records.root c.in-Records.record c.in-Records.is c.salvage_fits.ensures (ap not c.if-not-salvage_fits.false) _ (closed_in c.args.state.now c.heading_at-h.result c.heading_at-h.ensures) c.if-closed.false
+returns c = runs c.args.state.now c.args.area.now c.args.part.now c.verdict-number.ensures c.if-number-ne0.false c.shape_of.ensures _ c.in-Some.is c.salvage_fits.ensures (ap not c.if-not-salvage_fits.false) _ (closed_in c.args.state.now c.heading_at-h.result c.heading_at-h.ensures) c.if-closed.false

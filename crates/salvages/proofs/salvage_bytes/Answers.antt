@@ -1,5 +1,3 @@
-use Rattle.shapes.specs.declared.Shape.{Shape}
-use Rattle.shapes.specs.declared.Shape.TheVariants.{Records, Other}
 use mathlib.Core.Path.{◌≡◌, refl, subst}
 use Prim.Native.Nat.{ℕ}
 use borrow.Author.Rules.{rules}
@@ -18,18 +16,14 @@ returns-then-number-ne0 c = record { salvaged_as = back_untouched c.given_back-n
 pub layout_of-l-requires : goal.layout_of-l-requires
 layout_of-l-requires c = (entered_run c.given_back-number.ensures c.if-number-ne0.false).is_sheet.well_formed_lem.size.least
 
-pub shape_of-shape-requires : goal.shape_of-shape-requires
-shape_of-shape-requires c = let w = (entered_run c.given_back-number.ensures c.if-number-ne0.false).is_sheet.well_formed_lem in record { laid_out = laid_out c.layout_of-l.ensures w.size w.sections; runs_inside = runs_inside _ w.productions }
-
-only_other : (x : Shape) → ((r q : ℕ) → x ≡ Records r q → ⊥) → x ≡ Other
-only_other (Records r q) h = absurd (h r q refl)
-only_other Other h = refl
+pub shape_of-requires : goal.shape_of-requires
+shape_of-requires c = let w = (entered_run c.given_back-number.ensures c.if-number-ne0.false).is_sheet.well_formed_lem in record { laid_out = laid_out c.layout_of-l.ensures w.size w.sections; runs_inside = runs_inside _ w.productions }
 
 pub returns-in_default : goal.returns-in_default
-returns-in_default c = absurd (no_other c.given_back-number.ensures c.if-number-ne0.false c.shape_of-shape.ensures (only_other _ c.in_default.not-Records))
+returns-in_default c = absurd (no_other c.given_back-number.ensures c.if-number-ne0.false c.shape_of.ensures c.in_default.is)
 
 pub run_bytes-requires : goal.run_bytes-requires
-run_bytes-requires c = let w = (entered_run c.given_back-number.ensures c.if-number-ne0.false).is_sheet.well_formed_lem in record { laid_out = laid_out c.layout_of-l.ensures w.size w.sections; may_salvage = entered_run c.given_back-number.ensures c.if-number-ne0.false; shape_told = subst (ShapeTold c.args.sheet.now) c.in-Records.is c.shape_of-shape.ensures }
+run_bytes-requires c = let w = (entered_run c.given_back-number.ensures c.if-number-ne0.false).is_sheet.well_formed_lem in record { laid_out = laid_out c.layout_of-l.ensures w.size w.sections; may_salvage = entered_run c.given_back-number.ensures c.if-number-ne0.false; shape_told = subst (ShapeTold c.args.sheet.now) c.in-Some.is c.shape_of.ensures }
 
 pub shape_of-state : goal.shape_of-state
 shape_of-state c = c.run_bytes.auto.state

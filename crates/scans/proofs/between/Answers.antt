@@ -1,7 +1,6 @@
 use mathlib.Core.Path.{sym, ◌∙◌, subst}
 use Rattle.scans.specs.Scans.{BetweenIs}
 use Rattle.scans.proofs.Gaps.{between_blank, between_opened, between_other}
-use borrow.Author.Rules.{rules}
 use Rattle.scans.proofs.between.Goals as goal
 
 pub returns-then-blank : goal.returns-then-blank

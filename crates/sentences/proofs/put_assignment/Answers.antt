@@ -1,4 +1,3 @@
-use borrow.Author.Rules.{rules}
 use native.Mathlib.Omega.{arith}
 use Rattle.output.proofs.Writing.{put_then}
 use Rattle.clauses.proofs.Laws.{operand_short}

@@ -1,4 +1,3 @@
-use borrow.Author.Rules.{rules}
 use Rattle.output.proofs.Writing.{same_bytes}
 use Rattle.printed.specs.Programs.{between_statements}
 use Rattle.sentences.specs.Sentences.{preceding_at}

@@ -1,5 +1,3 @@
-use borrow.Author.Rules.{rules}
-use native.Mathlib.Omega.{arith}
 use mathlib.Core.Path.{◌∙◌}
 use Rattle.sentences.proofs.Laws.{rejects, echoes, echoes_not, starts, ends, prints, assigns}
 use Rattle.sentences.proofs.put_plain.Goals as goal
@@ -15,17 +13,17 @@ pub returns-then-k-eq9 : goal.returns-then-k-eq9
 returns-then-k-eq9 c = echoes_not c.args.s.now c.args.tags.now c.args.strings.now c.args.i c.requires.0 (record { write = c.args.write; lent = c.args.out.now; at = c.args.at }) _ _ c.if-k-eq9.true c.put_bytes-then-k-eq9.ensures
 
 pub returns-then-k-eq5 : goal.returns-then-k-eq5
-returns-then-k-eq5 c = starts c.args.s.now c.args.tags.now c.args.strings.now c.args.i c.requires.0 (record { write = c.args.write; lent = c.args.out.now; at = c.args.at }) _ _ c.if-k-eq5.true _ (c.wide-t.ensures.0 ∙ c.byte-x.ensures) c.put_tag.ensures
+returns-then-k-eq5 c = starts c.args.s.now c.args.tags.now c.args.strings.now c.args.i c.requires.0 (record { write = c.args.write; lent = c.args.out.now; at = c.args.at }) _ _ c.if-k-eq5.true _ (c.from-t.ensures ∙ c.byte-x.ensures) c.put_tag.ensures
 
 pub returns-then-k-eq6 : goal.returns-then-k-eq6
-returns-then-k-eq6 c = ends c.args.s.now c.args.tags.now c.args.strings.now c.args.i c.requires.0 (record { write = c.args.write; lent = c.args.out.now; at = c.args.at }) _ _ c.if-k-eq6.true _ (c.wide-t.ensures.0 ∙ c.byte-x.ensures) c.put_tag-then-k-eq6.ensures
+returns-then-k-eq6 c = ends c.args.s.now c.args.tags.now c.args.strings.now c.args.i c.requires.0 (record { write = c.args.write; lent = c.args.out.now; at = c.args.at }) _ _ c.if-k-eq6.true _ (c.from-t.ensures ∙ c.byte-x.ensures) c.put_tag-then-k-eq6.ensures
 
 pub returns-then-k-eq7 : goal.returns-then-k-eq7
 returns-then-k-eq7 c =
-    let x = c.wide-t in
-    let y = c.wide in
-    let n = c.wide-n in
-    prints c.args.s.now c.args.tags.now c.args.strings.now c.args.i c.requires.0 (record { write = c.args.write; lent = c.args.out.now; at = c.args.at }) _ _ c.if-k-eq7.true x.result y.result n.result (x.ensures.0 ∙ c.byte-x.ensures) (y.ensures.0 ∙ c.byte-y.ensures) (n.ensures.0 ∙ c.byte.ensures) c.put_string.ensures
+    let x = c.from-t in
+    let y = c.from in
+    let n = c.from-n in
+    prints c.args.s.now c.args.tags.now c.args.strings.now c.args.i c.requires.0 (record { write = c.args.write; lent = c.args.out.now; at = c.args.at }) _ _ c.if-k-eq7.true x.result y.result n.result (x.ensures ∙ c.byte-x.ensures) (y.ensures ∙ c.byte-y.ensures) (n.ensures ∙ c.byte.ensures) c.put_string.ensures
 
 pub returns : goal.returns
 returns c =

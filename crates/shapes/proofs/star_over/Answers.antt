@@ -1,6 +1,5 @@
 use mathlib.Core.Path.{sym, ◌∙◌}
 use native.Mathlib.Omega.{arith}
-use borrow.Author.Rules.{rules}
 use Rattle.shapes.proofs.Walks.{production_there, nodes_there}
 use Rattle.shapes.proofs.Stars.{other_count, other_kind, star_told}
 use Rattle.shapes.proofs.star_over.Goals as goal

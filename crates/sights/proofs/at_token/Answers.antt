@@ -1,7 +1,6 @@
 use Rattle.lexemes.specs.declared.Lexeme.{Lexeme}
-use Rattle.sights.proofs.Bounds.{lexed_as, token_within, stuck_within}
+use Rattle.sights.proofs.Bounds.{lexed_as, token_within}
 use Rattle.sights.proofs.Seen.{seen_token, seen_stuck}
-use borrow.Author.Rules.{rules}
 use Rattle.sights.proofs.at_token.Goals as goal
 
 pub take-requires : goal.take-requires
@@ -16,15 +15,8 @@ returns-in-Token c =
     let y = lexed_as c.row-may.result x c.args.i c.lex.result (Lexeme.Token _ _ _) c.in-Token.is c.lex.ensures in
     seen_token x c.args.r c.row-may.result c.args.i _ _ _ c.take.result c.unwrap_or-next.result c.requires.0 c.requires.1 c.row-may.ensures y c.take.ensures c.unwrap_or-next.ensures
 
-pub overflow_add-i : goal.overflow_add-i
-overflow_add-i c =
-    let x = c.args.x.now in
-    let y = lexed_as c.row-may.result x c.args.i c.lex.result (Lexeme.Stuck _) c.in-Stuck.is c.lex.ensures in
-    let z = stuck_within c.row-may.result x c.args.i _ c.requires.1.0 y in
-    search (z, rules)
-
 pub returns-in-Stuck : goal.returns-in-Stuck
 returns-in-Stuck c =
     let x = c.args.x.now in
     let y = lexed_as c.row-may.result x c.args.i c.lex.result (Lexeme.Stuck _) c.in-Stuck.is c.lex.ensures in
-    seen_stuck x c.args.r c.row-may.result c.args.i _ c.told.result c.requires.0 c.requires.1 c.row-may.ensures y c.told.ensures
+    seen_stuck x c.args.r c.row-may.result c.args.i _ c.requires.1 c.row-may.ensures y

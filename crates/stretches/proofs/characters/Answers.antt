@@ -24,8 +24,8 @@ shape_of-out-then-tag_or_end c = (c.plains-far.ensures.carries _ _ _ _ c.loop-fa
 pub returns-then-tag_or_end : goal.returns-then-tag_or_end
 returns-then-tag_or_end c = c.plains-far.ensures.carries _ _ _ _ c.loop-far.invariant
 
-pub read_literal-next-requires : goal.read_literal-next-requires
-read_literal-next-requires c = (c.plains-far.ensures.carries _ _ _ _ c.loop-far.invariant).within
+pub read_literal-requires : goal.read_literal-requires
+read_literal-requires c = (c.plains-far.ensures.carries _ _ _ _ c.loop-far.invariant).within
 
 pub shape_of-out-in_default : goal.shape_of-out-in_default
 shape_of-out-in_default c = (c.plains-far.ensures.carries _ _ _ _ c.loop-far.invariant).long
@@ -46,7 +46,7 @@ pub show-to-requires : goal.show-to-requires
 show-to-requires c =
     let part = c.args.part.now in
     let e = c.plains-far.ensures.carries _ _ _ _ c.loop-far.invariant in
-    let here = stands part c.plains-far.result.at c.read_literal-next.result c.read_literal-next.ensures _ _ c.in-Character.is in
+    let here = stands part c.plains-far.result.at c.read_literal.result c.read_literal.ensures _ c.in-Some.is in
     let may = allowed_is c.args.k c.plains-far.result.count (length c.plains-far.new.out - c.plains-far.result.put) c.plains-far.result.put c.requires.k_le_most_visits (sym c.allowed.ensures ∙ c.if-not-allowed.false) in
     record { at_le_farthest = may.reach; char = event_char (front part c.plains-far.result.at) c.plains-far.result.at _ true _ here.0 }
 
@@ -57,21 +57,21 @@ pub overflow_add-at : goal.overflow_add-at
 overflow_add-at c =
     let part = c.args.part.now in
     let e = c.plains-far.ensures.carries _ _ _ _ c.loop-far.invariant in
-    let here = stands part c.plains-far.result.at c.read_literal-next.result c.read_literal-next.ensures _ _ c.in-Character.is in
+    let here = stands part c.plains-far.result.at c.read_literal.result c.read_literal.ensures _ c.in-Some.is in
     omega (arith, onward part c.plains-far.result.at _ _ e.within here)
 
 pub loop-far-smaller : goal.loop-far-smaller
 loop-far-smaller c =
     let part = c.args.part.now in
     let e = c.plains-far.ensures.carries _ _ _ _ c.loop-far.invariant in
-    let here = stands part c.plains-far.result.at c.read_literal-next.result c.read_literal-next.ensures _ _ c.in-Character.is in
+    let here = stands part c.plains-far.result.at c.read_literal.result c.read_literal.ensures _ c.in-Some.is in
     omega (arith, c.plains-far.ensures.forward, onward part c.plains-far.result.at _ _ e.within here)
 
 pub loop-far-preserved : goal.loop-far-preserved
 loop-far-preserved c =
     let part = c.args.part.now in
     let e = c.plains-far.ensures.carries _ _ _ _ c.loop-far.invariant in
-    let here = stands part c.plains-far.result.at c.read_literal-next.result c.read_literal-next.ensures _ _ c.in-Character.is in
+    let here = stands part c.plains-far.result.at c.read_literal.result c.read_literal.ensures _ c.in-Some.is in
     let may = allowed_is c.args.k c.plains-far.result.count (length c.plains-far.new.out - c.plains-far.result.put) c.plains-far.result.put c.requires.k_le_most_visits (sym c.allowed.ensures ∙ c.if-not-allowed.false) in
     one_more part c.args.from c.args.on c.args.k c.args.n c.args.out.now c.args.put
     c.plains-far.result.at c.plains-far.result.put c.plains-far.result.count _ e _ _ here may.visits (omega (arith, may.longest, e.long, e.room)) _ _ c.show-to.ensures

@@ -18,4 +18,4 @@ pub returns-in_default : goal.returns-in_default
 returns-in_default c = content_bad _ _ _ c.node_count_of-nodes.ensures.is c.if-nodes-eq0.false _ c.first_node_of-first.ensures.is (rw c.in_default.is at c.parse.ensures)
 
 pub returns : goal.returns
-returns c = content_told _ _ _ c.node_count_of-nodes.ensures.is c.if-nodes-eq0.false _ c.first_node_of-first.ensures.is _ (rw c.in-Tree.is at c.parse.ensures)
+returns c = content_told _ _ _ c.node_count_of-nodes.ensures.is c.if-nodes-eq0.false _ c.first_node_of-first.ensures.is _ (rw c.in-Some.is at c.parse.ensures)

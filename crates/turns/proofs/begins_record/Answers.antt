@@ -1,4 +1,3 @@
-use borrow.Author.Rules.{rules}
 use Rattle.turns.proofs.Laws.{not_alone, is_start, is_end, is_empty, is_character, in_start, in_empty}
 use Rattle.turns.proofs.begins_record.Goals as goal
 

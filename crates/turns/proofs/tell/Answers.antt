@@ -1,5 +1,3 @@
-use borrow.Author.Rules.{rules}
-use native.Mathlib.Omega.{arith}
 use mathlib.Core.Path.{refl}
 use Rattle.turns.proofs.Laws.{told_entry}
 use Rattle.turns.specs.Turned.{no_entry, entry}

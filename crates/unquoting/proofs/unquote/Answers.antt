@@ -9,37 +9,19 @@ pub loop-i-init : goal.loop-i-init
 loop-i-init c = search (under_first, rules)
 
 -- src/lib.rt:61:12
-pub bounds-x-i : goal.bounds-x-i
-bounds-x-i c = search rules
-
 -- src/lib.rt:62:13
-pub shape_of-out-then-x-i-eq34 : goal.shape_of-out-then-x-i-eq34
-shape_of-out-then-x-i-eq34 c = search rules
-
 -- src/lib.rt:62:13
 pub returns-then-x-i-eq34 : goal.returns-then-x-i-eq34
 returns-then-x-i-eq34 c = search (unquoted_whole, rules)
 
 -- src/lib.rt:65:13
-pub shape_of-out-then-n-out : goal.shape_of-out-then-n-out
-shape_of-out-then-n-out c = search rules
-
 -- src/lib.rt:65:13
 pub returns-then-n-out : goal.returns-then-n-out
 returns-then-n-out c = search (unquoted_full, rules)
 
 -- src/lib.rt:67:13
-pub piece_at-p-requires : goal.piece_at-p-requires
-piece_at-p-requires c = search rules
-
 -- src/lib.rt:68:9
-pub bounds-out-n : goal.bounds-out-n
-bounds-out-n c = search rules
-
 -- src/lib.rt:69:9
-pub overflow_add-n : goal.overflow_add-n
-overflow_add-n c = search rules
-
 -- src/lib.rt:70:9
 pub overflow_add-i : goal.overflow_add-i
 overflow_add-i c =
@@ -55,9 +37,6 @@ pub loop-i-preserved : goal.loop-i-preserved
 loop-i-preserved c = search (under_on, rules)
 
 -- src/lib.rt:55:1
-pub shape_of-out : goal.shape_of-out
-shape_of-out c = search rules
-
 -- src/lib.rt:55:1
 pub returns : goal.returns
 returns c = search (unquoted_cut, rules)

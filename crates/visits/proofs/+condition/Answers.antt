@@ -1,5 +1,3 @@
-use borrow.Author.Rules.{rules}
-use Prim.Native.Nat.{◌-◌}
 use native.Mathlib.Omega.{arith}
 use Rattle.visits.proofs.Evaluating.{nothing_left, opposite, both_hold, either_holds}
 use Rattle.visits.proofs.+condition.Goals as goal
@@ -16,9 +14,9 @@ returns-then-k-eq1 t c =
 pub returns-then-k-eq2 : goal.returns-then-k-eq2
 returns-then-k-eq2 t c =
     let a = c.args in
-    both_hold a.s.now a.i a.kept a.values (omega (arith, c.if-s-i.false)) _ c.condition-c.ensures _ c.condition-d.ensures c.if-k-eq2.true _ c.both.ensures
+    both_hold a.s.now a.i a.kept a.values (omega (arith, c.if-s-i.false)) _ c.condition-c.ensures _ c.condition-d.ensures c.if-k-eq2.true
 
 pub returns : goal.returns
 returns t c =
     let a = c.args in
-    either_holds a.s.now a.i a.kept a.values (omega (arith, c.if-s-i.false)) _ c.condition-c.ensures _ c.condition-d.ensures c.if-k-eq0.false c.if-k-eq1.false c.if-k-eq2.false _ c.both-2.ensures
+    either_holds a.s.now a.i a.kept a.values (omega (arith, c.if-s-i.false)) _ c.condition-c.ensures _ c.condition-d.ensures c.if-k-eq0.false c.if-k-eq1.false c.if-k-eq2.false

@@ -1,4 +1,3 @@
-use borrow.Author.Rules.{rules}
 use native.Mathlib.Omega.{arith}
 use Rattle.visits.proofs.Evaluating.{too_short, compared}
 use Rattle.visits.proofs.comparison.Goals as goal

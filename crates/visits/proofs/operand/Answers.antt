@@ -1,4 +1,3 @@
-use borrow.Author.Rules.{rules}
 use mathlib.Core.Path.{◌∙◌, ap}
 use Prim.Native.Nat.{ℕ}
 use native.Mathlib.Omega.{arith}
@@ -10,12 +9,12 @@ use Rattle.visits.proofs.operand.Goals as goal
 pub returns-then-k-eq1 : goal.returns-then-k-eq1
 returns-then-k-eq1 c =
     let a = c.args in
-    current_value a.s.now a.i a.kept a.values (omega arith) c.if-k-eq1.true _ (c.value_of.ensures ∙ ap (λ (n : ℕ). get_or a.values n 0) c.wide.ensures.0)
+    current_value a.s.now a.i a.kept a.values (omega arith) c.if-k-eq1.true _ (c.byte.ensures ∙ ap (λ (n : ℕ). get_or a.values n 0) c.from.ensures)
 
 pub returns-then-k-eq2 : goal.returns-then-k-eq2
 returns-then-k-eq2 c =
     let a = c.args in
-    recalled_value a.s.now a.i a.kept a.values (omega arith) c.if-k-eq2.true _ (c.value_of-then-k-eq2.ensures ∙ ap (λ (n : ℕ). get_or a.kept n 0) c.wide-then-k-eq2.ensures.0)
+    recalled_value a.s.now a.i a.kept a.values (omega arith) c.if-k-eq2.true _ (c.byte-then-k-eq2.ensures ∙ ap (λ (n : ℕ). get_or a.kept n 0) c.from-then-k-eq2.ensures)
 
 pub returns : goal.returns
 returns c =

@@ -1,4 +1,3 @@
-use borrow.Author.Rules.{rules}
 use Rattle.visits.proofs.Settling.{width_is, past_is}
 use Rattle.visits.proofs.past.Goals as goal
 

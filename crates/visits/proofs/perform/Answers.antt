@@ -1,4 +1,3 @@
-use borrow.Author.Rules.{rules}
 use Rattle.visits.proofs.Performing.{no_field, past_section}
 use Rattle.visits.proofs.perform.Goals as goal
 

@@ -1,4 +1,3 @@
-use borrow.Author.Rules.{rules}
 use Rattle.visits.proofs.Running.{passed_over, rejects, goes}
 use Rattle.visits.proofs.plain.Goals as goal
 

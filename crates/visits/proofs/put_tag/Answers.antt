@@ -15,14 +15,14 @@ returns-then-tags-from c =
 pub returns-then-tags-from-2 : goal.returns-then-tags-from-2
 returns-then-tags-from-2 c =
     nothing_due most_printed (TagOf c.args.tags.now c.args.t c.args.ending) (record { write = c.args.write; lent = c.args.out.now; at = c.args.at })
-    (λ w u. absurd (omega (arith, c.if-tags-from-2.true, c.wide-n.ensures.0, record_inside c.args.tags.now c.args.t u.0 u.1, name_length c.args.tags.now c.args.t u.0 u.1)))
+    (λ w u. absurd (omega (arith, c.if-tags-from-2.true, c.from-n.ensures, record_inside c.args.tags.now c.args.t u.0 u.1, name_length c.args.tags.now c.args.t u.0 u.1)))
 
 pub returns-then-ending : goal.returns-then-ending
 returns-then-ending c =
-    let m = c.wide-n.ensures in
-    tag_put c.args.tags.now c.args.t c.args.ending true c.if-ending.true _ _ _ (record { write = c.args.write; lent = c.args.out.now; at = c.args.at }) _ _ m.0 m.1 refl refl c.put_end.ensures
+    let m = c.from-n.ensures in
+    tag_put c.args.tags.now c.args.t c.args.ending true c.if-ending.true _ _ _ (record { write = c.args.write; lent = c.args.out.now; at = c.args.at }) _ _ m (search rules) refl refl c.put_end.ensures
 
 pub returns : goal.returns
 returns c =
-    let m = c.wide-n.ensures in
-    tag_put c.args.tags.now c.args.t c.args.ending false c.if-ending.false _ _ _ (record { write = c.args.write; lent = c.args.out.now; at = c.args.at }) _ _ m.0 m.1 refl refl c.put_start.ensures
+    let m = c.from-n.ensures in
+    tag_put c.args.tags.now c.args.t c.args.ending false c.if-ending.false _ _ _ (record { write = c.args.write; lent = c.args.out.now; at = c.args.at }) _ _ m (search rules) refl refl c.put_start.ensures

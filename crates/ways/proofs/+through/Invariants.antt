@@ -1,5 +1,3 @@
-use native.Mathlib.Omega.{arith}
-use borrow.Author.Rules.{rules}
 use Rattle.ways.proofs.+through.Given as goal
 
 -- `through` calls itself on the parts, the nodes falling; each return is a law about a node's way from its parts'.

@@ -1,4 +1,3 @@
-use borrow.Author.Rules.{rules}
 use Rattle.ways.proofs.Atoms.{can_nonterminal, can_character}
 use Rattle.ways.proofs.atom_can.Goals as goal
 

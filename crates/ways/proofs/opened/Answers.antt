@@ -1,4 +1,3 @@
-use borrow.Author.Rules.{rules}
 use native.Mathlib.Omega.{arith}
 use Rattle.ways.proofs.Holds.{bracketed}
 use Rattle.ways.proofs.opened.Goals as goal
@@ -9,4 +8,4 @@ pub shape_of-line : goal.shape_of-line
 shape_of-line c = omega (arith, c.push.ensures.kept.long)
 
 pub returns : goal.returns
-returns c = bracketed _ _ _ _ _ (omega arith) c.push.ensures
+returns c = bracketed _ _ _ _ _ _ _ (omega arith) c.push.ensures

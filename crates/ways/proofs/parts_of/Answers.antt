@@ -1,6 +1,5 @@
 use mathlib.Core.Path.{refl}
 use native.Mathlib.Omega.{arith}
-use borrow.Author.Rules.{rules}
 use Rattle.ways.proofs.Spots.{first_tree, passed_by, parts_are}
 use Rattle.ways.proofs.parts_of.Goals as goal
 

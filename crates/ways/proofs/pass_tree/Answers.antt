@@ -1,6 +1,5 @@
 use borrow.Author.Rules.{rules}
 use mathlib.Core.Path.{refl}
-use Prim.Native.Nat.{◌-◌}
 use native.Mathlib.Omega.{arith}
 use Rattle.ways.proofs.Passes.{all_left, none_left, one_less}
 use Rattle.ways.proofs.pass_tree.Goals as goal

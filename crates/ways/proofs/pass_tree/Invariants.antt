@@ -1,6 +1,4 @@
-use borrow.Author.Rules.{rules}
 use Prim.Native.Nat.{◌-◌}
-use native.Mathlib.Omega.{arith}
 use Rattle.layout.specs.Layout.{node_count}
 use Rattle.ways.proofs.Passes.{Left}
 use Rattle.ways.proofs.pass_tree.Given as goal

@@ -5,12 +5,6 @@ use borrow.Author.Rules.{rules}
 use Rattle.whereabouts.proofs.say_open.Goals as goal
 
 -- Without a defect the sheet is laid out, and its productions' nodes are its nodes.
-pub defect-requires : goal.defect-requires
-defect-requires c = search rules
-
-pub returns-then-defect-gt0 : goal.returns-then-defect-gt0
-returns-then-defect-gt0 c = search rules
-
 pub layout_of-l-requires : goal.layout_of-l-requires
 layout_of-l-requires c = (no_defect c.defect.ensures (omega arith)).size.least
 
@@ -18,6 +12,3 @@ pub say_around-requires : goal.say_around-requires
 say_around-requires c =
     let w = no_defect c.defect.ensures (omega arith) in
     record { laid_out = laid_out c.layout_of-l.ensures w.size w.sections; runs_inside = runs_inside _ w.productions }
-
-pub returns : goal.returns
-returns c = search rules

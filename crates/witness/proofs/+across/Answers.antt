@@ -4,23 +4,11 @@ use Rattle.ways.proofs.Spots.{five, part_in}
 use Rattle.witness.proofs.Walks.{across_empty, across_leaf, across_star, across_cat, across_alt}
 use Rattle.witness.proofs.+across.Goals as goal
 
-pub kind_of-kind-requires : goal.kind_of-kind-requires
-kind_of-kind-requires t c = search rules
-
-pub nothing-requires : goal.nothing-requires
-nothing-requires t c = search rules
-
 pub returns-then-kind-gt5 : goal.returns-then-kind-gt5
 returns-then-kind-gt5 t c = across_empty _ _ _ c.kind_of-kind.ensures.is c.requires.spot_in c.if-kind-gt5.true _ _ _ c.nothing.ensures
 
-pub nothing-requires-then-kind-lt3 : goal.nothing-requires-then-kind-lt3
-nothing-requires-then-kind-lt3 t c = search rules
-
 pub returns-then-kind-lt3 : goal.returns-then-kind-lt3
 returns-then-kind-lt3 t c = across_leaf _ _ _ c.kind_of-kind.ensures.is c.requires.spot_in c.if-kind-lt3.true _ _ _ c.nothing-then-kind-lt3.ensures
-
-pub part-only-requires : goal.part-only-requires
-part-only-requires t c = search rules
 
 pub across-f-requires : goal.across-f-requires
 across-f-requires t c =
@@ -36,15 +24,6 @@ through-h-requires t c = record { laid_out = c.requires.laid_out; spot_in = part
 
 pub into-n-requires : goal.into-n-requires
 into-n-requires t c = record { laid_out = c.requires.laid_out; spot_in = part_in _ _ _ c.kind_of-kind.ensures.is _ c.part-only.ensures (five c.if-kind-gt5.false c.if-kind-gt4.true) c.requires.spot_in }
-
-pub turned-turns-requires : goal.turned-turns-requires
-turned-turns-requires t c = search rules
-
-pub both-joint-requires : goal.both-joint-requires
-both-joint-requires t c = search rules
-
-pub either-requires : goal.either-requires
-either-requires t c = search rules
 
 pub returns-then-kind-gt4 : goal.returns-then-kind-gt4
 returns-then-kind-gt4 t c = across_star _ _ _ c.kind_of-kind.ensures.is c.requires.spot_in _ c.part-only.ensures (five c.if-kind-gt5.false c.if-kind-gt4.true) _ _ _ _ _ _ _ _ _ c.across-f.ensures c.out_of-o.ensures c.through-h.ensures c.into-n.ensures c.turned-turns.ensures c.both-joint.ensures c.either.ensures
@@ -68,20 +47,8 @@ out_of-o-requires-then-kind-eq3 t c = record { laid_out = c.requires.laid_out; s
 pub into-n-requires-then-kind-eq3 : goal.into-n-requires-then-kind-eq3
 into-n-requires-then-kind-eq3 t c = record { laid_out = c.requires.laid_out; spot_in = c.parts_of-two.ensures.second_in }
 
-pub both-joint-requires-then-kind-eq3 : goal.both-joint-requires-then-kind-eq3
-both-joint-requires-then-kind-eq3 t c = search rules
-
-pub either-any-requires : goal.either-any-requires
-either-any-requires t c = search rules
-
-pub either-requires-then-kind-eq3 : goal.either-requires-then-kind-eq3
-either-requires-then-kind-eq3 t c = search rules
-
 pub returns-then-kind-eq3 : goal.returns-then-kind-eq3
 returns-then-kind-eq3 t c = across_cat _ _ _ c.kind_of-kind.ensures.is c.requires.spot_in _ c.parts_of-two.ensures _ _ _ _ c.across-f-2.ensures c.across-g.ensures c.if-kind-eq3.true _ _ _ _ _ c.out_of-o-then-kind-eq3.ensures c.into-n-then-kind-eq3.ensures c.both-joint-then-kind-eq3.ensures c.either-any.ensures c.either-then-kind-eq3.ensures
-
-pub either-requires-2 : goal.either-requires-2
-either-requires-2 t c = search rules
 
 pub returns : goal.returns
 returns t c = across_alt _ _ _ c.kind_of-kind.ensures.is c.requires.spot_in _ c.parts_of-two.ensures _ _ _ _ c.across-f-2.ensures c.across-g.ensures c.if-kind-lt3.false c.if-kind-gt4.false c.if-kind-eq3.false _ c.either-2.ensures

@@ -4,32 +4,14 @@ use Rattle.ways.proofs.Spots.{five, part_in}
 use Rattle.witness.proofs.Walks.{into_empty, into_leaf, into_star, into_cat, into_alt}
 use Rattle.witness.proofs.+into.Goals as goal
 
-pub kind_of-kind-requires : goal.kind_of-kind-requires
-kind_of-kind-requires t c = search rules
-
-pub nothing-requires : goal.nothing-requires
-nothing-requires t c = search rules
-
 pub returns-then-kind-gt5 : goal.returns-then-kind-gt5
 returns-then-kind-gt5 t c = into_empty _ _ _ c.kind_of-kind.ensures.is c.requires.spot_in c.if-kind-gt5.true _ _ c.nothing.ensures
-
-pub argument_of-n-requires : goal.argument_of-n-requires
-argument_of-n-requires t c = search rules
-
-pub atom_can-can-requires : goal.atom_can-can-requires
-atom_can-can-requires t c = search rules
-
-pub when-here-requires : goal.when-here-requires
-when-here-requires t c = search rules
 
 pub opened-requires : goal.opened-requires
 opened-requires t c = omega (arith, c.requires.spot_in.few)
 
 pub returns-then-kind-lt3 : goal.returns-then-kind-lt3
 returns-then-kind-lt3 t c = into_leaf _ _ _ c.kind_of-kind.ensures.is c.requires.spot_in c.if-kind-lt3.true _ _ c.argument_of-n.ensures.is _ c.atom_can-can.ensures _ _ c.when-here.ensures c.opened.ensures
-
-pub part-only-requires : goal.part-only-requires
-part-only-requires t c = search rules
 
 pub through-f-requires : goal.through-f-requires
 through-f-requires t c = record { laid_out = c.requires.laid_out; spot_in = part_in _ _ _ c.kind_of-kind.ensures.is _ c.part-only.ensures (five c.if-kind-gt5.false c.if-kind-gt4.true) c.requires.spot_in }
@@ -39,9 +21,6 @@ into-g-requires t c =
     let spot = c.requires.spot_in in
     let p = c.part-only.ensures in
     (omega (arith, c.decreases, p.nodes_are, spot.any), (c.requires.laid_out, part_in _ _ _ c.kind_of-kind.ensures.is _ c.part-only.ensures (five c.if-kind-gt5.false c.if-kind-gt4.true) c.requires.spot_in))
-
-pub turned-turns-requires : goal.turned-turns-requires
-turned-turns-requires t c = search rules
 
 pub opened-requires-then-kind-gt4 : goal.opened-requires-then-kind-gt4
 opened-requires-then-kind-gt4 t c = omega (arith, c.requires.spot_in.few)
@@ -65,20 +44,11 @@ into-g-requires-2 t c =
 pub through-h-requires : goal.through-h-requires
 through-h-requires t c = record { laid_out = c.requires.laid_out; spot_in = c.parts_of-two.ensures.first_in }
 
-pub both-joint-requires : goal.both-joint-requires
-both-joint-requires t c = search rules
-
-pub either-any-requires : goal.either-any-requires
-either-any-requires t c = search rules
-
 pub opened-requires-then-kind-eq3 : goal.opened-requires-then-kind-eq3
 opened-requires-then-kind-eq3 t c = omega (arith, c.requires.spot_in.few)
 
 pub returns-then-kind-eq3 : goal.returns-then-kind-eq3
 returns-then-kind-eq3 t c = into_cat _ _ _ c.kind_of-kind.ensures.is c.requires.spot_in _ c.parts_of-two.ensures _ _ _ c.into-f.ensures c.into-g-2.ensures c.if-kind-eq3.true _ _ _ _ c.through-h.ensures c.both-joint.ensures c.either-any.ensures c.opened-then-kind-eq3.ensures
-
-pub either-any-requires-2 : goal.either-any-requires-2
-either-any-requires-2 t c = search rules
 
 pub opened-requires-2 : goal.opened-requires-2
 opened-requires-2 t c = omega (arith, c.requires.spot_in.few)

@@ -6,26 +6,14 @@ use Rattle.ways.proofs.Spots.{five, part_in}
 use Rattle.witness.proofs.Walks.{out_empty, out_leaf, out_star, out_cat, out_alt}
 use Rattle.witness.proofs.+out_of.Goals as goal
 
-pub kind_of-kind-requires : goal.kind_of-kind-requires
-kind_of-kind-requires t c = search rules
-
-pub nothing-requires : goal.nothing-requires
-nothing-requires t c = search rules
-
 pub returns-then-kind-gt5 : goal.returns-then-kind-gt5
 returns-then-kind-gt5 t c = out_empty _ _ _ c.kind_of-kind.ensures.is c.requires.spot_in c.if-kind-gt5.true _ _ c.nothing.ensures
-
-pub when-here-requires : goal.when-here-requires
-when-here-requires t c = search rules
 
 pub closed-requires : goal.closed-requires
 closed-requires t c = omega (arith, c.requires.spot_in.few)
 
 pub returns-then-kind-lt3 : goal.returns-then-kind-lt3
 returns-then-kind-lt3 t c = out_leaf _ _ _ c.kind_of-kind.ensures.is c.requires.spot_in c.if-kind-lt3.true _ _ (λ j e. ap (eqb c.args.p) e) _ _ c.when-here.ensures c.closed.ensures
-
-pub part-only-requires : goal.part-only-requires
-part-only-requires t c = search rules
 
 pub out_of-f-requires : goal.out_of-f-requires
 out_of-f-requires t c =
@@ -35,15 +23,6 @@ out_of-f-requires t c =
 
 pub through-h-requires : goal.through-h-requires
 through-h-requires t c = record { laid_out = c.requires.laid_out; spot_in = part_in _ _ _ c.kind_of-kind.ensures.is _ c.part-only.ensures (five c.if-kind-gt5.false c.if-kind-gt4.true) c.requires.spot_in }
-
-pub just_empty-empty-requires : goal.just_empty-empty-requires
-just_empty-empty-requires t c = search rules
-
-pub turned-turns-requires : goal.turned-turns-requires
-turned-turns-requires t c = search rules
-
-pub both-joint-requires : goal.both-joint-requires
-both-joint-requires t c = search rules
 
 pub closed-requires-then-kind-gt4 : goal.closed-requires-then-kind-gt4
 closed-requires-then-kind-gt4 t c = omega (arith, c.requires.spot_in.few)
@@ -67,20 +46,11 @@ out_of-g-requires t c =
 pub through-h-requires-then-kind-eq3 : goal.through-h-requires-then-kind-eq3
 through-h-requires-then-kind-eq3 t c = record { laid_out = c.requires.laid_out; spot_in = c.parts_of-two.ensures.second_in }
 
-pub both-joint-requires-then-kind-eq3 : goal.both-joint-requires-then-kind-eq3
-both-joint-requires-then-kind-eq3 t c = search rules
-
-pub either-any-requires : goal.either-any-requires
-either-any-requires t c = search rules
-
 pub closed-requires-then-kind-eq3 : goal.closed-requires-then-kind-eq3
 closed-requires-then-kind-eq3 t c = omega (arith, c.requires.spot_in.few)
 
 pub returns-then-kind-eq3 : goal.returns-then-kind-eq3
 returns-then-kind-eq3 t c = out_cat _ _ _ c.kind_of-kind.ensures.is c.requires.spot_in _ c.parts_of-two.ensures _ _ _ c.out_of-f-2.ensures c.out_of-g.ensures c.if-kind-eq3.true _ _ _ _ c.through-h-then-kind-eq3.ensures c.both-joint-then-kind-eq3.ensures c.either-any.ensures c.closed-then-kind-eq3.ensures
-
-pub either-any-requires-2 : goal.either-any-requires-2
-either-any-requires-2 t c = search rules
 
 pub closed-requires-2 : goal.closed-requires-2
 closed-requires-2 t c = omega (arith, c.requires.spot_in.few)

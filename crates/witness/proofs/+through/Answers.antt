@@ -4,12 +4,6 @@ use Rattle.ways.proofs.Spots.{five, part_in}
 use Rattle.witness.proofs.Walks.{through_empty, through_leaf, through_star, through_cat, through_alt}
 use Rattle.witness.proofs.+through.Goals as goal
 
-pub kind_of-kind-requires : goal.kind_of-kind-requires
-kind_of-kind-requires t c = search rules
-
-pub just_empty-empty-requires : goal.just_empty-empty-requires
-just_empty-empty-requires t c = search rules
-
 pub closed-shut-requires : goal.closed-shut-requires
 closed-shut-requires t c = omega (arith, c.requires.spot_in.few)
 
@@ -19,26 +13,14 @@ opened-requires t c = omega (arith, c.requires.spot_in.few)
 pub returns-then-kind-gt5 : goal.returns-then-kind-gt5
 returns-then-kind-gt5 t c = through_empty _ _ _ c.kind_of-kind.ensures.is c.requires.spot_in c.if-kind-gt5.true _ _ _ c.just_empty-empty.ensures c.closed-shut.ensures c.opened.ensures
 
-pub nothing-requires : goal.nothing-requires
-nothing-requires t c = search rules
-
 pub returns-then-kind-lt3 : goal.returns-then-kind-lt3
 returns-then-kind-lt3 t c = through_leaf _ _ _ c.kind_of-kind.ensures.is c.requires.spot_in c.if-kind-lt3.true _ c.nothing.ensures
-
-pub part-only-requires : goal.part-only-requires
-part-only-requires t c = search rules
 
 pub through-f-requires : goal.through-f-requires
 through-f-requires t c =
     let spot = c.requires.spot_in in
     let p = c.part-only.ensures in
     (omega (arith, c.decreases, p.nodes_are, spot.any), (c.requires.laid_out, part_in _ _ _ c.kind_of-kind.ensures.is _ p (five c.if-kind-gt5.false c.if-kind-gt4.true) spot))
-
-pub just_empty-empty-requires-then-kind-gt4 : goal.just_empty-empty-requires-then-kind-gt4
-just_empty-empty-requires-then-kind-gt4 t c = search rules
-
-pub turned-turns-requires : goal.turned-turns-requires
-turned-turns-requires t c = search rules
 
 pub closed-shut-requires-then-kind-gt4 : goal.closed-shut-requires-then-kind-gt4
 closed-shut-requires-then-kind-gt4 t c = omega (arith, c.requires.spot_in.few)
@@ -62,9 +44,6 @@ through-g-requires t c =
     let p = c.parts_of-two.ensures in
     (omega (arith, c.decreases, p.both), (c.requires.laid_out, p.second_in))
 
-pub both-joint-requires : goal.both-joint-requires
-both-joint-requires t c = search rules
-
 pub closed-shut-requires-then-kind-eq3 : goal.closed-shut-requires-then-kind-eq3
 closed-shut-requires-then-kind-eq3 t c = omega (arith, c.requires.spot_in.few)
 
@@ -73,9 +52,6 @@ opened-requires-then-kind-eq3 t c = omega (arith, c.requires.spot_in.few)
 
 pub returns-then-kind-eq3 : goal.returns-then-kind-eq3
 returns-then-kind-eq3 t c = through_cat _ _ _ c.kind_of-kind.ensures.is c.requires.spot_in _ c.parts_of-two.ensures _ _ c.through-f-2.ensures c.through-g.ensures c.if-kind-eq3.true _ _ _ c.both-joint.ensures c.closed-shut-then-kind-eq3.ensures c.opened-then-kind-eq3.ensures
-
-pub either-any-requires : goal.either-any-requires
-either-any-requires t c = search rules
 
 pub closed-shut-requires-2 : goal.closed-shut-requires-2
 closed-shut-requires-2 t c = omega (arith, c.requires.spot_in.few)

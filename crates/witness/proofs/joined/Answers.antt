@@ -18,9 +18,6 @@ pub returns-then-n-m : goal.returns-then-n-m
 returns-then-n-m c = joined_over _ _ c.if-n-m.true
 
 -- src/lib.rt:108:31
-pub slice_bounds-put_bytes-end : goal.slice_bounds-put_bytes-end
-slice_bounds-put_bytes-end c = search rules
-
 -- src/lib.rt:108:46
 pub slice_bounds-more-end : goal.slice_bounds-more-end
 slice_bounds-more-end c =

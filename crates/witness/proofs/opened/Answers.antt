@@ -6,21 +6,9 @@ use Rattle.witness.proofs.opened.Goals as goal
 -- `opened`: a bracket before each string.
 -- Assumes nothing.
 -- src/lib.rt:119:21
-pub overflow_mul-i : goal.overflow_mul-i
-overflow_mul-i c = search rules
-
 -- src/lib.rt:119:9
-pub bracket-c-requires : goal.bracket-c-requires
-bracket-c-requires c = search rules
-
 -- src/lib.rt:122:9
-pub joined-first-requires : goal.joined-first-requires
-joined-first-requires c = search rules
-
 -- src/lib.rt:123:9
-pub joined-second-requires : goal.joined-second-requires
-joined-second-requires c = search rules
-
 -- src/lib.rt:115:1
 pub returns : goal.returns
 returns c = opened_by _ _ _ _ c.bracket-c.ensures refl c.joined-first.ensures c.joined-second.ensures

@@ -14,9 +14,6 @@ pub returns-then-g-ne1 : goal.returns-then-g-ne1
 returns-then-g-ne1 c = turned_same _ _ c.if-g-ne1.true
 
 -- src/lib.rt:212:9
-pub joined-again-requires : goal.joined-again-requires
-joined-again-requires c = search rules
-
 -- src/lib.rt:201:1
 pub returns : goal.returns
 returns c = turned_again _ _ c.if-f-eq0.false (omega (arith, c.if-g-ne1.false)) _ c.joined-again.ensures

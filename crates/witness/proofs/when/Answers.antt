@@ -5,17 +5,11 @@ use Rattle.witness.proofs.when.Goals as goal
 -- `when`: the empty string, or none.
 -- Assumes nothing.
 -- src/lib.rt:76:9
-pub just_empty-requires : goal.just_empty-requires
-just_empty-requires c = search rules
-
 -- src/lib.rt:76:9
 pub returns-then-there : goal.returns-then-there
 returns-then-there c = when_there _ _ c.if-there.true c.just_empty.ensures
 
 -- src/lib.rt:78:5
-pub nothing-requires : goal.nothing-requires
-nothing-requires c = search rules
-
 -- src/lib.rt:72:1
 pub returns : goal.returns
 returns c = when_not _ _ c.if-there.false c.nothing.ensures

@@ -7,5 +7,5 @@ pub returns : goal.returns
 returns c = record {
   none_read = refl;
   walk = λ tb te sb se pb pe productions nodes p.
-      walk_first tb te sb se pb pe productions nodes c.args.text.now c.start-first.result c.fresh-d.result c.look-g.result p c.start-first.ensures c.fresh-d.ensures c.look-g.ensures;
+      walk_first tb te sb se pb pe productions nodes c.args.text.now c.start-first.result c.fresh.result c.look.result c.ahead_of.result p c.start-first.ensures c.fresh.ensures c.look.ensures c.ahead_of.ensures;
 }

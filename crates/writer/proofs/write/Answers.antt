@@ -15,46 +15,6 @@ at_first text tb te sb se pb pe productions nodes w b p = (b.walk tb te sb se pb
 pub loop-w-init : goal.loop-w-init
 loop-w-init c = at_first _ _ _ _ _ _ _ _ _ _ c.begin-w.ensures (record { tag_room = search rules; tag_places = search rules; string_room = search rules; string_places = search rules; program_room = search rules; program_places = search rules; production_room = search rules; node_room = search rules })
 
-pub slice_bounds-stride-end : goal.slice_bounds-stride-end
-slice_bounds-stride-end c =
-    let h = c.loop-w.invariant.1.0.tag_room in
-    search (h, rules)
-
-pub slice_bounds-stride-end-in-loop-w : goal.slice_bounds-stride-end-in-loop-w
-slice_bounds-stride-end-in-loop-w c =
-    let h = c.loop-w.invariant.1.0.tag_places in
-    search (h, rules)
-
-pub slice_bounds-stride-end-in-loop-w-2 : goal.slice_bounds-stride-end-in-loop-w-2
-slice_bounds-stride-end-in-loop-w-2 c =
-    let h = c.loop-w.invariant.1.0.string_room in
-    search (h, rules)
-
-pub slice_bounds-stride-end-in-loop-w-3 : goal.slice_bounds-stride-end-in-loop-w-3
-slice_bounds-stride-end-in-loop-w-3 c =
-    let h = c.loop-w.invariant.1.0.string_places in
-    search (h, rules)
-
-pub slice_bounds-stride-end-in-loop-w-4 : goal.slice_bounds-stride-end-in-loop-w-4
-slice_bounds-stride-end-in-loop-w-4 c =
-    let h = c.loop-w.invariant.1.0.program_room in
-    search (h, rules)
-
-pub slice_bounds-stride-end-in-loop-w-5 : goal.slice_bounds-stride-end-in-loop-w-5
-slice_bounds-stride-end-in-loop-w-5 c =
-    let h = c.loop-w.invariant.1.0.program_places in
-    search (h, rules)
-
-pub slice_bounds-stride-end-in-loop-w-6 : goal.slice_bounds-stride-end-in-loop-w-6
-slice_bounds-stride-end-in-loop-w-6 c =
-    let h = c.loop-w.invariant.1.0.production_room in
-    search (h, rules)
-
-pub slice_bounds-stride-end-in-loop-w-7 : goal.slice_bounds-stride-end-in-loop-w-7
-slice_bounds-stride-end-in-loop-w-7 c =
-    let h = c.loop-w.invariant.1.0.node_room in
-    search (h, rules)
-
 pub slice_bounds-settle-end : goal.slice_bounds-settle-end
 slice_bounds-settle-end c =
     let h = c.loop-w.invariant.1.0.tag_room in
@@ -96,7 +56,7 @@ slice_bounds-settle-end-8 c =
     search (h, rules)
 
 pub stride-w-requires : goal.stride-w-requires
-stride-w-requires c = (c.loop-w-test.true, c.loop-w.invariant.0)
+stride-w-requires c = (c.in-Token.is, c.loop-w.invariant.0)
 
 pub loop-w-smaller : goal.loop-w-smaller
 loop-w-smaller c =
@@ -109,7 +69,7 @@ loop-w-preserved c =
     (h.walk, (h.places, h.inside))
 
 pub settle-requires : goal.settle-requires
-settle-requires c = (c.loop-w-test.false, c.loop-w.invariant.0)
+settle-requires c = (c.in_default.not-Token, c.loop-w.invariant.0)
 
 pub returns : goal.returns
 returns c = c.settle.ensures

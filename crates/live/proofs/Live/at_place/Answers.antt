@@ -3,9 +3,6 @@ use borrow.Author.Rules.{rules}
 use Rattle.live.proofs.Live.at_place.Goals as goal
 
 -- src/lib.rt:98:9
-pub at-next-requires : goal.at-next-requires
-at-next-requires c = search rules
-
 -- src/lib.rt:93:5
 pub returns : goal.returns
 returns c = rw c.at-next.ensures

@@ -8,28 +8,13 @@ pub returns-then-d-eq0 : goal.returns-then-d-eq0
 returns-then-d-eq0 c = pop_none c.args.base c.args.self c.args.stack.now c.if-d-eq0.true
 
 -- src/lib.rt:59:22
-pub overflow_sub-next : goal.overflow_sub-next
-overflow_sub-next c = search rules
-
 -- src/lib.rt:62:13
 pub returns-then-d-eq1 : goal.returns-then-d-eq1
 returns-then-d-eq1 c = pop_root c.args.base c.args.self c.args.stack.now c.if-d-eq1.true
 
 -- src/lib.rt:64:51
-pub overflow_sub-d : goal.overflow_sub-d
-overflow_sub-d c = search rules
-
 -- src/lib.rt:64:36
-pub overflow_mul-d : goal.overflow_mul-d
-overflow_mul-d c = search rules
-
 -- src/lib.rt:64:9
-pub overflow_add-base : goal.overflow_add-base
-overflow_add-base c = search rules
-
-pub used_at-next-requires : goal.used_at-next-requires
-used_at-next-requires c = search rules
-
 -- src/lib.rt:50:5
 pub returns : goal.returns
 returns c = pop_inner c.args.base c.args.self c.args.stack.now _ c.if-d-eq0.false c.if-d-eq1.false c.used_at-next.ensures

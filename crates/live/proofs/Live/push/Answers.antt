@@ -5,32 +5,14 @@ use Rattle.live.proofs.Stacks.{push_first, push_next}
 use Rattle.live.proofs.Live.push.Goals as goal
 
 -- src/lib.rt:41:22
-pub overflow_add-next : goal.overflow_add-next
-overflow_add-next c = search rules
-
 -- src/lib.rt:43:13
 pub returns-then-d-eq0 : goal.returns-then-d-eq0
 returns-then-d-eq0 c = push_first c.args.base c.args.self c.args.f c.args.stack.now c.requires.depth_lt_most c.if-d-eq0.true
 
 -- src/lib.rt:45:41
-pub overflow_sub-d : goal.overflow_sub-d
-overflow_sub-d c = search rules
-
 -- src/lib.rt:45:26
-pub overflow_mul-d : goal.overflow_mul-d
-overflow_mul-d c = search rules
-
 -- src/lib.rt:45:9
-pub overflow_add-base : goal.overflow_add-base
-overflow_add-base c = search rules
-
-pub put_used-requires : goal.put_used-requires
-put_used-requires c = search rules
-
 -- src/lib.rt:32:5
-pub shape_of-stack : goal.shape_of-stack
-shape_of-stack c = search rules
-
 -- src/lib.rt:32:5
 pub returns : goal.returns
 returns c =

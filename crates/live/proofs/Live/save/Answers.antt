@@ -3,9 +3,6 @@ use borrow.Author.Rules.{rules}
 use Rattle.live.proofs.Live.save.Goals as goal
 
 -- src/lib.rt:74:9
-pub keep-next-requires : goal.keep-next-requires
-keep-next-requires c = search rules
-
 -- src/lib.rt:69:5
 pub returns : goal.returns
 returns c = rw c.keep-next.ensures

@@ -18,8 +18,8 @@ overflow_add-n c = let l = c.loop-i in omega (arith, number_room l.i l.n (omega 
 pub loop-i-preserved : goal.loop-i-preserved
 loop-i-preserved c = let l = c.loop-i in
     let a = c.args in (
-      rw (c.wide.ensures, c.byte_at.ensures, l.invariant.0) (sym (number_more a.bytes.now a.at l.i (omega arith) (omega arith))),
-      number_below l.i l.n c.wide.result (omega arith) (omega arith) l.invariant.1 (omega arith),
+      rw (c.from.ensures, c.byte_at.ensures, l.invariant.0) (sym (number_more a.bytes.now a.at l.i (omega arith) (omega arith))),
+      number_below l.i l.n c.from.result (omega arith) (omega arith) l.invariant.1 (omega arith),
     )
 
 pub returns : goal.returns

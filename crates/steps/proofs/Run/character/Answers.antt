@@ -4,7 +4,6 @@ use Rattle.steps.proofs.Starts.{after_root}
 use Rattle.steps.proofs.Letters.{char_before}
 use Rattle.steps.specs.declared.Stepped.{Stepped}
 use Rattle.steps.specs.Seen.{whole}
-use borrow.Author.Rules.{rules}
 use Rattle.steps.proofs.Run.character.Goals as goal
 
 -- Outside no character is allowed; inside an element by its expression.

@@ -1,4 +1,3 @@
-use borrow.Author.Tests.{not-true, not-false}
 use mathlib.Core.Path.{◌∙◌, ap, refl, sym}
 use native.Mathlib.Omega.{arith}
 use Rattle.steps.proofs.Tops.{follows, well, runs_in, top_inside, top_few, top_way, place_below}
@@ -10,43 +9,42 @@ use Rattle.steps.specs.Seen.{whole}
 use mathlib.Core.Path.{◌≡◌}
 use lib.ListN.{length, take}
 use lib.Seq.{length-take-le}
-use borrow.Author.Rules.{rules}
 use Rattle.steps.proofs.Run.character_inside.Goals as goal
 
 -- Inside an element: no way to a character, a visit that rejects; else the character is read.
 -- Assumes nothing.
-pub find_way-w-requires : goal.find_way-w-requires
-find_way-w-requires c =
+pub find_way-requires : goal.find_way-requires
+find_way-requires c =
     record { laid_out = c.requires.laid_out; runs_inside = runs_in c.requires.ready_at.ready; trees = (well c.requires.ready_at.ready).trees; follows_s = follows c.requires.ready_at.ready; q_lt_productions = top_inside c.requires.ready_at.ready c.requires.depth_nonzero (c.top-f.ensures ∙ sym (top_full c.args.self.live c.args.stack.now c.requires.depth_nonzero)) c.requires.laid_out; q_bound = top_few c.requires.ready_at.ready c.requires.depth_nonzero (c.top-f.ensures ∙ sym (top_full c.args.self.live c.args.stack.now c.requires.depth_nonzero)); most_brackets_in_bounds = omega arith }
 
-pub returns-then-not-w : goal.returns-then-not-w
-returns-then-not-w c =
-    char_no_way _ c.requires.depth_nonzero (top_way c.args.s.now (full c.args.self.live c.args.stack.now) (c.top-f.ensures ∙ sym (top_full c.args.self.live c.args.stack.now c.requires.depth_nonzero)) c.find_way-w.ensures.told) (ap (λ (y : Stepped). whole y c.args.stack.now) c.refuse.ensures) refl (not-true _ c.if-not-w.true)
+pub returns-in_default : goal.returns-in_default
+returns-in_default c =
+    char_no_way _ c.requires.depth_nonzero (top_way c.args.s.now (full c.args.self.live c.args.stack.now) (c.top-f.ensures ∙ sym (top_full c.args.self.live c.args.stack.now c.requires.depth_nonzero)) c.in_default.ensures.told) (ap (λ (y : Stepped). whole y c.args.stack.now) c.refuse.ensures) refl
 
 pub slice_bounds-line-end : goal.slice_bounds-line-end
 slice_bounds-line-end c =
-    omega (arith, c.find_way-w.ensures.few)
+    omega (arith, c.in-Some.ensures.few)
 
 pub slice_bounds-follow-end : goal.slice_bounds-follow-end
 slice_bounds-follow-end c =
-    let long : length (take c.find_way-w.result.line.length c.find_way-w.new.line) ≡ c.find_way-w.result.line.length =
-    length-take-le c.find_way-w.result.line.length c.find_way-w.new.line (omega (arith, c.find_way-w.ensures.few, c.find_way-w.ensures.long)) in
+    let long : length (take c.in-Some.w.length c.find_way.new.line) ≡ c.in-Some.w.length =
+    length-take-le c.in-Some.w.length c.find_way.new.line (omega (arith, c.in-Some.ensures.few, c.in-Some.ensures.long)) in
     sym long
 
-pub follow-led-requires : goal.follow-led-requires
-follow-led-requires c =
-    let long : length (take c.find_way-w.result.line.length c.find_way-w.new.line) ≡ c.find_way-w.result.line.length =
-    length-take-le c.find_way-w.result.line.length c.find_way-w.new.line (omega (arith, c.find_way-w.ensures.few, c.find_way-w.ensures.long)) in
-    record { laid_out = c.requires.laid_out; ready_at = c.requires.ready_at; depth_nonzero = c.requires.depth_nonzero; place_bound = place_below c.requires.ready_at.ready c.requires.depth_nonzero (top_way c.args.s.now (full c.args.self.live c.args.stack.now) (c.top-f.ensures ∙ sym (top_full c.args.self.live c.args.stack.now c.requires.depth_nonzero)) c.find_way-w.ensures.told) (not-false _ c.if-not-w.false); line_len_bound = omega (arith, long, c.find_way-w.ensures.few); at_bound = c.requires.at_bound; count_bound = c.requires.count_bound }
+pub follow-requires : goal.follow-requires
+follow-requires c =
+    let long : length (take c.in-Some.w.length c.find_way.new.line) ≡ c.in-Some.w.length =
+    length-take-le c.in-Some.w.length c.find_way.new.line (omega (arith, c.in-Some.ensures.few, c.in-Some.ensures.long)) in
+    record { laid_out = c.requires.laid_out; ready_at = c.requires.ready_at; depth_nonzero = c.requires.depth_nonzero; place_bound = place_below c.requires.ready_at.ready c.requires.depth_nonzero (top_way c.args.s.now (full c.args.self.live c.args.stack.now) (c.top-f.ensures ∙ sym (top_full c.args.self.live c.args.stack.now c.requires.depth_nonzero)) c.in-Some.ensures.told); line_len_bound = omega (arith, long, c.in-Some.ensures.few); at_bound = c.requires.at_bound; count_bound = c.requires.count_bound }
 
-pub returns-then-not-led : goal.returns-then-not-led
-returns-then-not-led c =
-    char_rejected _ c.requires.depth_nonzero (top_way c.args.s.now (full c.args.self.live c.args.stack.now) (c.top-f.ensures ∙ sym (top_full c.args.self.live c.args.stack.now c.requires.depth_nonzero)) c.find_way-w.ensures.told) (not-false _ c.if-not-w.false) c.follow-led.ensures refl (not-true _ c.if-not-led.true) (ap (λ (y : Stepped). whole y c.args.stack.now) c.answer.ensures)
+pub returns-in_default-follow : goal.returns-in_default-follow
+returns-in_default-follow c =
+    char_rejected _ c.requires.depth_nonzero (top_way c.args.s.now (full c.args.self.live c.args.stack.now) (c.top-f.ensures ∙ sym (top_full c.args.self.live c.args.stack.now c.requires.depth_nonzero)) c.in-Some.ensures.told) (rw c.in_default-follow.is at c.follow.ensures) refl (ap (λ (y : Stepped). whole y c.args.stack.now) c.refuse-in_default-follow.ensures)
 
 pub read_character-read-requires : goal.read_character-read-requires
 read_character-read-requires c =
-    record { at_bound = omega (arith, c.requires.at_bound, c.follow-led.ensures.reach); char = c.requires.char }
+    record { at_bound = omega (arith, c.requires.at_bound, (rw c.in-Some-follow.is at c.follow.ensures).reach); char = c.requires.char }
 
 pub returns : goal.returns
 returns c =
-    char_done _ c.requires.depth_nonzero (top_way c.args.s.now (full c.args.self.live c.args.stack.now) (c.top-f.ensures ∙ sym (top_full c.args.self.live c.args.stack.now c.requires.depth_nonzero)) c.find_way-w.ensures.told) (not-false _ c.if-not-w.false) c.follow-led.ensures (not-false _ c.if-not-led.false) _ (c.read_character-read.ensures c.args.stack.now) (ap (λ (y : Stepped). whole y c.args.stack.now) c.answer-2.ensures)
+    char_done _ c.requires.depth_nonzero (top_way c.args.s.now (full c.args.self.live c.args.stack.now) (c.top-f.ensures ∙ sym (top_full c.args.self.live c.args.stack.now c.requires.depth_nonzero)) c.in-Some.ensures.told) (rw c.in-Some-follow.is at c.follow.ensures) _ (c.read_character-read.ensures c.args.stack.now) (ap (λ (y : Stepped). whole y c.args.stack.now) c.answer.ensures)

@@ -1,6 +1,5 @@
 use native.Mathlib.Omega.{arith}
 use Rattle.steps.proofs.Tokens.{ready_on, empty_stopped, empty_ended}
-use borrow.Author.Rules.{rules}
 use Rattle.steps.proofs.Run.empty.Goals as goal
 
 -- The start is refused, or the end sets out from where the start came to.

@@ -4,7 +4,6 @@ use Rattle.steps.proofs.Starts.{after_root}
 use Rattle.steps.proofs.Ends.{end_before}
 use Rattle.steps.specs.declared.Stepped.{Stepped}
 use Rattle.steps.specs.Seen.{whole}
-use borrow.Author.Rules.{rules}
 use Rattle.steps.proofs.Run.end.Goals as goal
 
 -- Outside nothing can end; inside an element it is that one's end.

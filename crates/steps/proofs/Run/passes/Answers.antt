@@ -4,7 +4,6 @@ use Rattle.steps.proofs.Tokens.{passes_outside, passes_inside}
 use mathlib.Core.Path.{sym, ◌∙◌}
 use Rattle.live.specs.Live.{full}
 use Rattle.live.proofs.Stacks.{top_full}
-use borrow.Author.Rules.{rules}
 use Rattle.steps.proofs.Run.passes.Goals as goal
 
 -- Outside white space passes; inside an element by its expression.

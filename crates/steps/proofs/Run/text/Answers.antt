@@ -5,7 +5,6 @@ use Rattle.steps.specs.Parts.{PassesAs}
 use Rattle.steps.proofs.Tokens.{not_blank, blank_passes, blank_read}
 use Rattle.steps.specs.declared.Stepped.{Stepped}
 use Rattle.steps.specs.Seen.{whole}
-use borrow.Author.Rules.{rules}
 use Rattle.steps.proofs.Run.text.Goals as goal
 
 -- By whether the character is white space, and whether that passes here.

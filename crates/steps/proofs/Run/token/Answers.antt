@@ -2,7 +2,6 @@ use mathlib.Core.Path.{refl, subst}
 use native.Mathlib.Omega.{arith}
 use Rattle.steps.specs.Taken.{EventIn}
 use Rattle.steps.proofs.Tokens.{start_token, end_token, empty_as, text_as, as_read, cut_name}
-use borrow.Author.Rules.{rules}
 use Rattle.steps.proofs.Run.token.Goals as goal
 
 -- By the kind of the token; a tag is looked up by its name.

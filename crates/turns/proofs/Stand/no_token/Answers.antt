@@ -1,4 +1,3 @@
-use borrow.Author.Rules.{rules}
 use mathlib.Core.Path.{refl}
 use Rattle.turns.specs.Turned.{stands, breaks}
 use Rattle.turns.proofs.Stand.no_token.Goals as goal

@@ -1,4 +1,3 @@
-use borrow.Author.Rules.{rules}
 use Rattle.turns.proofs.Laws.{goes_as}
 use Rattle.turns.specs.Turned.{refused, passes}
 use Rattle.turns.proofs.Stand.other_token.Goals as goal

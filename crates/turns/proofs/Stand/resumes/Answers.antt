@@ -1,4 +1,3 @@
-use borrow.Author.Rules.{rules}
 use native.Mathlib.Omega.{arith}
 use Rattle.turns.proofs.Laws.{goes_as, told_no, told_yes, entry_at}
 use Rattle.turns.specs.Turned.{no_entry_left, resumed}

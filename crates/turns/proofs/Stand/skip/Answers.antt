@@ -1,4 +1,3 @@
-use borrow.Author.Rules.{rules}
 use native.Mathlib.Omega.{arith}
 use Rattle.turns.proofs.Laws.{skip_ends, inside_part}
 use Rattle.turns.proofs.Stand.skip.Goals as goal

@@ -5,21 +5,9 @@ use Rattle.words.proofs.expression.say_expression.Goals as goal
 
 -- The production's nodes are nodes of the sheet.
 -- src/expression.rt:105:9
-pub first_node_of-first-requires : goal.first_node_of-first-requires
-first_node_of-first-requires c = search rules
-
 -- src/expression.rt:106:9
-pub node_count_of-nodes-requires : goal.node_count_of-nodes-requires
-node_count_of-nodes-requires c = search rules
-
 -- src/expression.rt:108:9
-pub say-requires : goal.say-requires
-say-requires c = search rules
-
 -- src/expression.rt:109:9
-pub returns-then-nodes-eq0 : goal.returns-then-nodes-eq0
-returns-then-nodes-eq0 c = search rules
-
 -- src/expression.rt:111:5
 pub say_tree-requires : goal.say_tree-requires
 say_tree-requires c =
@@ -27,5 +15,3 @@ say_tree-requires c =
     record { laid_out = c.requires.laid_out; left_bound = omega (arith, e, c.first_node_of-first.ensures.is, c.node_count_of-nodes.ensures.is); atom_bound = omega arith }
 
 -- src/expression.rt:100:1
-pub returns : goal.returns
-returns c = search rules

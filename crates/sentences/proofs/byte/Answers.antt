@@ -1,8 +1,0 @@
-use borrow.Author.Rules.{rules}
-use mathlib.Core.Path.{sym}
-use lib.ListN.{get_or-eq_default}
-use Rattle.sentences.proofs.byte.Goals as goal
-
--- Past the end there is no byte, and getD answers its default.
-pub returns-else-i-s : goal.returns-else-i-s
-returns-else-i-s c = sym (get_or-eq_default c.args.s.now 0 c.if-i-s.false)
