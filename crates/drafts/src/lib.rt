@@ -233,8 +233,15 @@ pub fn step(d: Draft, kind: usize) -> Option<Draft>
 {
     let p = d.point;
     let m = paces::moves::move_of(p, kind);
-    let e = after_move(d, m)?;
-    if fits(e) { Some(e) } else { None }
+    // What was made is handed on as it is: it is large, and an Option made anew copies it once more.
+    let s = after_move(d, m);
+    let Some(e) = s else {
+        return None;
+    };
+    if fits(e) {
+        return s;
+    }
+    None
 }
 
 // What a point says besides: whether a program is being read there, whether for the second visit, whether a text may end there, and the point

@@ -124,7 +124,8 @@ impl<'a> Iterator for Names<'a> {
 
     ghost can_next = { λ s. s.at ≤ length s.text.now };
 
-    ghost next_gives = { λ old r new. (new.text.now ≡ old.text.now) × IfSome r (λ w. (w.from ≤ w.to) × (w.to ≤ length old.text.now)) };
+    // Each name stands behind the one before it, and the place only goes on.
+    ghost next_gives = { λ old r new. (new.text.now ≡ old.text.now) × (old.at ≤ new.at) × IfSome r (λ w. (old.at ≤ w.from) × (w.from ≤ w.to) × (w.to ≤ length old.text.now) × (new.at ≡ w.to)) };
 
     ghost remaining = { λ s. at_most (length s.text.now - s.at) };
 
@@ -189,12 +190,14 @@ pub(crate) fn is_same(text: &[u8], a: Word, b: Word) -> bool
     same_name(&text[first..end], &text[other_first..other_end])
 }
 
-// Of some names of a text, the first that is spelled like another; of elements that are declared alone, or of all.
+// Of some names of a text, the first that is spelled like another; of elements that are declared alone, or of all. It stands where these names do, and
+// none stands before the place from which they are read.
 fn alike(text: &[u8], names: Names<'_>, w: Word, own: bool) -> Option<Word>
     requires at_in_bounds { names.at ≤ length text.now }
     requires same_text { names.text.now ≡ text.now }
     requires from_le_to { w.from ≤ w.to }
     requires to_in_bounds { w.to ≤ length text.now }
+    ensures found { IfSome result (λ e. (names.entry.at ≤ e.from) × (e.from ≤ e.to) × (e.to ≤ length text.now)) }
 {
     for e in names {
         if (is_own(e) | !own) & is_same(text, e, w) {

@@ -35,7 +35,9 @@ fn within(r: Reader, kind: usize, second: bool) -> Option<Reader>
 {
     let d = r.draft;
     let s = r.script;
-    let next = s.step(kind, second)?;
+    let Some(next) = s.step(kind, second) else {
+        return None;
+    };
     Some(Reader {
         draft: d,
         script: next,
@@ -48,7 +50,9 @@ fn outside(r: Reader, kind: usize) -> Option<Reader>
     ensures { AnswerIs r kind result }
 {
     let d = r.draft;
-    let next = drafts::step(d, kind)?;
+    let Some(next) = drafts::step(d, kind) else {
+        return None;
+    };
     let s = scripts::Script::fresh();
     Some(Reader {
         draft: next,

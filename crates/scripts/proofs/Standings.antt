@@ -24,7 +24,7 @@ use Rattle.scripts.specs.declared.Stage.{Stage}
 use Rattle.scripts.specs.declared.Stage.TheVariants.{At, Assign, Operand, Item, Single, Equals, Other, Behind, Past}
 use Rattle.scripts.specs.declared.Script.{Script}
 use Rattle.std.specs.Prelude.{Option as Side, Some, None}
-use Rattle.scripts.specs.Scripts.{stage_of, layers_in, margins_in, outline_of, Standing, LayerRoom, MarginRoom, MarginsHeld, ScriptFirm, tested_of, Stepped, taken, refused}
+use Rattle.scripts.specs.Scripts.{stage_of, layers_in, margins_in, outline_of, Standing, LayerRoom, MarginRoom, MarginsHeld, ScriptFirm, answer_of, tested_of, Stepped, taken, refused}
 
 pub extent_under : {m n : ℕ} {e : outlines.Extent} → m ≤ n → ExtentUnder m e → ExtentUnder n e
 extent_under g h = record { few_bytes = omega arith; few_deep = omega arith }
@@ -135,6 +135,10 @@ pub few_measured : (s : Script) (e : Extent) → Standing s → extent_of e ≡ 
 few_measured s e h q = omega (arith, bytes_measured s e h q, h.within.short)
 
 -- the next script
+-- an answer under another name is what the step tells of it
+pub went : (v : Visit) (s : Script) (k : ℕ) (a b : Side Script) → a ≡ b → answer_of a ≡ step_outline v (outline_of s) k → answer_of b ≡ step_outline v (outline_of s) k
+went v s k a b e h = subst (λ x. answer_of x ≡ step_outline v (outline_of s) k) e h
+
 pub step_refused : (v : Visit) (s : Script) (k : ℕ) → none ≡ step_outline v (outline_of s) k → Stepped v s k None
 step_refused v s k q = refused (λ o h. none_some (q ∙ h.taken))
   where

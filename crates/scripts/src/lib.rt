@@ -622,7 +622,11 @@ impl Script {
         requires { Standing self }
         ensures { Stepped (which_visit second) self kind result }
     {
-        let next = self.go(kind, second)?;
+        // What was answered is handed on as it is: it is large, and an Option made anew copies it once more.
+        let t = self.go(kind, second);
+        let Some(next) = t else {
+            return None;
+        };
         let e = next.measure();
         if 255 < e.bytes {
             return None;
@@ -630,7 +634,7 @@ impl Script {
         if 8 < e.nested {
             return None;
         }
-        Some(next)
+        t
     }
 
     // Whether no list lies around that in which p stands.

@@ -28,18 +28,27 @@ fn at_token(x: &[u8], i: usize, r: rulings::Reader) -> Result<Token, Ruling>
     ensures { GlanceIs x.now r result }
 {
     let may = rulings::row(r);
+    // Returns, here and in `look`: a token holds a reader, and what a match comes to is cleared and copied once more.
     match lexemes::lex(&x[i..], may) {
         lexemes::Lexeme::Token(k, n, l) => {
-            let next = rulings::take(r, k).unwrap_or(r);
-            Ok(Token {
+            let Some(next) = rulings::take(r, k) else {
+                return Ok(Token {
+                    at: i,
+                    kind: k,
+                    number: n,
+                    long: l,
+                    reader: r,
+                });
+            };
+            return Ok(Token {
                 at: i,
                 kind: k,
                 number: n,
                 long: l,
                 reader: next,
-            })
+            });
         }
-        lexemes::Lexeme::Stuck(k) => Err(Err(i + k)),
+        lexemes::Lexeme::Stuck(k) => return Err(Err(i + k)),
     }
 }
 
@@ -49,14 +58,14 @@ pub fn look(x: &[u8], r: rulings::Reader) -> Result<Token, Ruling>
     ensures { GlanceIs x.now r result }
 {
     match gaps::skip(x) {
-        gaps::Skipped::To(i) => at_token(x, i, r),
+        gaps::Skipped::To(i) => return at_token(x, i, r),
         gaps::Skipped::End => {
             if rulings::may_end(r) {
                 return Err(Ok(()));
             }
-            Err(Err(x.len()))
+            return Err(Err(x.len()));
         }
-        gaps::Skipped::Bad(i) => Err(Err(i)),
+        gaps::Skipped::Bad(i) => return Err(Err(i)),
     }
 }
 

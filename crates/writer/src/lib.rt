@@ -35,9 +35,10 @@ struct Walk {
 fn ahead_of(g: Result<sights::Token, sights::Ruling>) -> Ahead
     ensures { result ≡ ahead_of g }
 {
+    // Returns: what a match comes to is cleared and copied once more, and a token is large.
     match g {
-        Ok(token) => Ahead::Token(token),
-        Err(told) => Ahead::End(told),
+        Ok(token) => return Ahead::Token(token),
+        Err(told) => return Ahead::End(told),
     }
 }
 

@@ -38,7 +38,12 @@ fn are_same(s: &[u8], a: usize, b: usize) -> bool
     requires a_bound { a < 1048576 }
     requires b_bound { b < 1048576 }
 {
-    s.get(a..a + WIDTH) == s.get(b..b + WIDTH)
+    for k in 0..WIDTH {
+        if byte(s, a + k) != byte(s, b + k) {
+            return false;
+        }
+    }
+    true
 }
 
 // Whether no tag before t has its record.

@@ -6,8 +6,8 @@ use Rattle.sights.proofs.look.Goals as goal
 pub returns-then-may_end : goal.returns-then-may_end
 returns-then-may_end c = search (seen_whole, skipped_as, rules)
 
-pub returns-else-may_end : goal.returns-else-may_end
-returns-else-may_end c = search (seen_early, skipped_as, rules)
+pub returns-in-End : goal.returns-in-End
+returns-in-End c = search (seen_early, skipped_as, rules)
 
 pub returns-in-Bad : goal.returns-in-Bad
 returns-in-Bad c = search (seen_comment, skipped_as, rules)
