@@ -59,6 +59,10 @@ module _ (Due : List (List ℕ) → Type 0) (bytes ends : List ℕ) (count : ℕ
   pub kept_as : (Other : List (List ℕ) → Type 0) (r : Option ℕ) (bytes_after ends_after : List ℕ) → ((m : List (List ℕ)) → Due m → Other m) → KeptAs Other bytes ends count r bytes_after ends_after → KeptAs Due bytes ends count r bytes_after ends_after
   kept_as Other r b e f K = record { same_bytes = K.same_bytes; same_ends = K.same_ends; rows = K.rows; right = λ m u l R. K.right m (f m u) l R }
 
+  -- what is said of an answer is said of what the answer is found to be
+  pub kept_is : (r found : Option ℕ) (b e : List ℕ) → r ≡ found → KeptAs Due bytes ends count r b e → KeptAs Due bytes ends count found b e
+  kept_is r found b e z K = subst (λ (v : Option ℕ). KeptAs Due bytes ends count v b e) z K
+
   module _ (First : List (List ℕ) → Type 0) (b e : List ℕ) where
     pub kept_stop : (r : Option ℕ) → r ≡ None → KeptAs First bytes ends count None b e → ((m : List (List ℕ)) → Due m → Parts First Any m) → KeptAs Due bytes ends count r b e
     kept_stop r z K f = subst (λ (v : Option ℕ). KeptAs Due bytes ends count v b e) (sym z) (record { same_bytes = K.same_bytes; same_ends = K.same_ends; rows = tt; right = go })

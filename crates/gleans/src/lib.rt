@@ -94,7 +94,11 @@ pub fn keep_list(
     if s[i] == 0 {
         return Some(count);
     }
-    let t = keep_statement(s, i, strings, bytes, ends, count)?;
+    // Not `?`: handed on as it is, the call at the end is compiled to a loop, and a long list takes no more stack than a short one.
+    let first = keep_statement(s, i, strings, bytes, ends, count);
+    let Some(t) = first else {
+        return first;
+    };
     let n = glances::past_statement(s, i);
     keep_list(s, n, strings, bytes, ends, t)
 }

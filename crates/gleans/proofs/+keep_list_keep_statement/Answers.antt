@@ -1,9 +1,10 @@
 use native.Mathlib.Omega.{arith}
+use Rattle.gleans.proofs.Stored.{kept_is}
 use Rattle.gleans.proofs.Laws.{list_cut, list_ends, list_stops, list_goes, if_stops, if_goes}
 use Rattle.gleans.proofs.+keep_list_keep_statement.Goals as goal
 
 pub keep_list-keep_list-requires : goal.keep_list-keep_list-requires
-keep_list-keep_list-requires t c = (omega (arith, c.decreases, c.requires.0, c.if-s-i.false, c.past_statement-n.ensures.low, c.past_statement-n.ensures.high), (c.past_statement-n.ensures.high, c.requires.1, c.in_ok-t.ensures.rows))
+keep_list-keep_list-requires t c = (omega (arith, c.decreases, c.requires.0, c.if-s-i.false, c.past_statement-n.ensures.low, c.past_statement-n.ensures.high), (c.past_statement-n.ensures.high, c.requires.1, (kept_is _ _ _ _ _ _ _ _ c.in-Some.is c.keep_statement-first.ensures).rows))
 
 pub keep_list-returns-then-s-i : goal.keep_list-returns-then-s-i
 keep_list-returns-then-s-i t c = list_cut c.args.bytes.now c.args.ends.now c.args.count c.requires.2 c.args.s.now c.args.strings.now c.args.i c.if-s-i.true
@@ -13,11 +14,11 @@ keep_list-returns-then-s-i-eq0 t c = list_ends c.args.bytes.now c.args.ends.now 
 
 pub keep_list-returns : goal.keep_list-returns
 keep_list-returns t c =
-    list_goes c.args.s.now c.args.strings.now c.args.i (omega (arith, c.if-s-i.false)) c.args.bytes.now c.args.ends.now c.args.count c.if-s-i-eq0.false _ _ _ c.in_ok-t.ensures _ c.past_statement-n.ensures _ _ _ c.keep_list.ensures
+    list_goes c.args.s.now c.args.strings.now c.args.i (omega (arith, c.if-s-i.false)) c.args.bytes.now c.args.ends.now c.args.count c.if-s-i-eq0.false _ _ _ (kept_is _ _ _ _ _ _ _ _ c.in-Some.is c.keep_statement-first.ensures) _ c.past_statement-n.ensures _ _ _ c.keep_list.ensures
 
-pub keep_list-returns-in_err-t : goal.keep_list-returns-in_err-t
-keep_list-returns-in_err-t t c =
-    list_stops c.args.s.now c.args.strings.now c.args.i (omega (arith, c.if-s-i.false)) c.args.bytes.now c.args.ends.now c.args.count c.if-s-i-eq0.false _ _ _ c.from_residual.ensures c.in_err-t.ensures
+pub keep_list-returns-in_default : goal.keep_list-returns-in_default
+keep_list-returns-in_default t c =
+    list_stops c.args.s.now c.args.strings.now c.args.i (omega (arith, c.if-s-i.false)) c.args.bytes.now c.args.ends.now c.args.count c.if-s-i-eq0.false _ _ _ c.in_default.is (kept_is _ _ _ _ _ _ _ _ c.in_default.is c.keep_statement-first.ensures)
 
 pub keep_statement-keep_list-requires-2 : goal.keep_statement-keep_list-requires-2
 keep_statement-keep_list-requires-2 t c =
